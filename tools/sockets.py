@@ -8,20 +8,23 @@ import sys
 import time
 
 ROOT = os.path.dirname(os.path.dirname(os.path.realpath(__file__)))
-PROGRAM = os.path.join(ROOT, "crates", "nettcp", "out", "nettcp")
+PROVED = os.path.join(ROOT, "crates", "nettcp", "out", "nettcp")
+PROGRAM = os.environ.get("NETTCP_PROGRAM", PROVED)
+# Whether that is what is tried, or a program without proofs, whose checks at run time make it slow.
+IS_PROVED = PROGRAM == PROVED
 STATICS = ["--static", os.path.join(ROOT, "samples", "mc-nbfs.csv")]
 SAMPLES = os.path.join(ROOT, "samples")
 VIA = "net.tcp://h/e"
 HOST = "127.0.0.1"
 # How long a run may take, and a peer that is waited for.
-SECONDS = 20
+SECONDS = 20 if IS_PROVED else 60
 # How often it is looked whether a server listens.
 MOMENT = 0.002
 
 
 def assert_built():
-    """Ends the script where the program isn't built of the sources as they are."""
-    if subprocess.run([os.path.join(ROOT, "tools", "prove"), "--built"]).returncode:
+    """Ends the script where it is to try the proved program, and the sources are newer."""
+    if IS_PROVED and subprocess.run([os.path.join(ROOT, "tools", "prove"), "--built"]).returncode:
         sys.exit("the program isn't built: tools/prove builds it")
 
 

@@ -1,25 +1,17 @@
 -- The plan for a request leads to its answer.
-use Rattle.std.proofs.Common.{◌≡◌, ◌∙◌, ℕ, List, [], Result, Ok, Err, ap, refl, subst, sym}
-use Rattle.std.specs.Prelude.{IfOk, IsTrue, OnOk, slice_get}
+use Rattle.std.proofs.Common.{◌≡◌, ℕ, List, [], IfOk, OnOk, IsTrue, slice_get, Ok, Err, Result, sym}
+use Rattle.std.proofs.Common.{refl, ap, ◌∙◌, subst}
 use Rattle.unit_streams.specs.declared.memory.Memory.{Memory}
 use Rattle.nbfx_values.specs.declared.content.Item.{Item}
-use Rattle.soap_envelope.specs.declared.refusals.SoapFault.{SoapFault}
-use Rattle.soap_envelope.specs.Body.{body_items}
-use Rattle.soap_envelope.specs.Children.{is_start}
-use Rattle.soap_envelope.specs.Fitting.{fitting}
-use Rattle.soap_envelope.specs.Making.{AreTexts}
-use Rattle.soap_envelope.specs.Parts.{root_scope}
-use Rattle.soap_envelope.specs.Seen.{BodyStands}
-use Rattle.soap_envelope.specs.View.{View, view}
-use Rattle.action_dispatch.specs.declared.answers.Answer.{Answer}
-use Rattle.action_dispatch.specs.declared.judging.Judged.{Judged}
-use Rattle.action_dispatch.specs.declared.judging.Judged.TheVariants.{Unanswered, Refused, Asked}
-use Rattle.action_dispatch.specs.declared.planning.Plan.{Plan}
-use Rattle.action_dispatch.specs.declared.planning.Plan.TheVariants.{Answered}
-use Rattle.action_dispatch.specs.Answers.{RelatesToTexts, Serves, answer_to, answered_by, asked}
-use Rattle.action_dispatch.specs.Answers.{judged, refusal_answer}
-use Rattle.action_dispatch.specs.Planning.{IsFor, Plans, answer_by_plan, planned, planned_of}
-use Rattle.action_dispatch.specs.Refusals.{refusal_of}
+use Rattle.soap_envelope.specs.{declared.refusals.SoapFault.SoapFault, Body.body_items}
+use Rattle.soap_envelope.specs.{Children.is_start, Fitting.fitting, Seen.BodyStands}
+use Rattle.soap_envelope.specs.{Making.AreTexts, Parts.root_scope, View.View, View.view}
+use Rattle.action_dispatch.specs.declared.{answers.Answer.Answer, judging.Judged.Judged}
+use Rattle.action_dispatch.specs.declared.judging.Judged.TheVariants.{Asked, Refused, Unanswered}
+use Rattle.action_dispatch.specs.declared.planning.Plan.{Plan, TheVariants.Answered}
+use Rattle.action_dispatch.specs.Answers.{answer_to, answered_by, asked, judged, refusal_answer}
+use Rattle.action_dispatch.specs.{Answers.RelatesToTexts, Answers.Serves, Refusals.refusal_of}
+use Rattle.action_dispatch.specs.Planning.{answer_by_plan, IsFor, planned, planned_of, Plans}
 
 module _ (quota : ℕ) (doc : List Item) where
   -- whatever becomes of it

@@ -1,9 +1,7 @@
 -- The blocks that are understood.
-use Rattle.std.proofs.Common.{◌≡◌, List, [], ◌∷◌, false, refl, inl, inr}
-use Rattle.std.specs.List.{list_any}
-use Rattle.std.proofs.lemmas.Bool.{cases_Bool}
-use Rattle.soap_envelope.specs.declared.blocks.Block.{Block}
-use Rattle.soap_envelope.specs.Qualified.{Name}
+use Rattle.std.proofs.Common.{◌≡◌, false, List, [], ◌∷◌, refl, inl, inr}
+use Rattle.std.{proofs.lemmas.Bool.cases_Bool, specs.List.list_any}
+use Rattle.soap_envelope.specs.{declared.blocks.Block.Block, Qualified.Name}
 use Rattle.soap_envelope.specs.Understanding.{is_foreign, not_understood}
 
 -- where none is foreign, no name is left

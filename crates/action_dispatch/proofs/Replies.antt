@@ -1,10 +1,8 @@
 -- Replies may stand in a Body.
-use Rattle.std.proofs.Common.{◌≡◌, ◌∷◌, [], ℕ, List, true}
-use Rattle.std.specs.Str.{is_utf8}
-use Rattle.nbfx_values.specs.declared.content.Item.TheVariants.{Close}
+use Rattle.std.proofs.Common.{◌≡◌, ℕ, true, List, [], ◌∷◌}
+use Rattle.{std.specs.Str.is_utf8, nbfx_values.specs.declared.content.Item.TheVariants.Close}
+use Rattle.nbfx_values.proofs.{OnLiterals.values_on_literals, Positions.stepped}
 use Rattle.nbfx_values.specs.declared.position.Position.TheVariants.{Within}
-use Rattle.nbfx_values.proofs.OnLiterals.{values_on_literals}
-use Rattle.nbfx_values.proofs.Positions.{stepped}
 use Rattle.soap_envelope.specs.Making.{IsContent, words}
 use Rattle.action_dispatch.specs.Services.{text_reply}
 

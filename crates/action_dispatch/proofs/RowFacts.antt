@@ -1,12 +1,10 @@
 -- What a row that was read says of the file.
-use Rattle.std.proofs.Common.{◌≡◌, ◌+◌, ◌∷◌, ℕ, List, Some, Result, Ok, Err, ap, refl}
+use Rattle.std.proofs.Common.{◌≡◌, ℕ, ◌+◌, List, ◌∷◌, Some, Ok, Err, Result, refl, ap}
+use Rattle.{csv_rows.proofs.FieldFacts.text_of-is, action_dispatch.specs.Actions.with_row}
 use Rattle.csv_rows.specs.Rows.{Row, text_of, two_of}
-use Rattle.csv_rows.proofs.FieldFacts.{text_of-is}
-use Rattle.action_dispatch.specs.declared.fault.ActionFault.{ActionFault}
+use Rattle.action_dispatch.specs.declared.fault.{ActionFault.ActionFault, ActionKind.ActionKind}
 use Rattle.action_dispatch.specs.declared.fault.ActionFault.TheVariants.{Bad, Memory}
-use Rattle.action_dispatch.specs.declared.fault.ActionKind.{ActionKind}
-use Rattle.action_dispatch.specs.Actions.{Explains, Fault, Texts, and_then, entry_of, texts_from}
-use Rattle.action_dispatch.specs.Actions.{with_row}
+use Rattle.action_dispatch.specs.Actions.{and_then, entry_of, Explains, Fault, Texts, texts_from}
 
 -- a row of two texts
 pub entry_of-read : (row : Row) (first second action text : List ℕ)

@@ -1,17 +1,12 @@
 -- The texts that a map holds.
-use Rattle.std.proofs.Common.{◌≡◌, ◌∙◌, ℕ, true, false, List, [], ◌∷◌, Ok, Err, String, Ordering}
-use Rattle.std.proofs.Common.{ap, refl, string_bytes}
-use Rattle.std.specs.Prelude.{is_some}
-use Rattle.std.specs.BTreeMap.{BTreeMap, get_by_text, insert_entry, is_at}
-use Rattle.std.specs.Cmp.Lexicographic.{slice_cmp}
-use Rattle.std.specs.Map.{lookup}
-use Rattle.std.specs.Ordering.{match_ordering, nat_cmp}
-use Rattle.std.specs.String.{string_cmp}
-use Rattle.std.specs.declared.cmp.Ordering.TheVariants.{Less, Equal, Greater}
-use Rattle.std.proofs.lemmas.Map.Text.{is_eq-slice_cmp}
-use Rattle.action_dispatch.specs.declared.fault.ActionKind.TheVariants as kind
-use Rattle.action_dispatch.specs.Actions.{Texts, text_for, with_entry}
+use Rattle.std.proofs.Common.{◌≡◌, ℕ, true, false, List, [], ◌∷◌, is_some, Ok, Err, string_bytes}
+use Rattle.std.proofs.Common.{String, string_cmp, nat_cmp, Ordering, Less, Equal, Greater, BTreeMap}
+use Rattle.std.proofs.{Common.refl, Common.ap, Common.◌∙◌, lemmas.Map.Text.is_eq-slice_cmp}
+use Rattle.std.specs.BTreeMap.{get_by_text, insert_entry, is_at}
+use Rattle.std.specs.{Cmp.Lexicographic.slice_cmp, Map.lookup, Ordering.match_ordering}
+use Rattle.action_dispatch.specs.Actions.{text_for, Texts, with_entry}
 use Rattle.action_dispatch.specs.Inside.{shown, texts_in}
+use Rattle.action_dispatch.specs.declared.fault.ActionKind.TheVariants as kind
 
 module _ {A : Type 0} where
   shown-choice : (o : Ordering) (a b c : List (String A × List ℕ))

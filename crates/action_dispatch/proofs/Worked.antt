@@ -1,19 +1,17 @@
 -- Worked cases: the answers to literal requests.
-use Rattle.std.proofs.Common.{◌≡◌, ℕ, List, [], ◌∷◌, ◌++◌, codes, map, refl}
+use Rattle.std.proofs.Common.{◌≡◌, ℕ, List, [], ◌∷◌, ◌++◌, map, codes, refl}
 use Rattle.nbfx_values.specs.declared.content.Item.{Item}
-use Rattle.nbfx_values.specs.declared.content.Item.TheVariants.{Start, Xmlns, Close}
+use Rattle.nbfx_values.specs.declared.content.Item.TheVariants.{Close, Start, Xmlns}
 use Rattle.soap_envelope.proofs.Documents.{acting, action, addressing_action, attribute, echo}
 use Rattle.soap_envelope.proofs.Documents.{enveloped, fault, hi, identified, message, related}
 use Rattle.soap_envelope.proofs.Documents.{reply, role, s, secured, soap_action, subcode, words}
 use Rattle.soap_envelope.proofs.OnLiterals.{envelopes_on_literals}
-use Rattle.action_dispatch.specs.declared.answers.Answer.{Answer}
-use Rattle.action_dispatch.specs.declared.answers.Answer.TheVariants.{Reply, Nothing}
-use Rattle.action_dispatch.specs.declared.service.Served.TheVariants as said
-use Rattle.action_dispatch.specs.Actions.{text_for}
-use Rattle.action_dispatch.specs.Answers.{Serves, answered}
-use Rattle.action_dispatch.specs.Refusals.{unfit_fault}
+use Rattle.action_dispatch.specs.{declared.answers.Answer.Answer, Actions.text_for}
+use Rattle.action_dispatch.specs.declared.answers.Answer.TheVariants.{Nothing, Reply}
+use Rattle.action_dispatch.specs.{Answers.answered, Answers.Serves, Refusals.unfit_fault}
 use Rattle.action_dispatch.specs.Services.{echoed, reply_with}
 use Rattle.action_dispatch.proofs.Requests.{reply_to, request}
+use Rattle.action_dispatch.specs.declared.service.Served.TheVariants as said
 
 abbrev Row : Type 0
 Row = List Item × Answer

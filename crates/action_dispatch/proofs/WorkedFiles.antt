@@ -1,9 +1,8 @@
 -- Worked cases: the texts of literal files.
-use Rattle.std.proofs.Common.{◌≡◌, ℕ, List, [], ◌∷◌, ◌++◌, codes, map, refl, Result, Ok, Err}
-use Rattle.csv_rows.specs.Rows.{rows_of}
-use Rattle.csv_rows.proofs.OnLiterals.{rows_on_literals}
-use Rattle.action_dispatch.specs.declared.fault.ActionKind.TheVariants as kind
+use Rattle.std.proofs.Common.{◌≡◌, ℕ, List, [], ◌∷◌, ◌++◌, map, Ok, Err, codes, Result, refl}
+use Rattle.csv_rows.{proofs.OnLiterals.rows_on_literals, specs.Rows.rows_of}
 use Rattle.action_dispatch.specs.Actions.{Fault, Texts, texts_of}
+use Rattle.action_dispatch.specs.declared.fault.ActionKind.TheVariants as kind
 
 -- files and their texts
 abbrev Read : Type 0

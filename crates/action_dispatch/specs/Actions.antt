@@ -1,16 +1,11 @@
 -- What a file of actions says: a text for each action.
-use Rattle.std.specs.Prelude.{◌≡◌, ⊤, ℕ, ◌+◌, ◌&&◌, if◌then◌else◌, Bool, true, false, List, [], ◌∷◌}
-use Rattle.std.specs.Prelude.{Option, Some, None, Result, Ok, Err, codes, is_some}
-use Rattle.std.specs.BTreeMap.{insert_entry}
-use Rattle.std.specs.Cmp.Lexicographic.{slice_cmp}
-use Rattle.std.specs.Map.{lookup}
-use Rattle.std.specs.Option.{option_map_or}
-use Rattle.std.specs.Ordering.{nat_cmp}
-use Rattle.std.specs.Str.{bytes_eq, is_utf8}
+use Rattle.std.specs.Prelude.{◌≡◌, ℕ, ◌+◌, Bool, true, false, ◌&&◌, List, [], ◌∷◌, is_some, ⊤}
+use Rattle.std.specs.Prelude.{if◌then◌else◌, Some, None, Ok, Err, codes, Option, Result, bytes_eq}
+use Rattle.std.specs.{BTreeMap.insert_entry, Cmp.Lexicographic.slice_cmp, Map.lookup, Str.is_utf8}
+use Rattle.std.specs.{Option.option_map_or, Ordering.nat_cmp}
 use Rattle.csv_rows.specs.Rows.{Row, two_of}
-use Rattle.action_dispatch.specs.declared.fault.ActionFault.{ActionFault}
+use Rattle.action_dispatch.specs.declared.fault.{ActionFault.ActionFault, ActionKind.ActionKind}
 use Rattle.action_dispatch.specs.declared.fault.ActionFault.TheVariants.{Bad, Memory}
-use Rattle.action_dispatch.specs.declared.fault.ActionKind.{ActionKind}
 use Rattle.action_dispatch.specs.declared.fault.ActionKind.TheVariants as kind
 
 -- an action and its text

@@ -1,30 +1,23 @@
 -- What a server answers a request with, by its service.
-use Rattle.std.specs.Prelude.{⊤, ℕ, List, [], ◌∷◌, Option, Some, None, Result, Ok, Err}
-use Rattle.std.specs.Prelude.{if◌then◌else◌, codes}
-use Rattle.std.specs.Str.{bytes_eq}
+use Rattle.std.specs.Prelude.{ℕ, List, [], ◌∷◌, if◌then◌else◌, Some, None, Ok, Err, codes, Option}
+use Rattle.std.specs.Prelude.{Result, bytes_eq, ⊤}
 use Rattle.nbfx_values.specs.declared.content.Item.{Item}
-use Rattle.soap_envelope.specs.Qualified.{Name}
-use Rattle.soap_envelope.specs.declared.refusals.SoapFault.{SoapFault}
-use Rattle.soap_envelope.specs.Fitting.{fitting}
+use Rattle.soap_envelope.specs.{declared.refusals.SoapFault.SoapFault, Qualified.Name}
+use Rattle.soap_envelope.specs.{Fitting.fitting, Understanding.not_understood, View.View, View.view}
 use Rattle.soap_envelope.specs.Making.{AreTexts, reply_items}
 use Rattle.soap_envelope.specs.Names.{addressing, anonymous_address, no_address, qualified_name}
-use Rattle.soap_envelope.specs.Understanding.{not_understood}
-use Rattle.soap_envelope.specs.View.{View, view}
-use Rattle.action_dispatch.specs.declared.answers.Answer.{Answer}
-use Rattle.action_dispatch.specs.declared.answers.Answer.TheVariants.{Reply, Nothing}
-use Rattle.action_dispatch.specs.declared.judging.Destination.{Destination}
-use Rattle.action_dispatch.specs.declared.judging.Destination.TheVariants.{Sender, Nobody}
-use Rattle.action_dispatch.specs.declared.judging.Destination.TheVariants.{Elsewhere}
-use Rattle.action_dispatch.specs.declared.judging.Judged.{Judged}
-use Rattle.action_dispatch.specs.declared.judging.Judged.TheVariants.{Unanswered, Refused, Asked}
-use Rattle.action_dispatch.specs.declared.refusals.Refusal.{Refusal}
-use Rattle.action_dispatch.specs.declared.refusals.Refusal.TheVariants.{NotUnderstood, NoAction}
-use Rattle.action_dispatch.specs.declared.refusals.Refusal.TheVariants.{OtherReplyAddress}
-use Rattle.action_dispatch.specs.declared.refusals.Refusal.TheVariants.{UnknownAction, ByService}
-use Rattle.action_dispatch.specs.declared.refusals.Refusal.TheVariants.{Unfit}
+use Rattle.action_dispatch.specs.declared.{answers.Answer.Answer, judging.Judged.Judged}
+use Rattle.action_dispatch.specs.declared.answers.Answer.TheVariants.{Nothing, Reply}
+use Rattle.action_dispatch.specs.declared.judging.Destination.{Destination, TheVariants.Sender}
+use Rattle.action_dispatch.specs.declared.judging.Destination.TheVariants.{Elsewhere, Nobody}
+use Rattle.action_dispatch.specs.declared.judging.Judged.TheVariants.{Asked, Refused, Unanswered}
+use Rattle.action_dispatch.specs.declared.refusals.Refusal.{Refusal, TheVariants.NotUnderstood}
+use Rattle.action_dispatch.specs.declared.refusals.Refusal.TheVariants.{ByService, NoAction}
+use Rattle.action_dispatch.specs.declared.refusals.Refusal.TheVariants.{OtherReplyAddress, Unfit}
+use Rattle.action_dispatch.specs.declared.refusals.Refusal.TheVariants.{UnknownAction}
 use Rattle.action_dispatch.specs.declared.service.Served.{Served}
-use Rattle.action_dispatch.specs.declared.service.Served.TheVariants as said
 use Rattle.action_dispatch.specs.Refusals.{fault_of, fitting as fitting_refusal, refusal_of}
+use Rattle.action_dispatch.specs.declared.service.Served.TheVariants as said
 
 -- a service, as a function of action and content of Body
 abbrev pub Serves : Type 0

@@ -1,7 +1,6 @@
 -- The texts that a table's map holds.
-use Rattle.std.specs.Prelude.{List, ℕ, String, map, string_bytes}
-use Rattle.std.specs.BTreeMap.{BTreeMap}
-use Rattle.action_dispatch.specs.Actions.{Texts}
+use Rattle.std.specs.Prelude.{ℕ, List, map, string_bytes, String}
+use Rattle.{std.specs.BTreeMap.BTreeMap, action_dispatch.specs.Actions.Texts}
 
 abbrev pub shown : {A : Type 0} → List (String A × List ℕ) → Texts
 shown entries = map (λ entry. (string_bytes entry.0, entry.1)) entries

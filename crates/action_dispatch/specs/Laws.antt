@@ -1,11 +1,10 @@
 -- What holds of answers by their definition alone.
-use Rattle.std.specs.Prelude.{◌≡◌, ℕ, List, Ok, true, false}
+use Rattle.std.specs.Prelude.{◌≡◌, ℕ, true, false, List, Ok}
 use Rattle.nbfx_values.specs.declared.content.Item.{Item}
-use Rattle.soap_envelope.specs.Fitting.{fits}
-use Rattle.soap_envelope.specs.View.{View, view}
+use Rattle.soap_envelope.specs.{Fitting.fits, View.View, View.view}
 use Rattle.action_dispatch.specs.declared.judging.Judged.TheVariants.{Asked}
 use Rattle.action_dispatch.specs.declared.refusals.Refusal.TheVariants.{Unfit}
-use Rattle.action_dispatch.specs.Answers.{Serves, answer_by, answered, judged, refusal_answer}
+use Rattle.action_dispatch.specs.Answers.{answer_by, answered, judged, refusal_answer, Serves}
 
 -- A request that is to be served, and whose content of Body fits the quota, is answered by what the
 -- service says to its action and that content.

@@ -1,21 +1,14 @@
 -- What is left to do for a request once it was judged, which needs no name from its document.
 use Rattle.std.specs.Prelude.{◌≡◌, ℕ, List, IsTrue, slice_get}
 use Rattle.nbfx_values.specs.declared.content.Item.{Item}
-use Rattle.soap_envelope.specs.Body.{body_items}
-use Rattle.soap_envelope.specs.Children.{is_start}
-use Rattle.soap_envelope.specs.Fitting.{fitting}
-use Rattle.soap_envelope.specs.Making.{AreTexts}
-use Rattle.soap_envelope.specs.Parts.{root_scope}
-use Rattle.soap_envelope.specs.View.{View}
-use Rattle.action_dispatch.specs.declared.answers.Answer.{Answer}
-use Rattle.action_dispatch.specs.declared.answers.Answer.TheVariants.{Nothing}
-use Rattle.action_dispatch.specs.declared.judging.Judged.{Judged}
-use Rattle.action_dispatch.specs.declared.judging.Judged.TheVariants.{Unanswered, Refused, Asked}
-use Rattle.action_dispatch.specs.declared.planning.Plan.{Plan}
+use Rattle.soap_envelope.specs.{Body.body_items, Children.is_start, Fitting.fitting, View.View}
+use Rattle.soap_envelope.specs.{Making.AreTexts, Parts.root_scope}
+use Rattle.action_dispatch.specs.declared.answers.Answer.{Answer, TheVariants.Nothing}
+use Rattle.action_dispatch.specs.declared.{judging.Judged.Judged, planning.Plan.Plan}
+use Rattle.action_dispatch.specs.declared.judging.Judged.TheVariants.{Asked, Refused, Unanswered}
 use Rattle.action_dispatch.specs.declared.planning.Plan.TheVariants.{Answered, Asks}
-use Rattle.action_dispatch.specs.Answers.{RelatesToTexts, Serves, answered, asked, judged}
-use Rattle.action_dispatch.specs.Answers.{refusal_answer}
-use Rattle.action_dispatch.specs.Refusals.{fitting as fitting_refusal}
+use Rattle.action_dispatch.specs.Answers.{answered, asked, judged, refusal_answer, RelatesToTexts}
+use Rattle.action_dispatch.specs.{Answers.Serves, Refusals.fitting as fitting_refusal}
 
 -- for a request that was judged, which has this identifier and this place of Body
 abbrev pub planned : ℕ → Judged → (relates : List Item) → (body_at : ℕ) → Plan

@@ -1,22 +1,18 @@
 -- The fault of each reason not to serve a request.
-use Rattle.std.specs.Prelude.{ℕ, List, [], codes, if◌then◌else◌}
+use Rattle.std.specs.Prelude.{ℕ, List, [], if◌then◌else◌, codes}
 use Rattle.nbfx_values.specs.declared.content.Item.{Item}
-use Rattle.soap_envelope.specs.Qualified.{Name}
-use Rattle.soap_envelope.specs.declared.refusals.SoapFault.{SoapFault}
+use Rattle.soap_envelope.specs.{declared.refusals.SoapFault.SoapFault, Qualified.Name}
+use Rattle.soap_envelope.specs.declared.report.{Code.Code, FaultReport.FaultReport, Sub.Sub}
+use Rattle.soap_envelope.specs.{Faults.fault_items, Fitting.names_fit}
+use Rattle.action_dispatch.specs.declared.refusals.Refusal.{Refusal, TheVariants.NotUnderstood}
+use Rattle.action_dispatch.specs.declared.refusals.Refusal.TheVariants.{ByService, IllFormed}
+use Rattle.action_dispatch.specs.declared.refusals.Refusal.TheVariants.{NoAction, NoEnvelope}
+use Rattle.action_dispatch.specs.declared.refusals.Refusal.TheVariants.{OtherReplyAddress}
+use Rattle.action_dispatch.specs.declared.refusals.Refusal.TheVariants.{RepeatedHeader, Unfit}
+use Rattle.action_dispatch.specs.declared.refusals.Refusal.TheVariants.{UnknownAction}
 use Rattle.soap_envelope.specs.declared.refusals.SoapFault.TheVariants as soap
-use Rattle.soap_envelope.specs.declared.report.Code.{Code}
 use Rattle.soap_envelope.specs.declared.report.Code.TheVariants as code
-use Rattle.soap_envelope.specs.declared.report.FaultReport.{FaultReport}
-use Rattle.soap_envelope.specs.declared.report.Sub.{Sub}
 use Rattle.soap_envelope.specs.declared.report.Sub.TheVariants as sub
-use Rattle.soap_envelope.specs.Faults.{fault_items}
-use Rattle.soap_envelope.specs.Fitting.{names_fit}
-use Rattle.action_dispatch.specs.declared.refusals.Refusal.{Refusal}
-use Rattle.action_dispatch.specs.declared.refusals.Refusal.TheVariants.{NoEnvelope, RepeatedHeader}
-use Rattle.action_dispatch.specs.declared.refusals.Refusal.TheVariants.{IllFormed, NotUnderstood}
-use Rattle.action_dispatch.specs.declared.refusals.Refusal.TheVariants.{NoAction, OtherReplyAddress}
-use Rattle.action_dispatch.specs.declared.refusals.Refusal.TheVariants.{UnknownAction, ByService}
-use Rattle.action_dispatch.specs.declared.refusals.Refusal.TheVariants.{Unfit}
 
 -- why a document without a view is refused
 abbrev pub refusal_of : SoapFault → Refusal

@@ -1,11 +1,9 @@
 -- What services say to a request, by its action and the content of its Body.
-use Rattle.std.specs.Prelude.{ℕ, ⊤, List, [], ◌∷◌, Option, Some, None, codes}
-use Rattle.nbfx_values.specs.declared.content.Item.{Item}
-use Rattle.nbfx_values.specs.declared.content.Item.TheVariants.{Start, Close}
+use Rattle.std.specs.Prelude.{ℕ, List, [], ◌∷◌, Some, None, codes, Option, ⊤}
+use Rattle.nbfx_values.specs.declared.content.Item.{Item, TheVariants.Close, TheVariants.Start}
 use Rattle.soap_envelope.specs.Making.{IsContent, words}
-use Rattle.action_dispatch.specs.declared.service.Served.{Served}
-use Rattle.action_dispatch.specs.declared.service.Served.TheVariants.{Reply, Nothing, Unknown}
-use Rattle.action_dispatch.specs.declared.service.Served.TheVariants.{Refuse}
+use Rattle.action_dispatch.specs.declared.service.Served.{Served, TheVariants.Unknown}
+use Rattle.action_dispatch.specs.declared.service.Served.TheVariants.{Nothing, Refuse, Reply}
 
 -- a reply may stand as the content of a Body
 abbrev pub MayStand : Served → Type 0

@@ -1,38 +1,27 @@
 -- What is made of documents when one more is added, and what is to be sent of all.
-use Rattle.std.proofs.Common.{◌≡◌, ℕ, ◌+◌, ◌<◌, List, [], ◌∷◌, ◌++◌, length, take, get_or, true}
-use Rattle.std.proofs.Common.{false, Option, None, Some, Result, Ok, refl, sym, ap, ◌∙◌, subst}
-use Rattle.std.proofs.Common.{append_assoc, append-nil, length-append, arith}
-use Rattle.std.specs.Option.{is_some}
-use Rattle.std.proofs.Math.Seq.{take-append_seam}
-use Rattle.std.proofs.lemmas.List.{take_more}
-use Rattle.nbfx_values.specs.QuotasOf.{limits_of}
-use Rattle.nbfx_values.specs.declared.content.Item.{Item}
-use Rattle.nbfx_values.specs.declared.session.Mode.{Mode}
-use Rattle.nbfx_values.specs.declared.session.Mode.TheVariants.{Singleton, Duplex, Simplex}
-use Rattle.nmf_records.specs.declared.frame.Frame.TheVariants.{End}
-use Rattle.nmf_records.specs.Writing.{frame_bytes_of}
-use Rattle.nbfx_encoder.specs.declared.faults.EncodeFault.{EncodeFault}
-use Rattle.nbfx_encoder.specs.declared.faults.EncodeFault.TheVariants as encode
-use Rattle.nbfx_encoder.specs.declared.sender.SendFault.TheVariants.{WrongMoment}
+use Rattle.std.proofs.Common.{◌≡◌, ℕ, ◌+◌, ◌<◌, true, false, List, [], ◌∷◌, ◌++◌, length, get_or}
+use Rattle.std.proofs.Common.{take, is_some, Some, None, Ok, Option, Result, sym, refl, ap, ◌∙◌}
+use Rattle.std.proofs.Common.{subst, append_assoc, append-nil, arith, length-append}
+use Rattle.std.proofs.{Math.Seq.take-append_seam, lemmas.List.take_more}
+use Rattle.nbfx_values.specs.declared.{content.Item.Item, session.Mode.Mode}
+use Rattle.nbfx_values.specs.declared.session.Mode.TheVariants.{Duplex, Simplex, Singleton}
+use Rattle.{nbfx_values.specs.QuotasOf.limits_of, session_ends.specs.Sent.MayBeSent}
+use Rattle.nmf_records.specs.{declared.frame.Frame.TheVariants.End, Writing.frame_bytes_of}
+use Rattle.nbfx_encoder.specs.{declared.faults.EncodeFault.EncodeFault, Placing.Placed}
 use Rattle.nbfx_encoder.specs.declared.sender.SendFault.TheVariants.{Refused as SendRefused}
-use Rattle.nbfx_encoder.specs.declared.sender.SendState.{SendState}
-use Rattle.nbfx_encoder.specs.declared.sender.SendState.TheVariants.{Ready, Spent, Closed}
-use Rattle.nbfx_encoder.specs.declared.sender.Sender.{Sender}
-use Rattle.nbfx_encoder.specs.declared.sender.Side.TheVariants.{Initiator}
-use Rattle.nbfx_encoder.specs.Envelopes.{envelope}
-use Rattle.nbfx_encoder.specs.Placing.{Placed}
-use Rattle.nbfx_encoder.specs.EncoderState.{Refuses}
-use Rattle.nbfx_encoder.specs.Sending.{KeepsSettings, RefusesMessage, Sends, behind_message}
-use Rattle.nbfx_encoder.specs.Sending.{first_state, kind_in, limits_in, mode_in, names_in, state_in}
-use Rattle.nbfx_encoder.specs.Spelling.{Unfit, encoded}
-use Rattle.session_ends.specs.Sent.{MayBeSent}
+use Rattle.nbfx_encoder.specs.declared.sender.{SendFault.TheVariants.WrongMoment, Sender.Sender}
+use Rattle.nbfx_encoder.specs.declared.sender.{SendState.SendState, Side.TheVariants.Initiator}
+use Rattle.nbfx_encoder.specs.declared.sender.SendState.TheVariants.{Closed, Ready, Spent}
+use Rattle.nbfx_encoder.specs.{EncoderState.Refuses, Envelopes.envelope, Sending.state_in}
+use Rattle.nbfx_encoder.specs.Sending.{behind_message, first_state, KeepsSettings, kind_in}
+use Rattle.nbfx_encoder.specs.Sending.{limits_in, mode_in, names_in, RefusesMessage, Sends}
+use Rattle.nbfx_encoder.specs.Spelling.{encoded, Unfit}
 use Rattle.client.specs.declared.outgoing.CallSettings.{CallSettings}
-use Rattle.client.specs.Cuts.{CutsAt}
-use Rattle.client.specs.Making.{AreFew, IsSet, MadeSoFar}
+use Rattle.client.specs.Cuts.{CutsAt, sending_by, whole_within}
+use Rattle.client.specs.Making.{AreFew, IsSet, MadeBefore, MadeSoFar, moment_behind}
 use Rattle.client.specs.Outgoing.{HoldsFitting, HoldsSo}
-use Rattle.client.specs.Cuts.{sending_by, whole_within}
-use Rattle.client.specs.Making.{MadeBefore, moment_behind}
 use Rattle.client.proofs.Made.{all_carried, cuts_ended, cuts_first, made_one}
+use Rattle.nbfx_encoder.specs.declared.faults.EncodeFault.TheVariants as encode
 
 -- ---- lists in a loop
 

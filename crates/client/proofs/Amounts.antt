@@ -1,32 +1,25 @@
 -- How many bytes of a call's session were written to the peer.
-use Rattle.std.proofs.Common.{◌≡◌, ℕ, ◌+◌, ◌⊎◌, inl, inr, List, [], ◌∷◌, ◌++◌, length, take, Bool}
-use Rattle.std.proofs.Common.{Option, Some, Result, Ok, Err, refl, sym, ap, ◌∙◌, subst}
+use Rattle.std.proofs.Common.{◌≡◌, ℕ, ◌+◌, Bool, ◌⊎◌, List, [], ◌∷◌, ◌++◌, length, take, Some, Ok}
+use Rattle.std.proofs.Common.{Err, Option, Result, sym, refl, ap, ◌∙◌, subst, inl, inr}
 use Rattle.std.proofs.Common.{append_assoc, append-nil, arith}
-use Rattle.std.proofs.Math.Seq.{take-append_seam}
-use Rattle.io_edges.specs.Flow.{GrowsByPrefix}
+use Rattle.{std.proofs.Math.Seq.take-append_seam, io_edges.specs.Flow.GrowsByPrefix}
+use Rattle.{string_tables.specs.StringTable.StringTable, session_ends.specs.Sent.first_table}
 use Rattle.nbfx_values.specs.declared.content.Item.{Item}
-use Rattle.string_tables.specs.StringTable.{StringTable}
-use Rattle.nmf_records.specs.declared.frame.Frame.TheVariants.{End}
-use Rattle.nmf_records.specs.Writing.{frame_bytes_of}
-use Rattle.nbfx_encoder.specs.Envelopes.{behind_bytes, envelope, envelope_then}
-use Rattle.nbfx_encoder.specs.Envelopes.{envelopes_from}
-use Rattle.nbfx_encoder.specs.Placing.{Placed}
-use Rattle.nbfx_encoder.specs.Spelling.{Unfit, encoded}
+use Rattle.nmf_records.specs.{declared.frame.Frame.TheVariants.End, Writing.frame_bytes_of}
 use Rattle.nbfx_encoder.proofs.LawFacts.{parted, sends_one_more}
+use Rattle.nbfx_encoder.specs.Envelopes.{behind_bytes, envelope, envelope_then, envelopes_from}
+use Rattle.nbfx_encoder.specs.{Placing.Placed, Spelling.encoded, Spelling.Unfit}
+use Rattle.stream_loop.proofs.Grown.{all_written, AllWritten, cut_grew, Grew, grew_more}
+use Rattle.stream_loop.{proofs.Writing.told_some, specs.declared.outbound.Outbound.Outbound}
+use Rattle.stream_loop.specs.Writing.{HoldNothing, IsCut}
 use Rattle.initiator_machine.specs.Opening.{opening_bytes}
-use Rattle.session_ends.specs.Sent.{first_table}
-use Rattle.stream_follower.specs.declared.writing.Outbound.{Outbound}
-use Rattle.stream_follower.specs.declared.writing.Outbound.TheVariants as outbounds
-use Rattle.stream_loop.proofs.Writing.{told_some}
-use Rattle.stream_follower.specs.Writing.{HoldNothing, IsCut}
-use Rattle.stream_follower.proofs.Grown.{AllWritten, Grew, all_written, cut_grew, grew_more}
-use Rattle.client.specs.declared.caller.Ack.{Ack}
-use Rattle.client.specs.declared.caller.Ack.TheVariants.{Awaited, Read}
+use Rattle.client.specs.declared.caller.Ack.{Ack, TheVariants.Awaited, TheVariants.Read}
 use Rattle.client.specs.declared.outcome.ClientOut.{ClientOut}
-use Rattle.client.specs.declared.outcome.ClientOut.TheVariants as out
 use Rattle.client.specs.Called.{BreaksOpening, Sends, WritesCall, WritesFirst, WritesNone}
-use Rattle.client.specs.Sent.{HasBroken, Sending, bytes_of, due_next, due_of, envelopes}
+use Rattle.client.specs.Sent.{bytes_of, due_next, due_of, envelopes, HasBroken, Sending}
 use Rattle.client.specs.Sent.{sent_behind, sent_by, sent_of}
+use Rattle.stream_loop.specs.declared.outbound.Outbound.TheVariants as outbounds
+use Rattle.client.specs.declared.outcome.ClientOut.TheVariants as out
 
 module _ (x : Sending) where
   -- behind documents that fit, one that doesn't is the first

@@ -1,33 +1,27 @@
 -- What a caller has heard when an event more comes, and what was reported when the stream is over.
-use Rattle.std.proofs.Common.{◌≡◌, ℕ, List, [], ◌∷◌, ◌++◌, Bool, true, Option}
-use Rattle.std.proofs.Common.{Result, Ok, refl, sym, ap, ◌∙◌, subst}
-use Rattle.std.specs.Prelude.{⊤}
-use Rattle.io_edges.specs.declared.SinkFault.{SinkFault}
-use Rattle.unit_streams.specs.Tellers.{state_behind}
+use Rattle.std.proofs.Common.{◌≡◌, ℕ, Bool, true, List, [], ◌∷◌, ◌++◌, Ok, Option, Result, sym}
+use Rattle.std.proofs.Common.{refl, ap, ◌∙◌, subst, inl, inr}
+use Rattle.{std.specs.Prelude.⊤, io_edges.specs.declared.SinkFault.SinkFault}
 use Rattle.unit_streams.proofs.Telling.{state_append, state_one}
-use Rattle.command_words.specs.declared.task.Detail.TheVariants.{Whole}
-use Rattle.stream_follower.specs.declared.writing.Outbound.{Outbound}
-use Rattle.stream_follower.specs.declared.writing.Outbound.TheVariants as outbounds
-use Rattle.stream_follower.specs.Writing.{Goes, PutsTo, Writes, Wrote, outbound_by}
-use Rattle.stream_follower.proofs.Written.{begins, closes, goes_by, pauses, stays_closed, stays_so}
-use Rattle.stream_follower.proofs.Written.{steps, stops_last, wanted_by}
-use Rattle.nbfx_values.specs.declared.content.Item.{Item}
-use Rattle.session_report.specs.declared.reading.Event.{Event}
-use Rattle.session_report.specs.declared.reading.Event.TheVariants as said
-use Rattle.session_report.specs.declared.reporter.Outcome.{Outcome}
-use Rattle.session_report.specs.declared.reporter.Outcome.TheVariants as reached
+use Rattle.{unit_streams.specs.Tellers.state_behind, nbfx_values.specs.declared.content.Item.Item}
+use Rattle.stream_loop.{proofs.Ended.puts_still, specs.declared.outbound.Outbound.Outbound}
+use Rattle.stream_loop.proofs.Written.{begins, closes, goes_by, pauses, stays_closed, stays_so}
+use Rattle.stream_loop.proofs.Written.{steps, stops_last, wanted_by}
+use Rattle.stream_loop.specs.Writing.{Goes, outbound_by, PutsTo, TellsAlike, Writes, Wrote}
+use Rattle.session_report.specs.declared.{reading.Event.Event, reporter.Outcome.Outcome}
 use Rattle.session_report.specs.Saying.{said_by, said_outcome}
-use Rattle.client.specs.declared.caller.Ack.{Ack}
-use Rattle.client.specs.declared.caller.Ack.TheVariants.{Awaited, Read}
-use Rattle.client.specs.declared.caller.Caller.{Caller}
-use Rattle.client.specs.declared.outcome.ClientOut.{ClientOut}
+use Rattle.command_words.specs.declared.task.Detail.TheVariants.{Whole}
+use Rattle.client.specs.declared.caller.Ack.{Ack, TheVariants.Awaited, TheVariants.Read}
+use Rattle.client.specs.declared.{caller.Caller.Caller, outcome.ClientOut.ClientOut}
+use Rattle.client.specs.{declared.outgoing.Outgoing.Outgoing, Writing.out_of}
 use Rattle.client.specs.Called.{ack_after, ack_along, reached_along}
-use Rattle.client.specs.Calling.{HasHeard, IsFresh, Reports, SendsSo}
-use Rattle.client.specs.declared.outgoing.Outgoing.{Outgoing}
-use Rattle.client.specs.Cuts.{sending_by}
-use Rattle.client.specs.Outgoing.{Carries}
-use Rattle.client.specs.Sent.{SendsAll}
-use Rattle.client.specs.Writing.{out_of}
+use Rattle.client.specs.Calling.{HasEnded, HasHeard, IsFresh, Reports, SendsSo}
+use Rattle.client.specs.{Cuts.sending_by, Outgoing.Carries}
+use Rattle.client.specs.Sent.{HasBroken, Sending, SendsAll}
+use Rattle.stream_loop.specs.declared.outbound.Outbound.TheVariants as outbounds
+use Rattle.session_report.specs.declared.reading.Event.TheVariants as said
+use Rattle.session_report.specs.declared.reporter.Outcome.TheVariants as reached
+use Rattle.client.specs.declared.outcome.ClientOut.TheVariants as out
 
 -- ---- one event more
 
@@ -57,12 +51,94 @@ module _ {K : Type 0} (written : K → Option (List ℕ)) (held : K → List ℕ
   abbrev So : Outbound → K → Ack → ClientOut → ℕ → K → Type 0
   So = SendsSo written held faults may_want o
 
+  broken_still : (x : Sending) (before : List ℕ) (first now now' : K)
+      → TellsAlike written held faults may_want now now' → (outbound : Outbound) (sent : ℕ)
+      → HasBroken x written held faults may_want before first outbound sent now
+      → HasBroken x written held faults may_want before first outbound sent now'
+  broken_still x before first now now' alike outbound sent h = record {
+    done = h.done;
+    rest = h.rest;
+    joined = h.joined;
+    counted = h.counted;
+    bytes = h.bytes;
+    table = h.table;
+    spelled = h.spelled;
+    grown = rw alike.written_is h.grown;
+    whole = λ plain. rw alike.written_is (h.whole plain);
+    emptied = alike.held_is ∙ h.emptied;
+    faults_counted = rw alike.faults_are h.faults_counted;
+  }
+
+  alike_then : (first now now' : K) → TellsAlike written held faults may_want first now
+      → TellsAlike written held faults may_want now now'
+      → TellsAlike written held faults may_want first now'
+  alike_then first now now' one two = record {
+    written_is = two.written_is ∙ one.written_is;
+    held_is = two.held_is ∙ one.held_is;
+    faults_are = two.faults_are ∙ one.faults_are;
+    settled = two.settled ∙ one.settled;
+  }
+
+  alike_first : (first : K) → TellsAlike written held faults may_want first first
+  alike_first first =
+      record { written_is = refl; held_is = refl; faults_are = refl; settled = refl }
+
+  -- what was sent stays so when the direction is ended
+  all_still : (x : Sending) (before : List ℕ) (first now now' : K)
+      → TellsAlike written held faults may_want now now' → (outbound : ClientOut) (sent : ℕ)
+      → SendsAll x written held faults may_want before first outbound sent now
+      → SendsAll x written held faults may_want before first outbound sent now'
+  all_still x before first now now' alike out.Done sent h = record {
+    bytes = h.bytes;
+    table = h.table;
+    spelled = h.spelled;
+    counted = h.counted;
+    puts = puts_still written held faults may_want first now now' alike _ _ h.puts;
+    emptied = alike.held_is ∙ h.emptied;
+  }
+  all_still x before first now now' alike (out.Unfit number fault) sent h = record {
+    done = h.done;
+    document = h.document;
+    rest = h.rest;
+    joined = h.joined;
+    counted = h.counted;
+    number_is = h.number_is;
+    table = h.table;
+    why = h.why;
+    unfit = h.unfit;
+    fault_is = h.fault_is;
+    puts = record {
+      bytes = h.puts.bytes;
+      spelled = h.puts.spelled;
+      puts = puts_still written held faults may_want first now now' alike _ _ h.puts.puts;
+    };
+    emptied = alike.held_is ∙ h.emptied;
+  }
+  all_still x before first now now' alike out.WriteFault sent h =
+      broken_still x before first now now' alike outbounds.WriteFault sent h
+  all_still x before first now now' alike out.Memory sent h =
+      broken_still x before first now now' alike outbounds.Memory sent h
+
+  pub sends_still : (opened : Outbound) (first : K) (ack : Ack) (outbound : ClientOut) (sent : ℕ)
+      (now now' : K) → HasEnded opened ack → TellsAlike written held faults may_want now now'
+      → So opened first ack outbound sent now → So opened first ack outbound sent now'
+  sends_still outbounds.Done first Read outbound sent now now' ended alike h =
+      λ documents carries start before puts. all_still (sending_by o.settings documents) before
+      start now now' alike outbound sent (h documents carries start before puts)
+  sends_still outbounds.Done first Awaited outbound sent now now' (inl never) alike h =
+      absurd (never refl)
+  sends_still outbounds.Done first Awaited outbound sent now now' (inr is) alike h = cc
+  sends_still outbounds.WriteFault first ack outbound sent now now' ended alike h =
+      (h.0, h.1, alike_then first now now' h.2 alike)
+  sends_still outbounds.Memory first ack outbound sent now now' ended alike h =
+      (h.0, h.1, alike_then first now now' h.2 alike)
+
   -- before the first event
   pub sends_first : (opened : Outbound) (first : K) (outbound : ClientOut) (sent : ℕ)
       → outbound ≡ out_of opened → sent ≡ 0 → So opened first Awaited outbound sent first
   sends_first outbounds.Done first outbound sent is none = (is, none, refl)
-  sends_first outbounds.WriteFault first outbound sent is none = (is, none, refl)
-  sends_first outbounds.Memory first outbound sent is none = (is, none, refl)
+  sends_first outbounds.WriteFault first outbound sent is none = (is, none, alike_first first)
+  sends_first outbounds.Memory first outbound sent is none = (is, none, alike_first first)
 
   -- where the opening isn't written, the Ack changes nothing
   pub never_sends : (opened : Outbound) (first : K) (outbound : ClientOut) (sent : ℕ) (now : K)
@@ -201,16 +277,23 @@ module _ {K : Type 0} (k_written : K → Option (List ℕ)) (k_held : K → List
         sends = rw (g2, p2, a2) (sends sink (rw (g1, p1, a1, s1, o1) h.sends));
       }
 
-  -- what the output holds is written
-  pub heard_on : (events : List Event) (caller : Caller) (sink1 : K) (output1 output2 : O)
-      (answer : Result ⊤ SinkFault) (report' : Outbound) → Heard events caller sink1 output1
-      → caller.report ≡ outbounds.Done → report' ≡ outbound_by answer
-      → PutsTo o_written o_held o_faults o_wants output1 output2 [] answer
-      → Heard events (record caller { report = report' }) sink1 output2
-  heard_on events caller sink1 output1 output2 answer report' h going is puts = record {
-    ack_is = h.ack_is;
-    reached_is = h.reached_is;
-    reported = reports_on o_written o_held o_faults o_wants output events caller.reached output1
-        answer caller.report report' output2 going is puts h.reported;
-    sends = h.sends;
+  -- what the output holds is written, and the direction of the sink may be ended
+  pub heard_on : (events : List Event) (old new : Caller) (sink1 sink2 : K) (output1 output2 : O)
+      → Heard events old sink1 output1
+      → ((first : O) (heard : List Event)
+      → Writes o_written o_held o_faults o_wants (said_by Whole) old.report first heard old.reached
+      (λ s. ⊤) output1
+      → Writes o_written o_held o_faults o_wants (said_by Whole) new.report first heard old.reached
+      (λ s. ⊤) output2)
+      → new.reached ≡ old.reached → new.outgoing ≡ old.outgoing → new.opened ≡ old.opened
+      → new.ack ≡ old.ack → new.sent ≡ old.sent → new.outbound ≡ old.outbound
+      → ((first : K) → So k_written k_held k_faults k_wants new.outgoing new.opened first new.ack
+      new.outbound new.sent sink1
+      → So k_written k_held k_faults k_wants new.outgoing new.opened first new.ack new.outbound
+      new.sent sink2) → Heard events new sink2 output2
+  heard_on events old new sink1 sink2 output1 output2 h writes r g p a s b sends = record {
+    ack_is = a ∙ h.ack_is;
+    reached_is = r ∙ h.reached_is;
+    reported = rw r (writes output events h.reported);
+    sends = sends sink (rw (g, p, a, s, b) h.sends);
   }

@@ -1,40 +1,28 @@
 -- What is known of a call where the peer's bytes are known.
-use Rattle.std.proofs.Common.{◌≡◌, ℕ, List, [], ◌++◌, Bool, Option, Some, None, map}
-use Rattle.std.proofs.Common.{refl, sym, ap, ◌∙◌, subst}
-use Rattle.std.proofs.lemmas.List.{append-nil}
-use Rattle.std.specs.Prelude.{⊤}
-use Rattle.unit_streams.specs.Grammar.{Grammar}
+use Rattle.std.proofs.Common.{◌≡◌, ℕ, Bool, List, [], ◌++◌, map, Some, None, Option, sym, refl, ap}
+use Rattle.std.{proofs.Common.◌∙◌, proofs.Common.subst, proofs.Common.append-nil, specs.Prelude.⊤}
+use Rattle.{unit_streams.specs.Grammar.Grammar, nbfx_values.specs.declared.refusals.Offence.Offence}
 use Rattle.unit_streams.specs.Tellers.{report as report_by, state_behind, told_along}
-use Rattle.nbfx_values.specs.declared.refusals.Offence.{Offence}
-use Rattle.command_words.specs.declared.task.Detail.TheVariants.{Whole}
-use Rattle.stream_loop.specs.Answers.{written_by}
-use Rattle.stream_loop.specs.Edges.{Input}
-use Rattle.stream_reader.specs.Stream.{Situation, StreamEvent, StreamUnit, stream}
-use Rattle.stream_follower.specs.declared.writing.Outbound.{Outbound}
-use Rattle.stream_follower.specs.declared.writing.Outbound.TheVariants as outbounds
-use Rattle.stream_follower.specs.Followed.{AreFirst, Follows, IsWhole}
-use Rattle.stream_follower.specs.Writing.{HoldNothing, Wrote}
-use Rattle.stream_follower.proofs.Amounts.{first_told, states_values, whole_told, wrote_grew}
-use Rattle.stream_follower.proofs.Grown.{AllWritten, Grew, all_written, grew_more}
-use Rattle.stream_follower.proofs.Knowing.{events_are, first_broken, first_starved, offence_of}
-use Rattle.stream_follower.proofs.Knowing.{whole_of}
-use Rattle.session_report.specs.declared.reporter.Outcome.{Outcome}
-use Rattle.session_report.specs.declared.reporter.Outcome.TheVariants as reached
+use Rattle.stream_reader.specs.Stream.{Situation, stream, StreamEvent, StreamUnit}
+use Rattle.stream_loop.proofs.Amounts.{first_told, states_values, whole_told, wrote_grew}
+use Rattle.stream_loop.proofs.Grown.{all_written, AllWritten, Grew, grew_more}
+use Rattle.stream_loop.proofs.Knowing.{events_are, first_broken, first_starved, offence_of}
+use Rattle.stream_loop.{proofs.Knowing.whole_of, specs.Writing.HoldNothing, specs.Writing.Wrote}
+use Rattle.stream_loop.specs.{declared.outbound.Outbound.Outbound, Answers.written_by, Edges.Input}
+use Rattle.stream_loop.specs.Followed.{AreFirst, Follows, IsWhole}
+use Rattle.session_report.{proofs.Saying.lines_are, specs.declared.reporter.Outcome.Outcome}
 use Rattle.session_report.specs.Report.{last_line, lines_of, outcome}
 use Rattle.session_report.specs.Saying.{event_for, said_by}
-use Rattle.session_report.proofs.Saying.{lines_are}
-use Rattle.client.specs.declared.caller.Ack.{Ack}
-use Rattle.client.specs.declared.caller.Ack.TheVariants.{Awaited}
-use Rattle.client.specs.declared.outcome.CallOutcome.{CallOutcome}
-use Rattle.client.specs.declared.outcome.ClientIn.{ClientIn}
-use Rattle.client.specs.declared.outcome.ClientIn.TheVariants.{Ended, Offended, PeerFault}
-use Rattle.client.specs.declared.outcome.ClientIn.TheVariants.{ReadFault, Memory}
-use Rattle.client.specs.Called.{Calls, HasCalled, IsAckOf, Judges, KnownCall, ReportsOf, WritesCall}
-use Rattle.client.specs.Called.{ack_along}
-use Rattle.client.specs.Called.{answers_to, dumped, ending_of, heard_of, inbound_by}
-use Rattle.client.specs.Called.{reached_along}
-use Rattle.client.specs.Sent.{Sending}
-use Rattle.client.proofs.Amounts.{sends_written}
+use Rattle.command_words.specs.declared.task.Detail.TheVariants.{Whole}
+use Rattle.client.specs.declared.caller.Ack.{Ack, TheVariants.Awaited}
+use Rattle.client.specs.{declared.outcome.CallOutcome.CallOutcome, Sent.Sending}
+use Rattle.client.specs.declared.outcome.ClientIn.{ClientIn, TheVariants.ReadFault}
+use Rattle.client.specs.declared.outcome.ClientIn.TheVariants.{Ended, Memory, Offended, PeerFault}
+use Rattle.client.specs.Called.{ack_along, answers_to, Calls, dumped, ending_of, HasCalled}
+use Rattle.client.specs.Called.{heard_of, inbound_by, IsAckOf, Judges, KnownCall, reached_along}
+use Rattle.client.{specs.Called.ReportsOf, specs.Called.WritesCall, proofs.Amounts.sends_written}
+use Rattle.stream_loop.specs.declared.outbound.Outbound.TheVariants as outbounds
+use Rattle.session_report.specs.declared.reporter.Outcome.TheVariants as reached
 
 -- which event ended a session, by what is said of its reading
 ended_well : (r : Outcome) → Ended ≡ inbound_by (ending_of Ended) r → r ≡ reached.Faulted → ⊥

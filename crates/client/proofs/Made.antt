@@ -1,23 +1,16 @@
 -- The envelopes that are made of documents, and what is to be sent of them.
-use Rattle.std.proofs.Common.{◌≡◌, ℕ, ◌+◌, ◌-◌, ◌<◌, ◌≤◌, leb, inl, inr, List, [], ◌∷◌, ◌++◌}
-use Rattle.std.proofs.Common.{length, take, Bool, true, false, if◌then◌else◌, Ok}
-use Rattle.std.proofs.Common.{refl, sym, ap, ◌∙◌, subst, append_assoc, arith, length-append}
-use Rattle.std.proofs.Math.Seq.{take-append-add}
-use Rattle.std.proofs.lemmas.Bool.{cases_lt, le-leb, lt-leb}
-use Rattle.std.proofs.lemmas.List.{append-nil, take-append-le, take_all}
-use Rattle.nbfx_values.specs.QuotasOf.{limits_of}
-use Rattle.nbfx_values.specs.declared.content.Item.{Item}
-use Rattle.string_tables.specs.StringTable.{StringTable}
-use Rattle.nmf_records.specs.declared.frame.Frame.TheVariants.{End}
-use Rattle.nmf_records.specs.Writing.{frame_bytes_of}
+use Rattle.std.proofs.Common.{◌≡◌, ℕ, ◌+◌, ◌-◌, ◌<◌, ◌≤◌, Bool, true, false, leb, List, [], ◌∷◌}
+use Rattle.std.proofs.Common.{◌++◌, length, take, if◌then◌else◌, Ok, sym, refl, ap, ◌∙◌, subst, inl}
+use Rattle.std.proofs.Common.{inr, append_assoc, append-nil, arith, length-append, take_all, le-leb}
+use Rattle.{std.proofs.Math.Seq.take-append-add, string_tables.specs.StringTable.StringTable}
+use Rattle.std.proofs.lemmas.{Bool.cases_lt, Bool.lt-leb, List.take-append-le}
+use Rattle.nbfx_values.specs.{declared.content.Item.Item, QuotasOf.limits_of}
+use Rattle.nmf_records.specs.{declared.frame.Frame.TheVariants.End, Writing.frame_bytes_of}
+use Rattle.nbfx_encoder.{proofs.LawFacts.sends_one_more, specs.Spelling.encoded}
 use Rattle.nbfx_encoder.specs.Envelopes.{behind_bytes, envelope, envelope_then}
-use Rattle.nbfx_encoder.specs.Spelling.{encoded}
-use Rattle.nbfx_encoder.proofs.LawFacts.{sends_one_more}
 use Rattle.session_ends.specs.Sent.{first_table}
-use Rattle.client.specs.declared.outgoing.CallSettings.{CallSettings}
-use Rattle.client.specs.Cuts.{CutsAt, sending_by, whole_within}
-use Rattle.client.specs.Making.{AreMade}
-use Rattle.client.specs.Outgoing.{HoldsAll}
+use Rattle.client.specs.{declared.outgoing.CallSettings.CallSettings, Making.AreMade}
+use Rattle.client.specs.{Cuts.CutsAt, Cuts.sending_by, Cuts.whole_within, Outgoing.HoldsAll}
 use Rattle.client.specs.Sent.{due_next, due_of, envelopes}
 
 -- ---- ends

@@ -1,14 +1,11 @@
 -- What is written of the opening.
-use Rattle.std.proofs.Common.{◌≡◌, ℕ, inr, List, [], Bool, Option, Result, Ok, Err, refl}
-use Rattle.std.proofs.Common.{subst, append-nil}
-use Rattle.io_edges.specs.declared.SinkFault.{SinkFault}
+use Rattle.std.proofs.Common.{◌≡◌, ℕ, Bool, List, [], Ok, Err, Option, Result, refl, subst, inr}
+use Rattle.{std.proofs.Common.append-nil, client.specs.Writing.WritesOut}
+use Rattle.io_edges.{proofs.Putting.PutsAll-then, specs.declared.SinkFault.SinkFault}
+use Rattle.stream_loop.{proofs.Written.cut_of, specs.declared.outbound.Outbound.Outbound}
+use Rattle.stream_loop.specs.Writing.{Goes, IsCut, outbound_by, PutsTo}
 use Rattle.io_edges.specs.declared.SinkFault.TheVariants as sinks
-use Rattle.io_edges.proofs.Putting.{PutsAll-then}
-use Rattle.stream_follower.specs.declared.writing.Outbound.{Outbound}
-use Rattle.stream_follower.specs.declared.writing.Outbound.TheVariants as outbounds
-use Rattle.stream_follower.specs.Writing.{Goes, IsCut, PutsTo, outbound_by}
-use Rattle.stream_follower.proofs.Written.{cut_of}
-use Rattle.client.specs.Writing.{WritesOut}
+use Rattle.stream_loop.specs.declared.outbound.Outbound.TheVariants as outbounds
 
 -- of sinks, by what they tell
 module _ {K : Type 0} (written : K → Option (List ℕ)) (held : K → List ℕ) (faults : K → ℕ)

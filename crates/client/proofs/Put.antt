@@ -1,34 +1,25 @@
 -- What is put and written of the bytes that are due: all, or first bytes of them.
-use Rattle.std.proofs.Common.{◌≡◌, ℕ, ◌≤◌, inl, List, [], ◌++◌, length, take, drop, Bool}
-use Rattle.std.proofs.Common.{Option, Some, Result, Ok, Err, refl, sym, ap, ◌∙◌, subst}
-use Rattle.std.proofs.Common.{append_assoc, arith}
-use Rattle.std.proofs.lemmas.List.{append-nil, take-append-drop, take_all}
-use Rattle.io_edges.specs.Faults.{CountsFaults}
-use Rattle.io_edges.specs.Flow.{GrowsByPrefix, Told}
-use Rattle.io_edges.specs.declared.SinkFault.{SinkFault}
-use Rattle.io_edges.specs.declared.SinkFault.TheVariants as sinks
-use Rattle.io_edges.proofs.Putting.{PutsAll-then}
-use Rattle.nbfx_encoder.specs.declared.faults.EncodeFault.{EncodeFault}
-use Rattle.nbfx_encoder.specs.declared.faults.EncodeFault.TheVariants as encode
-use Rattle.nbfx_encoder.specs.EncoderState.{Refuses}
-use Rattle.nbfx_encoder.specs.Placing.{Placed}
-use Rattle.nbfx_encoder.specs.Refusals.{told}
-use Rattle.nbfx_encoder.specs.Spelling.{Unfit, encoded}
+use Rattle.std.proofs.Common.{◌≡◌, ℕ, ◌≤◌, Bool, List, [], ◌++◌, length, take, drop, Some, Ok, Err}
+use Rattle.std.proofs.Common.{Option, Result, sym, refl, ap, ◌∙◌, subst, inl, append_assoc}
+use Rattle.std.proofs.Common.{append-nil, arith, take-append-drop, take_all}
+use Rattle.io_edges.{proofs.Putting.PutsAll-then, specs.Flow.GrowsByPrefix, specs.Flow.Told}
+use Rattle.io_edges.specs.{declared.SinkFault.SinkFault, Faults.CountsFaults}
+use Rattle.nbfx_encoder.specs.{declared.faults.EncodeFault.EncodeFault, Refusals.told}
+use Rattle.nbfx_encoder.specs.{EncoderState.Refuses, Placing.Placed}
+use Rattle.nbfx_encoder.specs.Spelling.{encoded, Unfit}
+use Rattle.stream_loop.proofs.{Counts.counts_as, Counts.ends_counted, Written.cut_of}
+use Rattle.stream_loop.proofs.Grown.{all_written, AllWritten, cut_behind, cut_grew, cut_written}
+use Rattle.stream_loop.proofs.Grown.{ends_empty, ends_grew, Grew, grew_more}
 use Rattle.stream_loop.proofs.Writing.{known_told, told_some}
-use Rattle.stream_follower.specs.declared.writing.Outbound.{Outbound}
-use Rattle.stream_follower.specs.declared.writing.Outbound.TheVariants as outbounds
-use Rattle.stream_follower.specs.Writing.{HoldNothing, IsCut, PutsParts, PutsTo, outbound_by}
-use Rattle.stream_follower.specs.Writing.{outbound_of}
-use Rattle.stream_follower.proofs.Counts.{counts_as, ends_counted}
-use Rattle.stream_follower.proofs.Grown.{AllWritten, Grew, all_written, cut_behind, cut_grew}
-use Rattle.stream_follower.proofs.Grown.{cut_written, ends_empty, ends_grew, grew_more}
-use Rattle.stream_follower.proofs.Written.{cut_of}
-use Rattle.client.specs.declared.outcome.ClientOut.{ClientOut}
-use Rattle.client.specs.Cuts.{CutsAt, whole_within}
+use Rattle.stream_loop.specs.{declared.outbound.Outbound.Outbound, Writing.PutsTo}
+use Rattle.stream_loop.specs.Writing.{HoldNothing, IsCut, outbound_by, outbound_of, PutsParts}
+use Rattle.client.specs.{declared.outcome.ClientOut.ClientOut, Writing.out_of}
+use Rattle.client.{specs.Cuts.CutsAt, specs.Cuts.whole_within, proofs.Made.take_none}
 use Rattle.client.specs.Outgoing.{HoldsAll, HoldsFitting, HoldsSo}
-use Rattle.client.specs.Sent.{HasBroken, HasSentAll, HasSentFitting, Sending, SendsAll, due_next}
-use Rattle.client.specs.Writing.{out_of}
-use Rattle.client.proofs.Made.{take_none}
+use Rattle.client.specs.Sent.{due_next, HasBroken, HasSentAll, HasSentFitting, Sending, SendsAll}
+use Rattle.io_edges.specs.declared.SinkFault.TheVariants as sinks
+use Rattle.nbfx_encoder.specs.declared.faults.EncodeFault.TheVariants as encode
+use Rattle.stream_loop.specs.declared.outbound.Outbound.TheVariants as outbounds
 
 -- a document that was refused for another reason than want of memory doesn't fit
 refused_so : (answer : Result (Placed (List ℕ)) Unfit) (fault : EncodeFault)

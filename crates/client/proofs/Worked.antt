@@ -1,31 +1,21 @@
 -- What is sent of literal documents, and what is reported of literal answers, by computation alone.
-use Rattle.std.proofs.Common.{◌≡◌, ℕ, List, [], ◌∷◌, ◌++◌, length, map, pos, Option, None}
-use Rattle.std.proofs.Common.{refl}
-use Rattle.std.specs.Prelude.{⊤, codes}
-use Rattle.std.specs.Char.{encode_utf8}
-use Rattle.std.specs.Fmt.{digits}
-use Rattle.std.specs.List.{repeat}
-use Rattle.line_notation.specs.Lines.{items_text}
-use Rattle.line_notation.specs.Quoted.{quoted}
+use Rattle.std.proofs.Common.{◌≡◌, ℕ, List, [], ◌∷◌, ◌++◌, map, length, pos, None, codes, Option}
+use Rattle.{std.proofs.Common.refl, stream_reader.specs.Stream.stream}
+use Rattle.std.specs.{Prelude.⊤, Char.encode_utf8, Fmt.digits, List.repeat}
 use Rattle.unit_streams.specs.Judging.{history, history_from, offence}
 use Rattle.unit_streams.specs.Tellers.{report as report_by, state_behind, told_along}
-use Rattle.multibyte_ints.specs.Integer.{shortest, shortest_within}
-use Rattle.multibyte_ints.specs.Text.{string_bytes_of}
-use Rattle.nbfx_values.specs.Limits.{limits, usual_limits}
-use Rattle.nbfx_values.specs.declared.content.Item.{Item}
-use Rattle.nbfx_values.specs.declared.content.Item.TheVariants.{Start, Xmlns, Attr, Text, Close}
-use Rattle.nbfx_values.specs.declared.refusals.Offence.{Offence}
+use Rattle.multibyte_ints.specs.{Integer.shortest, Integer.shortest_within, Text.string_bytes_of}
+use Rattle.nbfx_values.specs.declared.{content.Item.Item, refusals.Offence.Offence}
+use Rattle.nbfx_values.specs.declared.content.Item.TheVariants.{Attr, Close, Start, Text, Xmlns}
 use Rattle.nbfx_values.specs.declared.scalars.Scalar.TheVariants.{Number, Text as TextOf, UniqueId}
-use Rattle.nbfx_values.specs.declared.scalars.Value.TheVariants.{One}
-use Rattle.nbfx_values.specs.declared.session.Kind.{Kind}
-use Rattle.nbfx_values.specs.declared.session.Kind.TheVariants.{Plain, Session}
-use Rattle.nbfx_values.specs.declared.session.Mode.{Mode}
+use Rattle.nbfx_values.specs.declared.{scalars.Value.TheVariants.One, session.Mode.Mode}
+use Rattle.nbfx_values.specs.declared.session.Kind.{Kind, TheVariants.Plain, TheVariants.Session}
 use Rattle.nbfx_values.specs.declared.session.Mode.TheVariants.{Duplex, Simplex, Singleton}
-use Rattle.stream_reader.specs.Stream.{stream}
+use Rattle.nbfx_values.specs.Limits.{limits, usual_limits}
 use Rattle.stream_reader.proofs.OnLiterals.{preamble, streams_on_literals}
 use Rattle.session_report.specs.Report.{offence_line}
-use Rattle.client.specs.declared.caller.Ack.{Ack}
-use Rattle.client.specs.declared.caller.Ack.TheVariants.{Awaited, Read}
+use Rattle.line_notation.specs.{Lines.items_text, Quoted.quoted}
+use Rattle.client.specs.declared.caller.Ack.{Ack, TheVariants.Awaited, TheVariants.Read}
 use Rattle.client.specs.Called.{ack_along, answers_to, dumped, heard_of}
 use Rattle.client.specs.Sent.{Sending, sending, sent_by}
 

@@ -1,42 +1,30 @@
 -- What was read, reported and sent by a call, however it ends.
-use Rattle.std.specs.Prelude.{◌≡◌, ⊤, ℕ, ◌⊎◌, List, [], ◌∷◌, ◌++◌, length, Bool, Option, Some, None}
-use Rattle.std.specs.Prelude.{Ok, Err, map}
-use Rattle.io_edges.specs.Faults.{CountsFaults}
-use Rattle.io_edges.specs.Flow.{GrowsByPrefix}
-use Rattle.unit_streams.specs.Judging.{events, offence}
-use Rattle.unit_streams.specs.Tellers.{state_behind}
-use Rattle.nbfx_values.specs.declared.content.Item.{Item}
-use Rattle.nbfx_values.specs.declared.refusals.Offence.{Offence}
-use Rattle.string_tables.specs.StringTable.{StringTable}
-use Rattle.nbfx_encoder.specs.Envelopes.{UnfitAt}
-use Rattle.nbfx_encoder.specs.Placing.{Placed}
-use Rattle.nbfx_encoder.specs.Refusals.{told}
+use Rattle.std.specs.Prelude.{◌≡◌, ℕ, Bool, ◌⊎◌, List, [], ◌∷◌, ◌++◌, map, length, Some, None, Ok}
+use Rattle.std.specs.Prelude.{Err, Option, ⊤}
+use Rattle.io_edges.specs.{Faults.CountsFaults, Flow.GrowsByPrefix}
+use Rattle.unit_streams.specs.{Judging.events, Judging.offence, Tellers.state_behind}
+use Rattle.{string_tables.specs.StringTable.StringTable, client.specs.Sent.sent_by}
+use Rattle.nbfx_values.specs.declared.{content.Item.Item, refusals.Offence.Offence}
+use Rattle.nbfx_encoder.specs.{Envelopes.UnfitAt, Placing.Placed, Refusals.told}
+use Rattle.stream_reader.specs.Stream.{receivers, Settings, stream, StreamEvent}
+use Rattle.stream_loop.specs.declared.{following.Ending.Ending, outbound.Outbound.Outbound}
+use Rattle.stream_loop.specs.{Edges.Input, Followed.Follows}
+use Rattle.stream_loop.specs.Writing.{HoldNothing, IsCut, PutsTo, Wrote}
 use Rattle.initiator_machine.specs.Opening.{opening_bytes}
-use Rattle.command_words.specs.declared.task.Detail.TheVariants.{Whole}
-use Rattle.stream_loop.specs.Edges.{Input}
-use Rattle.stream_reader.specs.Stream.{Settings, StreamEvent, receivers, stream}
-use Rattle.stream_follower.specs.declared.following.Ending.{Ending}
-use Rattle.stream_follower.specs.declared.following.Ending.TheVariants as endings
-use Rattle.stream_follower.specs.declared.writing.Outbound.{Outbound}
-use Rattle.stream_follower.specs.declared.writing.Outbound.TheVariants as outbounds
-use Rattle.stream_follower.specs.Followed.{Follows}
-use Rattle.stream_follower.specs.Writing.{HoldNothing, IsCut, PutsTo, Wrote}
-use Rattle.session_report.specs.declared.reading.Event.{Event}
-use Rattle.session_report.specs.declared.reading.Event.TheVariants as said
-use Rattle.session_report.specs.declared.reporter.Outcome.{Outcome}
-use Rattle.session_report.specs.declared.reporter.Outcome.TheVariants as reached
+use Rattle.session_report.specs.declared.{reading.Event.Event, reporter.Outcome.Outcome}
 use Rattle.session_report.specs.Report.{last_line, outcome, report}
 use Rattle.session_report.specs.Saying.{event_for, said_by}
-use Rattle.client.specs.declared.caller.Ack.{Ack}
-use Rattle.client.specs.declared.caller.Ack.TheVariants.{Awaited, Read}
-use Rattle.client.specs.declared.outcome.CallOutcome.{CallOutcome}
-use Rattle.client.specs.declared.outcome.ClientIn.{ClientIn}
-use Rattle.client.specs.declared.outcome.ClientIn.TheVariants.{Ended, Offended, PeerFault}
-use Rattle.client.specs.declared.outcome.ClientIn.TheVariants.{ReadFault, Memory}
-use Rattle.client.specs.declared.outcome.ClientOut.{ClientOut}
+use Rattle.command_words.specs.declared.task.Detail.TheVariants.{Whole}
+use Rattle.client.specs.declared.caller.Ack.{Ack, TheVariants.Awaited, TheVariants.Read}
+use Rattle.client.specs.declared.outcome.{CallOutcome.CallOutcome, ClientOut.ClientOut}
+use Rattle.client.specs.declared.outcome.ClientIn.{ClientIn, TheVariants.ReadFault}
+use Rattle.client.specs.declared.outcome.ClientIn.TheVariants.{Ended, Memory, Offended, PeerFault}
+use Rattle.client.specs.Sent.{due_next, envelopes, HasBroken, HasSentAll, HasSentFitting, Sending}
+use Rattle.stream_loop.specs.declared.following.Ending.TheVariants as endings
+use Rattle.stream_loop.specs.declared.outbound.Outbound.TheVariants as outbounds
+use Rattle.session_report.specs.declared.reading.Event.TheVariants as said
+use Rattle.session_report.specs.declared.reporter.Outcome.TheVariants as reached
 use Rattle.client.specs.declared.outcome.ClientOut.TheVariants as out
-use Rattle.client.specs.Sent.{HasBroken, HasSentAll, HasSentFitting, Sending, due_next, envelopes}
-use Rattle.client.specs.Sent.{sent_by}
 
 -- ---- the peer's stream
 

@@ -1,29 +1,19 @@
 -- What a caller has heard, reported and sent.
-use Rattle.std.specs.Prelude.{◌≡◌, ⊤, ℕ, List, [], Bool, Option, Ok, map}
-use Rattle.nbfx_values.specs.declared.content.Item.{Item}
-use Rattle.nbfx_values.specs.declared.refusals.Offence.{Offence}
-use Rattle.stream_loop.specs.Edges.{Input}
-use Rattle.stream_reader.specs.Stream.{stream}
-use Rattle.stream_follower.specs.declared.following.Ending.{Ending}
-use Rattle.stream_follower.specs.Followed.{Follows}
-use Rattle.stream_follower.specs.declared.writing.Outbound.{Outbound}
-use Rattle.stream_follower.specs.declared.writing.Outbound.TheVariants as outbounds
-use Rattle.stream_follower.specs.Writing.{Goes, PutsTo, Writes}
-use Rattle.command_words.specs.declared.task.Detail.TheVariants.{Whole}
-use Rattle.session_report.specs.declared.reading.Event.{Event}
-use Rattle.session_report.specs.declared.reporter.Outcome.TheVariants as reached
+use Rattle.std.specs.Prelude.{◌≡◌, ℕ, Bool, ◌⊎◌, List, [], map, Ok, Option, ⊤}
+use Rattle.nbfx_values.specs.declared.{content.Item.Item, refusals.Offence.Offence}
+use Rattle.{stream_reader.specs.Stream.stream, session_report.specs.declared.reading.Event.Event}
+use Rattle.stream_loop.specs.declared.{following.Ending.Ending, outbound.Outbound.Outbound}
+use Rattle.stream_loop.specs.{Edges.Input, Followed.Follows}
+use Rattle.stream_loop.specs.Writing.{Goes, PutsTo, TellsAlike, Writes}
 use Rattle.session_report.specs.Saying.{event_for, said_by, said_lines}
-use Rattle.client.specs.declared.caller.Ack.{Ack}
-use Rattle.client.specs.declared.caller.Ack.TheVariants.{Awaited, Read}
-use Rattle.client.specs.declared.caller.Caller.{Caller}
-use Rattle.client.specs.declared.caller.Outputs.{Outputs}
-use Rattle.client.specs.declared.outcome.ClientOut.{ClientOut}
+use Rattle.command_words.specs.declared.task.Detail.TheVariants.{Whole}
+use Rattle.client.specs.declared.caller.Ack.{Ack, TheVariants.Awaited, TheVariants.Read}
+use Rattle.client.specs.declared.caller.{Caller.Caller, Outputs.Outputs}
+use Rattle.client.specs.declared.{outcome.ClientOut.ClientOut, outgoing.Outgoing.Outgoing}
 use Rattle.client.specs.Called.{ack_along, answers_to, reached_along}
-use Rattle.client.specs.declared.outgoing.Outgoing.{Outgoing}
-use Rattle.client.specs.Cuts.{sending_by}
-use Rattle.client.specs.Outgoing.{Carries}
-use Rattle.client.specs.Sent.{SendsAll}
-use Rattle.client.specs.Writing.{out_of}
+use Rattle.client.specs.{Cuts.sending_by, Outgoing.Carries, Sent.SendsAll, Writing.out_of}
+use Rattle.stream_loop.specs.declared.outbound.Outbound.TheVariants as outbounds
+use Rattle.session_report.specs.declared.reporter.Outcome.TheVariants as reached
 
 -- nothing was put since a sink was like the first
 abbrev pub StaysSent : {K : Type 0} → K → (o : Outbound) → ClientOut → (sent : ℕ) → K → Type 0
@@ -31,15 +21,26 @@ StaysSent first opened outbound sent now = (outbound ≡ out_of opened) × (sent
 
 module _ {K : Type 0} (written : K → Option (List ℕ)) (held : K → List ℕ) (faults : K → ℕ)
     (may_want : K → Bool) (o : Outgoing) where
+  -- nothing will be
+  abbrev pub NeverSends : (opened : Outbound) → (first : K) → ClientOut → (sent : ℕ) → K → Type 0
+  NeverSends opened first outbound sent now = (outbound ≡ out_of opened) × (sent ≡ 0)
+      × TellsAlike written held faults may_want first now
+
   -- What was put behind the opening, which was written so far, when the sink was like the first: of
   -- the documents of which this is sent.
+  -- Where the opening isn't written whole, nothing is put behind it.
   abbrev pub SendsSo : (opened : Outbound) → (first : K) → Ack → ClientOut → (sent : ℕ) → K → Type 0
   SendsSo outbounds.Done first Read outbound sent now = (documents : List (List Item))
       → Carries documents o → (start : K) (before : List ℕ)
       → PutsTo written held faults may_want start first before (Ok tt)
       → SendsAll (sending_by o.settings documents) written held faults may_want before start
       outbound sent now
-  SendsSo opened first ack outbound sent now = StaysSent first opened outbound sent now
+  SendsSo outbounds.Done first Awaited outbound sent now =
+      StaysSent first outbounds.Done outbound sent now
+  SendsSo outbounds.WriteFault first ack outbound sent now =
+      NeverSends outbounds.WriteFault first outbound sent now
+  SendsSo outbounds.Memory first ack outbound sent now =
+      NeverSends outbounds.Memory first outbound sent now
 
 module _ {O : Type 0} (written : O → Option (List ℕ)) (held : O → List ℕ) (faults : O → ℕ)
     (may_want : O → Bool) where
@@ -69,6 +70,17 @@ module _ {K : Type 0} (k_written : K → Option (List ℕ)) (k_held : K → List
     pub same_sink : now.sink.ghost_name ≡ first.sink.ghost_name
     pub same_output : now.report.ghost_name ≡ first.report.ghost_name
     pub heard : HasHeard first.sink.now first.report.now events caller now.sink.now now.report.now
+
+-- nothing is put to the sink any more
+abbrev pub HasEnded : (opened : Outbound) → Ack → Type 0
+HasEnded opened ack = (opened ≡ outbounds.Done → ⊥) ⊎ (ack ≡ Read)
+
+-- An event may be waited for: the lines of those before have left, unless the writing of the report
+-- has ended; and where nothing is put to the sink any more, its direction was ended.
+pub record MayWait {K O : Type 0} (ended : K → Type 0) (held : O → List ℕ) (caller : Caller)
+    (now : Outputs K O) : Type 0 where
+  pub reported : caller.report ≡ outbounds.Done → held now.report.now ≡ []
+  pub told : HasEnded caller.opened caller.ack → ended now.sink.now
 
 -- a caller before the first event
 pub record IsFresh (caller : Caller) : Type 0 where

@@ -1,11 +1,9 @@
 -- Where the bytes of a call may be cut, since a write may take a part of them.
-use Rattle.std.specs.Prelude.{◌≡◌, ℕ, ◌+◌, leb, if◌then◌else◌, List, [], ◌∷◌, ◌++◌, length, take}
-use Rattle.std.specs.Prelude.{Ok}
-use Rattle.nbfx_values.specs.QuotasOf.{limits_of}
-use Rattle.nbfx_values.specs.declared.content.Item.{Item}
-use Rattle.string_tables.specs.StringTable.{StringTable}
+use Rattle.std.specs.Prelude.{◌≡◌, ℕ, ◌+◌, leb, List, [], ◌∷◌, ◌++◌, length, take, if◌then◌else◌}
+use Rattle.{std.specs.Prelude.Ok, string_tables.specs.StringTable.StringTable}
+use Rattle.nbfx_values.specs.{declared.content.Item.Item, QuotasOf.limits_of}
 use Rattle.client.specs.declared.outgoing.CallSettings.{CallSettings}
-use Rattle.client.specs.Sent.{Sending, due_next, envelopes, sending}
+use Rattle.client.specs.Sent.{due_next, envelopes, Sending, sending}
 
 -- documents that are sent by these settings
 abbrev pub sending_by : CallSettings → List (List Item) → Sending

@@ -1,21 +1,14 @@
 -- The envelopes that are made of documents as these come.
-use Rattle.std.specs.Prelude.{◌≡◌, ℕ, ◌≤◌, List, [], ◌∷◌, ◌++◌, length, Option, None, Some, Ok}
-use Rattle.nbfx_values.specs.QuotasOf.{limits_of}
-use Rattle.nbfx_values.specs.declared.content.Item.{Item}
-use Rattle.nbfx_values.specs.declared.session.Mode.{Mode}
-use Rattle.nbfx_values.specs.declared.session.Mode.TheVariants.{Singleton}
+use Rattle.std.specs.Prelude.{◌≡◌, ℕ, ◌≤◌, List, [], ◌∷◌, ◌++◌, length, Some, None, Ok, Option}
 use Rattle.string_tables.specs.StringTable.{StringTable}
-use Rattle.nbfx_encoder.specs.declared.faults.EncodeFault.{EncodeFault}
-use Rattle.nbfx_encoder.specs.declared.sender.SendState.{SendState}
-use Rattle.nbfx_encoder.specs.declared.sender.SendState.TheVariants.{Ready}
-use Rattle.nbfx_encoder.specs.declared.sender.Sender.{Sender}
-use Rattle.nbfx_encoder.specs.EncoderState.{Refuses}
+use Rattle.nbfx_values.specs.{declared.content.Item.Item, QuotasOf.limits_of}
+use Rattle.nbfx_values.specs.declared.session.Mode.{Mode, TheVariants.Singleton}
+use Rattle.nbfx_encoder.specs.declared.{faults.EncodeFault.EncodeFault, sender.Sender.Sender}
+use Rattle.nbfx_encoder.specs.declared.sender.SendState.{SendState, TheVariants.Ready}
+use Rattle.nbfx_encoder.specs.{EncoderState.Refuses, Sending.state_in, Spelling.encoded}
 use Rattle.nbfx_encoder.specs.Sending.{behind_message, kind_in, limits_in, mode_in, names_in}
-use Rattle.nbfx_encoder.specs.Sending.{state_in}
-use Rattle.nbfx_encoder.specs.Spelling.{encoded}
-use Rattle.client.specs.declared.outgoing.CallSettings.{CallSettings}
+use Rattle.client.specs.{declared.outgoing.CallSettings.CallSettings, Sent.envelopes}
 use Rattle.client.specs.Cuts.{CutsAt, sending_by, whole_within}
-use Rattle.client.specs.Sent.{envelopes}
 
 -- where a half is behind these documents
 abbrev pub moment_behind : Mode → List (List Item) → SendState

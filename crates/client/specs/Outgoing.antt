@@ -1,19 +1,15 @@
 -- What is to be sent of documents: their envelopes one behind the other, and where each ends.
-use Rattle.std.specs.Prelude.{◌≡◌, ⊤, ℕ, List, [], ◌∷◌, ◌++◌, length, Bool, true, false, Option}
-use Rattle.std.specs.Prelude.{None, Some, Ok}
+use Rattle.std.specs.Prelude.{◌≡◌, ℕ, Bool, true, false, List, [], ◌∷◌, ◌++◌, length, Some, None}
+use Rattle.std.specs.Prelude.{Ok, Option, ⊤}
+use Rattle.{string_tables.specs.StringTable.StringTable, nbfx_encoder.specs.EncoderState.Refuses}
 use Rattle.nbfx_values.specs.declared.content.Item.{Item}
-use Rattle.string_tables.specs.StringTable.{StringTable}
-use Rattle.nmf_records.specs.declared.frame.Frame.TheVariants.{End}
-use Rattle.nmf_records.specs.Writing.{frame_bytes_of}
-use Rattle.nbfx_encoder.specs.declared.faults.EncodeFault.{EncodeFault}
-use Rattle.nbfx_encoder.specs.declared.faults.EncodeFault.TheVariants as encode
-use Rattle.nbfx_encoder.specs.EncoderState.{Refuses}
-use Rattle.nbfx_encoder.specs.Spelling.{encoded}
-use Rattle.client.specs.declared.outgoing.Envelopes.{Envelopes}
-use Rattle.client.specs.declared.outgoing.Outgoing.{Outgoing}
+use Rattle.nmf_records.specs.{declared.frame.Frame.TheVariants.End, Writing.frame_bytes_of}
+use Rattle.nbfx_encoder.specs.{declared.faults.EncodeFault.EncodeFault, Spelling.encoded}
+use Rattle.client.specs.declared.outgoing.{Envelopes.Envelopes, Outgoing.Outgoing}
 use Rattle.client.specs.Cuts.{CutsAt, sending_by, whole_within}
 use Rattle.client.specs.Making.{AreFew, IsSet, MadeSoFar}
-use Rattle.client.specs.Sent.{Sending, envelopes}
+use Rattle.client.specs.Sent.{envelopes, Sending}
+use Rattle.nbfx_encoder.specs.declared.faults.EncodeFault.TheVariants as encode
 
 -- these documents were added
 pub record HasAdded (documents : List (List Item)) (e : Envelopes) : Type 0 where

@@ -1,30 +1,20 @@
 -- What a client sends: an opening, an envelope for each document, and an End record (MC-NMF). What
 -- became of a sink that it was put to, however the writing ended.
-use Rattle.std.specs.Prelude.{◌≡◌, ℕ, List, [], ◌∷◌, ◌++◌, length, take, Bool, Option}
-use Rattle.std.specs.Prelude.{Result, Ok, Err}
-use Rattle.io_edges.specs.Faults.{CountsFaults}
-use Rattle.io_edges.specs.Flow.{GrowsByPrefix, Told}
-use Rattle.nbfx_values.specs.Limits.{Limits}
-use Rattle.nbfx_values.specs.declared.content.Item.{Item}
-use Rattle.nbfx_values.specs.declared.session.Kind.{Kind}
-use Rattle.nbfx_values.specs.declared.session.Mode.{Mode}
-use Rattle.string_tables.specs.StaticStrings.{Entry}
-use Rattle.string_tables.specs.StringTable.{StringTable}
-use Rattle.nmf_records.specs.declared.frame.Frame.TheVariants.{End}
-use Rattle.nmf_records.specs.Writing.{frame_bytes_of}
-use Rattle.nbfx_encoder.specs.declared.faults.EncodeFault.{EncodeFault}
-use Rattle.nbfx_encoder.specs.Envelopes.{UnfitAt, envelope, envelopes_from}
-use Rattle.nbfx_encoder.specs.Placing.{Placed}
-use Rattle.nbfx_encoder.specs.Refusals.{told}
-use Rattle.nbfx_encoder.specs.Spelling.{Unfit, encoded}
-use Rattle.initiator_machine.specs.Opening.{opening_bytes}
-use Rattle.session_ends.specs.Sent.{first_table}
-use Rattle.stream_follower.specs.declared.writing.Outbound.{Outbound}
-use Rattle.stream_follower.specs.declared.writing.Outbound.TheVariants as outbounds
-use Rattle.stream_follower.specs.Writing.{HoldNothing, PutsTo}
-use Rattle.client.specs.declared.outcome.ClientOut.{ClientOut}
-use Rattle.client.specs.declared.outcome.ClientOut.TheVariants.{Done, Unfit as UnfitDocument}
-use Rattle.client.specs.declared.outcome.ClientOut.TheVariants.{WriteFault, Memory}
+use Rattle.std.specs.Prelude.{◌≡◌, ℕ, Bool, List, [], ◌∷◌, ◌++◌, length, take, Ok, Err, Option}
+use Rattle.{std.specs.Prelude.Result, nbfx_values.specs.Limits.Limits}
+use Rattle.io_edges.specs.{Faults.CountsFaults, Flow.GrowsByPrefix, Flow.Told}
+use Rattle.string_tables.specs.{StaticStrings.Entry, StringTable.StringTable}
+use Rattle.nbfx_values.specs.declared.{content.Item.Item, session.Kind.Kind, session.Mode.Mode}
+use Rattle.nmf_records.specs.{declared.frame.Frame.TheVariants.End, Writing.frame_bytes_of}
+use Rattle.nbfx_encoder.specs.{declared.faults.EncodeFault.EncodeFault, Refusals.told}
+use Rattle.nbfx_encoder.specs.Envelopes.{envelope, envelopes_from, UnfitAt}
+use Rattle.nbfx_encoder.specs.{Placing.Placed, Spelling.encoded, Spelling.Unfit}
+use Rattle.stream_loop.specs.declared.outbound.Outbound.{Outbound}
+use Rattle.stream_loop.specs.Writing.{HoldNothing, PutsTo}
+use Rattle.{initiator_machine.specs.Opening.opening_bytes, session_ends.specs.Sent.first_table}
+use Rattle.client.specs.declared.outcome.ClientOut.{ClientOut, TheVariants.Done, TheVariants.Memory}
+use Rattle.client.specs.declared.outcome.ClientOut.TheVariants.{Unfit as UnfitDocument, WriteFault}
+use Rattle.stream_loop.specs.declared.outbound.Outbound.TheVariants as outbounds
 
 -- documents, and how they are sent: within which quotas, with which static strings, in which mode
 -- and encoding

@@ -1,10 +1,9 @@
 -- How the opening of a call is put to a sink, and how its writing ends.
-use Rattle.std.specs.Prelude.{◌≡◌, ℕ, List, [], Bool, Option, Ok}
-use Rattle.stream_follower.specs.declared.writing.Outbound.{Outbound}
-use Rattle.stream_follower.specs.declared.writing.Outbound.TheVariants as outbounds
-use Rattle.stream_follower.specs.Writing.{IsCut, PutsTo}
+use Rattle.std.specs.Prelude.{◌≡◌, ℕ, Bool, List, [], Ok, Option}
+use Rattle.stream_loop.specs.{declared.outbound.Outbound.Outbound, Writing.IsCut, Writing.PutsTo}
 use Rattle.client.specs.declared.outcome.ClientOut.{ClientOut}
-use Rattle.client.specs.declared.outcome.ClientOut.TheVariants.{Done, WriteFault, Memory}
+use Rattle.client.specs.declared.outcome.ClientOut.TheVariants.{Done, Memory, WriteFault}
+use Rattle.stream_loop.specs.declared.outbound.Outbound.TheVariants as outbounds
 
 abbrev pub out_of : Outbound → ClientOut
 out_of outbounds.Done = Done

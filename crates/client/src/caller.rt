@@ -1,13 +1,13 @@
 //! What hears the events of the peer's stream, and answers and reports them.
 
-ghost use Rattle.std.specs.Prelude.{◌≡◌, List, ℕ, ⊤, true, Result};
-ghost use Rattle.stream_follower.specs.Writing.{Goes, Writes, Wrote, outbound_by};
+ghost use Rattle.std.specs.Prelude.{◌≡◌, List, [], ℕ, ⊤, true, Result};
+ghost use Rattle.stream_loop.specs.Writing.{Goes, Writes, Wrote, outbound_by};
 ghost use Rattle.io_edges.specs.declared.SinkFault.{SinkFault as Fault};
 ghost use Rattle.command_words.specs.declared.task.Detail.{Detail as Shown};
 ghost use Rattle.session_report.specs.declared.reading.Event.{Event as Heard};
 ghost use Rattle.session_report.specs.Saying.{said_by, said_lines, said_outcome};
 ghost use Rattle.client.specs.Called.{ack_after, closing_of};
-ghost use Rattle.client.specs.Calling.{IsFresh, Reports, SendsSo};
+ghost use Rattle.client.specs.Calling.{HasEnded, IsFresh, Reports, SendsSo};
 ghost use Rattle.client.specs.Writing.{out_of};
 
 use crate::outcome::{ClientOut, client_out};
@@ -17,8 +17,7 @@ use command_words::Detail;
 use io_edges::{Sink, SinkFault};
 use nbfx_values::Offence;
 use session_report::{Event, LineReporter, Outcome};
-use stream_follower::{Ending, Listener, Outbound, flush};
-use stream_loop::Reporter;
+use stream_loop::{FollowEnding as Ending, Listener, Outbound, Reporter, flush};
 use unit_streams::Memory;
 
 /// Whether the peer's Preamble Ack was read.
@@ -182,6 +181,45 @@ impl<'s> Caller<'s> {
         self.reached = reached_after(self.reached, event);
     }
 
+    // Writes the lines that the output holds, unless the writing of the report has ended.
+    fn write_lines<O: Sink>(&mut self, output: &mut O)
+        ensures writes { (first : O) (events : List Heard)
+            → Writes O.written O.held O.faults O.may_want (said_by Shown.Whole) self.old.report
+            first events self.old.reached (λ s. ⊤) output.old
+            → Writes O.written O.held O.faults O.may_want (said_by Shown.Whole) self.new.report
+            first events self.old.reached (λ s. ⊤) output.new }
+        ensures written { self.new.report ≡ Outbound.Done → O.held output.new ≡ [] }
+        ensures reached { self.new.reached ≡ self.old.reached }
+        ensures outgoing { self.new.outgoing ≡ self.old.outgoing }
+        ensures opened { self.new.opened ≡ self.old.opened }
+        ensures ack { self.new.ack ≡ self.old.ack }
+        ensures sent { self.new.sent ≡ self.old.sent }
+        ensures outbound { self.new.outbound ≡ self.old.outbound }
+    {
+        if self.report.is_going() {
+            self.report = flush(output);
+        }
+    }
+
+    // Ends the direction of the sink, where nothing is put to it any more.
+    fn end_sending<K: Sink>(&self, sink: &mut K)
+        ensures sends { (first : K) → SendsSo K.written K.held K.faults K.may_want
+            self.now.outgoing self.now.opened first self.now.ack self.now.outbound
+            self.now.sent sink.old
+            → SendsSo K.written K.held K.faults K.may_want self.now.outgoing
+            self.now.opened first self.now.ack self.now.outbound self.now.sent sink.new }
+        ensures ended { HasEnded self.now.opened self.now.ack → K.ended sink.new }
+    {
+        if !self.opened.is_going() {
+            sink.end();
+            return;
+        }
+        match self.ack {
+            Ack::Read => sink.end(),
+            Ack::Awaited => {}
+        }
+    }
+
     /// Puts the last line and writes what the output holds, unless the writing of the report has
     /// ended.
     pub fn close<O: Sink>(&mut self, ending: Ending<Offence>, output: &mut O)
@@ -206,8 +244,8 @@ impl<'s> Caller<'s> {
 
 impl<'s, 'k, 'o, K: Sink, O: Sink> Listener<Event, Outputs<'k, 'o, K, O>> for Caller<'s> {
     ghost use Rattle.client.specs.declared.outgoing.Outgoing.{Outgoing as Due};
-    ghost use Rattle.client.specs.Calling.{IsAlong};
-    ghost use Rattle.stream_follower.specs.declared.writing.Outbound.{Outbound as Stands};
+    ghost use Rattle.client.specs.Calling.{IsAlong, MayWait};
+    ghost use Rattle.stream_loop.specs.declared.outbound.Outbound.{Outbound as Stands};
 
     ghost Settings = { Due × Stands };
 
@@ -218,6 +256,8 @@ impl<'s, 'k, 'o, K: Sink, O: Sink> Listener<Event, Outputs<'k, 'o, K, O>> for Ca
 
     ghost may_take_memory = { λ caller. ⊥ };
 
+    ghost may_wait = { λ caller now. MayWait K.ended O.held caller now };
+
     fn hear(&mut self, event: Event, outputs: &mut Outputs<'k, 'o, K, O>) -> Result<Event, Memory> {
         self.report(&event, outputs.report);
         self.answer(&event, outputs.sink);
@@ -225,8 +265,7 @@ impl<'s, 'k, 'o, K: Sink, O: Sink> Listener<Event, Outputs<'k, 'o, K, O>> for Ca
     }
 
     fn pause(&mut self, outputs: &mut Outputs<'k, 'o, K, O>) {
-        if self.report.is_going() {
-            self.report = flush(outputs.report);
-        }
+        self.write_lines(outputs.report);
+        self.end_sending(outputs.sink);
     }
 }

@@ -7,8 +7,8 @@ ghost use Rattle.session_ends.specs.Sent.{MayBeSent};
 ghost use Rattle.stream_loop.specs.Edges.{input_at};
 ghost use Rattle.stream_reader.specs.StreamReaderState.{StandsFor, settings_of};
 ghost use Rattle.stream_reader.specs.Stream.{stream};
-ghost use Rattle.stream_follower.specs.Followed.{Follows};
-ghost use Rattle.stream_follower.specs.Writing.{HoldNothing};
+ghost use Rattle.stream_loop.specs.Followed.{Follows};
+ghost use Rattle.stream_loop.specs.Writing.{HoldNothing};
 ghost use Rattle.session_report.specs.Saying.{event_for};
 ghost use Rattle.client.specs.Called.{Calls, IsAckOf, Judges, KnownCall, ReportsOf, WritesCall};
 ghost use Rattle.client.specs.Called.{dumped, inbound_by};
@@ -28,7 +28,7 @@ use nbfx_values::{Docs, Kind, Mode, Offence, Quotas};
 use session_report::{Outcome, StreamEnd};
 use static_dictionary::StaticTable;
 use std::alloc::Global;
-use stream_follower::{Ending, follow_stream};
+use stream_loop::{FollowEnding as Ending, follow_stream};
 use stream_reader::Side;
 
 fn inbound_by(ending: Ending<Offence>, reached: Outcome) -> ClientIn

@@ -5,7 +5,7 @@ ghost use Rattle.client.specs.Writing.{out_of};
 
 use nbfx_encoder::EncodeFault;
 use nbfx_values::Offence;
-use stream_follower::Outbound;
+use stream_loop::Outbound;
 
 /// How the reading of the peer's stream ended.
 #[derive(Clone, Copy, Debug, PartialEq, Eq)]

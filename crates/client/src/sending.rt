@@ -3,7 +3,7 @@
 ghost use Rattle.std.specs.Prelude.{◌≡◌, ◌++◌, ◌≤◌, Result, List, ℕ, length};
 ghost use Rattle.nbfx_values.specs.declared.content.Item.{Item as Part};
 ghost use Rattle.initiator_machine.specs.Opening.{opening_bytes};
-ghost use Rattle.stream_follower.specs.Writing.{PutsTo};
+ghost use Rattle.stream_loop.specs.Writing.{PutsTo};
 ghost use Rattle.client.specs.Cuts.{CutsAt, sending_by, whole_within};
 ghost use Rattle.client.specs.Outgoing.{Carries, HoldsSo};
 ghost use Rattle.client.specs.Sent.{Sending, SendsAll};
@@ -16,7 +16,7 @@ use io_edges::Sink;
 use nbfx_encoder::EncodeFault;
 use nbfx_values::{Kind, Mode};
 use std::alloc::Global;
-use stream_follower::{Outbound, flush, put_bytes, put_parts, starve};
+use stream_loop::{Outbound, flush, put_bytes, put_parts, starve};
 use unit_streams::Memory;
 
 /// How the writing of envelopes ended.

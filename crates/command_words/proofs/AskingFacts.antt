@@ -1,40 +1,32 @@
 -- What values ask for, computed.
-use Rattle.std.proofs.Common.{◌≡◌, ◌<◌, ◌≤◌, ◌^◌, ◌∙◌, ℕ, length, Bool, true, ◌&&◌, Option, Some}
-use Rattle.std.proofs.Common.{None, refl, sym, ap, subst, inl, inr, arith}
-use Rattle.std.specs.Fmt.{decimal}
-use Rattle.std.specs.Prelude.{if◌then◌else◌, nat_le, option_and_then, option_map}
-use Rattle.std.proofs.lemmas.Bool.{cases_Bool, le-leb, leb-true}
-use Rattle.std.proofs.lemmas.Option.{option_and_then_some}
+use Rattle.std.proofs.Common.{◌≡◌, ℕ, ◌^◌, ◌<◌, ◌≤◌, Bool, true, ◌&&◌, length, if◌then◌else◌}
+use Rattle.std.proofs.Common.{nat_le, Some, None, decimal, Option, option_map, option_and_then, sym}
+use Rattle.std.proofs.Common.{refl, ap, ◌∙◌, subst, inl, inr, arith, le-leb, leb-true}
+use Rattle.std.proofs.lemmas.{Bool.cases_Bool, Option.option_and_then_some}
 use Rattle.clap.proofs.WalkLemmas.{both}
+use Rattle.nbfx_values.specs.declared.session.{Kind.Kind, Mode.Mode, Mode.TheVariants.Duplex}
 use Rattle.nbfx_values.specs.Limits.{IsGood, Limits, limits, usual_limits}
-use Rattle.nbfx_values.specs.declared.session.Kind.{Kind}
-use Rattle.nbfx_values.specs.declared.session.Kind.TheVariants as kinds
-use Rattle.nbfx_values.specs.declared.session.Mode.{Mode}
-use Rattle.nbfx_values.specs.declared.session.Mode.TheVariants.{Duplex}
-use Rattle.command_words.specs.declared.action.Action.{Action}
-use Rattle.command_words.specs.declared.action.Action.TheVariants.{Check, Dump, Build, Replay}
-use Rattle.command_words.specs.declared.action.Action.TheVariants.{Serve, Call, Gen}
-use Rattle.command_words.specs.declared.option_name.OptionName.TheVariants.{Static, Replies, Via}
+use Rattle.command_words.specs.declared.{action.Action.Action, task.Origin.Origin}
+use Rattle.command_words.specs.declared.action.Action.TheVariants.{Build, Call, Check, Dump, Gen}
+use Rattle.command_words.specs.declared.action.Action.TheVariants.{Replay, Serve}
+use Rattle.command_words.specs.declared.option_name.OptionName.TheVariants.{Connect, Connections}
+use Rattle.command_words.specs.declared.option_name.OptionName.TheVariants.{Content, Count, Depth}
+use Rattle.command_words.specs.declared.option_name.OptionName.TheVariants.{Dictionary, Encoding}
+use Rattle.command_words.specs.declared.option_name.OptionName.TheVariants.{Listen, Static, Via}
 use Rattle.command_words.specs.declared.option_name.OptionName.TheVariants.{Mode as ModeOption}
-use Rattle.command_words.specs.declared.option_name.OptionName.TheVariants.{Encoding, Listen}
-use Rattle.command_words.specs.declared.option_name.OptionName.TheVariants.{Connections, Connect}
-use Rattle.command_words.specs.declared.option_name.OptionName.TheVariants.{Second, Seed, Count}
-use Rattle.command_words.specs.declared.option_name.OptionName.TheVariants.{Payload, Depth}
-use Rattle.command_words.specs.declared.option_name.OptionName.TheVariants.{Dictionary, Content}
-use Rattle.command_words.specs.declared.option_name.OptionName.TheVariants.{Session}
-use Rattle.command_words.specs.declared.task.Detail.{Detail}
-use Rattle.command_words.specs.declared.task.Detail.TheVariants.{Summary, Whole}
-use Rattle.command_words.specs.declared.task.Origin.{Origin}
+use Rattle.command_words.specs.declared.option_name.OptionName.TheVariants.{Payload, Replies}
+use Rattle.command_words.specs.declared.option_name.OptionName.TheVariants.{Second, Seed, Session}
+use Rattle.command_words.specs.declared.task.Detail.{Detail, TheVariants.Summary, TheVariants.Whole}
 use Rattle.command_words.specs.declared.task.Origin.TheVariants.{Initiator, Receiver}
-use Rattle.command_words.specs.Options.{Text}
-use Rattle.command_words.specs.Requests.{AreLimits, AskFor, AskForTask, AskToBuild, AskToCall}
-use Rattle.command_words.specs.Requests.{AskToGenerate, AskToReport, AskToServe, Asked, IsOpening}
-use Rattle.command_words.specs.Requests.{IsOrigin, Values, most_connections, most_documents}
-use Rattle.command_words.specs.Requests.{serving_in, usual_content}
-use Rattle.command_words.specs.Tasks.{Opening, Task, report, build, replay, serve, call, generate}
+use Rattle.command_words.{specs.Options.Text, proofs.ValueFacts.read_or-sound}
+use Rattle.command_words.specs.Requests.{AreLimits, Asked, AskFor, AskForTask, AskToBuild}
+use Rattle.command_words.specs.Requests.{AskToCall, AskToGenerate, AskToReport, AskToServe}
+use Rattle.command_words.specs.Requests.{IsOpening, IsOrigin, most_connections, most_documents}
+use Rattle.command_words.specs.Requests.{serving_in, usual_content, Values}
+use Rattle.command_words.specs.Tasks.{build, call, generate, Opening, replay, report, serve, Task}
 use Rattle.command_words.proofs.ValueFacts.{kind_in, kinds_read, mode_in, modes, number_in}
 use Rattle.command_words.proofs.ValueFacts.{number_in-small, numbers, read_or, read_or-complete}
-use Rattle.command_words.proofs.ValueFacts.{read_or-sound}
+use Rattle.nbfx_values.specs.declared.session.Kind.TheVariants as kinds
 
 -- ---- limits
 

@@ -1,30 +1,23 @@
 -- What a parse of clap tells of the words.
-use Rattle.std.proofs.Common.{◌≡◌, ◌∙◌, true, false, List, [], refl, subst, sym, ap, ap₂, inl, inr}
+use Rattle.std.proofs.Common.{◌≡◌, true, false, List, [], sym, refl, ap, ◌∙◌, subst, ap₂, inl, inr}
 use Rattle.std.specs.List.{AllByRecursion}
-use Rattle.clap.specs.Kinds.{HasKind, or_else}
-use Rattle.clap.specs.Matches.{found_of}
-use Rattle.clap.specs.Walk.{first_of, nothing_held, rows_after}
-use Rattle.clap.specs.Simple.{App, HasMatchesOf, argument_words, is_simple, matches_of, names_of}
+use Rattle.clap.proofs.{FaultLemmas.leaf_fault, WalkLemmas.both, WalkLemmas.first_value-rows}
+use Rattle.clap.specs.declared.error.{Error.Error, kind.ErrorKind.TheVariants.OutOfMemory}
+use Rattle.clap.specs.{declared.parser.matches.ArgMatches.ArgMatches, Values.kind_of}
 use Rattle.clap.specs.Faults.{built_fault, fault_of, is_simple_and_free, settle_fault, walk_fault}
-use Rattle.clap.specs.declared.parser.matches.ArgMatches.{ArgMatches}
-use Rattle.clap.proofs.FaultLemmas.{leaf_fault}
-use Rattle.clap.proofs.WalkLemmas.{both, first_value-rows}
-use Rattle.clap.specs.Values.{kind_of}
-use Rattle.clap.specs.declared.error.Error.{Error}
-use Rattle.clap.specs.declared.error.kind.ErrorKind.TheVariants.{OutOfMemory}
-use Rattle.command_words.specs.declared.action.Action.{Action}
-use Rattle.command_words.specs.declared.option_name.OptionName.{OptionName}
-use Rattle.command_words.specs.Options.{Given, IsOnce, SpellOptions, Text, option_text, given_for}
-use Rattle.command_words.specs.Commands.{options_of, word_of}
-use Rattle.command_words.specs.WordAnswers.{HasTaken, IsReadable, app_for, app_with, found_values}
-use Rattle.command_words.specs.Requests.{GiveOptions}
+use Rattle.clap.specs.{Kinds.HasKind, Kinds.or_else, Matches.found_of}
+use Rattle.clap.specs.Simple.{App, argument_words, HasMatchesOf, is_simple, matches_of, names_of}
+use Rattle.clap.specs.Walk.{first_of, nothing_held, rows_after}
+use Rattle.command_words.specs.declared.{action.Action.Action, option_name.OptionName.OptionName}
+use Rattle.command_words.specs.{Commands.options_of, Commands.word_of, Requests.GiveOptions}
+use Rattle.command_words.specs.Options.{Given, given_for, IsOnce, option_text, SpellOptions, Text}
+use Rattle.command_words.specs.WordAnswers.{app_for, app_with, found_values, HasTaken, IsReadable}
 use Rattle.command_words.proofs.OptionFacts.{new-from_once, once-from_new}
-use Rattle.command_words.proofs.ReadingFacts.{Passes, are_known, held_behind, reading-complete}
+use Rattle.command_words.proofs.ReadingFacts.{are_known, held_behind, Passes, reading-complete}
 use Rattle.command_words.proofs.ReadingFacts.{reading-sound, rows_behind}
-use Rattle.command_words.proofs.RuleFacts.{app_with-is, built-app_with, built_app, check-none}
-use Rattle.command_words.proofs.RuleFacts.{defaults-none, first_of-given}
-use Rattle.command_words.proofs.RuleFacts.{is_simple_and_free-app_with, built_rules, shape}
-use Rattle.command_words.proofs.RuleFacts.{with_default-none}
+use Rattle.command_words.proofs.RuleFacts.{app_with-is, built-app_with, built_app, built_rules}
+use Rattle.command_words.proofs.RuleFacts.{check-none, defaults-none, first_of-given}
+use Rattle.command_words.proofs.RuleFacts.{is_simple_and_free-app_with, shape, with_default-none}
 use Rattle.command_words.proofs.WalkFacts.{or_else-empty, or_else-nil, resting, walk_at}
 
 module _ (name : Text) (options : List OptionName) (words : List Text) where

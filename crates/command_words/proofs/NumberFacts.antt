@@ -1,28 +1,21 @@
 -- Numbers as values write them.
-use Rattle.std.proofs.Common.{◌≡◌, ◌≢◌, ◌∙◌, ℕ, zero, suc, ◌<◌, ◌≤◌, ◌^◌, true, [], ◌∷◌, length}
-use Rattle.std.proofs.Common.{get_or, Option, Some, None, Result, Ok, Err, refl, sym, ap, subst}
-use Rattle.std.proofs.Common.{arith, codes}
-use Rattle.std.specs.Prelude.{IfNone, IfSome, IsSome}
-use Rattle.std.specs.Result.{OkIff, result_ok}
-use Rattle.std.specs.Fmt.{decimal, digits}
-use Rattle.std.specs.Str.Parse.{AllDigits, ParsesUnsigned, digits_value}
-use Rattle.std.proofs.lemmas.Bool.{le-leb, leb-true, lt-ltb, ltb-true}
+use Rattle.std.proofs.Common.{◌≡◌, ℕ, zero, suc, ◌^◌, ◌<◌, ◌≤◌, true, ◌≢◌, [], ◌∷◌, length, get_or}
+use Rattle.std.proofs.Common.{OkIff, IfSome, IfNone, IsSome, Some, None, Ok, Err, codes, decimal}
+use Rattle.std.proofs.Common.{Option, Result, sym, refl, ap, ◌∙◌, subst, arith, ltb-true, lt-ltb}
+use Rattle.std.proofs.{Common.le-leb, Common.leb-true, lemmas.Str.Parse.tells_digits}
 use Rattle.std.proofs.lemmas.Fmt.{decimal-digits_value, decimal_digit, decimal_injective}
 use Rattle.std.proofs.lemmas.Fmt.{decimal_is_IsNumeral, first_decimal, parse-decimal}
 use Rattle.std.proofs.lemmas.Str.Parse.{IsNumeralModel, digit_at, numerals_by_value, parse_plain}
-use Rattle.std.proofs.lemmas.Str.Parse.{tells_digits}
-use Rattle.clap.proofs.WalkLemmas.{both}
+use Rattle.std.specs.{Fmt.digits, Result.result_ok}
+use Rattle.std.specs.Str.Parse.{AllDigits, ParsesUnsigned, digits_value}
+use Rattle.{clap.proofs.WalkLemmas.both, nbfx_values.specs.declared.session.Kind.TheVariants.Plain}
 use Rattle.nbfx_values.specs.Limits.{IsGood, Limits, limits, usual_limits}
-use Rattle.nbfx_values.specs.declared.session.Kind.TheVariants as kinds
-use Rattle.nbfx_values.specs.declared.session.Kind.TheVariants.{Plain}
-use Rattle.command_words.specs.declared.option_name.OptionName.{OptionName}
-use Rattle.command_words.specs.declared.option_name.OptionName.TheVariants.{Payload, Depth}
-use Rattle.command_words.specs.declared.option_name.OptionName.TheVariants.{Dictionary, Content}
-use Rattle.command_words.specs.declared.option_name.OptionName.TheVariants.{Session}
-use Rattle.command_words.specs.Options.{Text}
-use Rattle.command_words.specs.WordAnswers.{begins_plain}
+use Rattle.command_words.specs.{declared.option_name.OptionName.OptionName, Options.Text}
+use Rattle.command_words.specs.declared.option_name.OptionName.TheVariants.{Content, Depth, Session}
+use Rattle.command_words.specs.declared.option_name.OptionName.TheVariants.{Dictionary, Payload}
 use Rattle.command_words.specs.Requests.{AreLimits, usual_content}
-use Rattle.command_words.specs.Values.{IsNumber, kind_text}
+use Rattle.command_words.specs.{Values.IsNumber, Values.kind_text, WordAnswers.begins_plain}
+use Rattle.nbfx_values.specs.declared.session.Kind.TheVariants as kinds
 
 -- ---- decimal digits
 

@@ -1,23 +1,19 @@
 -- Facts about options and the values that they are given.
-use Rattle.std.proofs.Common.{◌≡◌, ◌≢◌, ◌⊎◌, ◌∙◌, suc, true, false, not, List, [], ◌∷◌, ◌++◌, Some}
-use Rattle.std.proofs.Common.{None, arith, refl, sym, ap, subst, inl, inr, codes, true≢false}
-use Rattle.std.specs.Prelude.{All, if◌then◌else◌}
-use Rattle.std.specs.List.{list_all, list_any}
-use Rattle.std.specs.Str.{bytes_eq}
-use Rattle.std.proofs.lemmas.Bool.{cases_Bool}
-use Rattle.std.proofs.lemmas.Slice.Eq.{bytes_eq-Decides}
-use Rattle.clap.proofs.WalkLemmas.{both}
-use Rattle.command_words.specs.declared.option_name.OptionName.{OptionName}
-use Rattle.command_words.specs.declared.option_name.OptionName.TheVariants.{Static, Replies, Via}
-use Rattle.command_words.specs.declared.option_name.OptionName.TheVariants.{Mode, Encoding, Listen}
-use Rattle.command_words.specs.declared.option_name.OptionName.TheVariants.{Connections, Connect}
-use Rattle.command_words.specs.declared.option_name.OptionName.TheVariants.{Second, Seed, Count}
-use Rattle.command_words.specs.declared.option_name.OptionName.TheVariants.{Endpoint, Actions}
-use Rattle.command_words.specs.declared.option_name.OptionName.TheVariants.{Payload, Depth}
-use Rattle.command_words.specs.declared.option_name.OptionName.TheVariants.{Dictionary, Content}
-use Rattle.command_words.specs.declared.option_name.OptionName.TheVariants.{Session}
-use Rattle.command_words.specs.Options.{Given, IsOnce, Text, is_empty, is_option, option_text}
-use Rattle.command_words.specs.Options.{given_for}
+use Rattle.std.proofs.Common.{◌≡◌, suc, true, false, not, ◌≢◌, ◌⊎◌, List, [], ◌∷◌, ◌++◌}
+use Rattle.std.proofs.Common.{if◌then◌else◌, Some, None, codes, All, bytes_eq, sym, refl, ap, ◌∙◌}
+use Rattle.std.proofs.Common.{subst, inl, inr, true≢false, arith}
+use Rattle.std.proofs.lemmas.{Bool.cases_Bool, Slice.Eq.bytes_eq-Decides}
+use Rattle.{std.specs.List.list_all, std.specs.List.list_any, clap.proofs.WalkLemmas.both}
+use Rattle.command_words.specs.{declared.option_name.OptionName.OptionName, Options.Text}
+use Rattle.command_words.specs.declared.option_name.OptionName.TheVariants.{Actions, Connect}
+use Rattle.command_words.specs.declared.option_name.OptionName.TheVariants.{Connections, Content}
+use Rattle.command_words.specs.declared.option_name.OptionName.TheVariants.{Count, Depth}
+use Rattle.command_words.specs.declared.option_name.OptionName.TheVariants.{Dictionary, Encoding}
+use Rattle.command_words.specs.declared.option_name.OptionName.TheVariants.{Endpoint, Listen, Mode}
+use Rattle.command_words.specs.declared.option_name.OptionName.TheVariants.{Payload, Replies}
+use Rattle.command_words.specs.declared.option_name.OptionName.TheVariants.{Second, Seed, Session}
+use Rattle.command_words.specs.declared.option_name.OptionName.TheVariants.{Static, Via}
+use Rattle.command_words.specs.Options.{Given, given_for, is_empty, is_option, IsOnce, option_text}
 
 -- ---- options by their texts
 

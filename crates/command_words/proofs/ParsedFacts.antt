@@ -1,24 +1,18 @@
 -- Words that may be given to clap, and what it makes of them.
-use Rattle.std.proofs.Common.{◌≡◌, ◌≢◌, ◌∙◌, ◌<◌, ℕ, zero, suc, false, List, [], ◌∷◌, ◌++◌, ◌+◌}
-use Rattle.std.proofs.Common.{◌-◌, ◌≤◌, drop, length, map, take, Option, Some, String, sym, ap}
-use Rattle.std.proofs.Common.{subst, inl, inr, codes, arith, slice_index_or, string_bytes}
-use Rattle.std.specs.Prelude.{All, Any}
+use Rattle.std.proofs.Common.{◌≡◌, ℕ, zero, suc, ◌+◌, ◌-◌, ◌<◌, ◌≤◌, false, ◌≢◌, List, [], ◌∷◌}
+use Rattle.std.proofs.Common.{◌++◌, map, length, take, drop, slice_index_or, Some, string_bytes}
+use Rattle.std.proofs.Common.{codes, All, Option, String, Any, sym, ap, ◌∙◌, subst, inl, inr, arith}
+use Rattle.std.proofs.{Common.take_all, lemmas.Bool.cases_lt, lemmas.List.get_or_default}
 use Rattle.std.specs.List.{AllByRecursion}
-use Rattle.clap.specs.Lexer.{long_of}
-use Rattle.std.proofs.lemmas.Bool.{cases_lt}
-use Rattle.std.proofs.lemmas.List.{get_or_default, take_all}
-use Rattle.clap.specs.declared.parser.matches.ArgMatches.{ArgMatches}
-use Rattle.command_words.specs.declared.action.Action.{Action}
+use Rattle.clap.specs.{declared.parser.matches.ArgMatches.ArgMatches, Lexer.long_of}
+use Rattle.command_words.specs.{declared.action.Action.Action, Options.Text, WordAnswers.IsReadable}
 use Rattle.command_words.specs.declared.words.WordsFault.TheVariants.{Memory, NotUnderstood}
 use Rattle.command_words.specs.Commands.{options_of, word_of}
-use Rattle.command_words.specs.Options.{Given, SpellOptions, Text, begins_with_hyphen, dashed}
-use Rattle.command_words.specs.Options.{given_for}
-use Rattle.command_words.specs.WordAnswers.{HasFound, HasTaken, IsLoneHyphens, IsReadable}
-use Rattle.command_words.specs.WordAnswers.{found_values}
-use Rattle.command_words.specs.Requests.{AskFor, Asked, GiveOptions, IsRequest, Values}
+use Rattle.command_words.specs.Options.{begins_with_hyphen, dashed, Given, given_for, SpellOptions}
+use Rattle.command_words.specs.Requests.{Asked, AskFor, GiveOptions, IsRequest, Values}
+use Rattle.command_words.specs.WordAnswers.{found_values, HasFound, HasTaken, IsLoneHyphens}
 use Rattle.command_words.proofs.OptionFacts.{among, full-from_values, full-no_empty}
-use Rattle.command_words.proofs.RequestFacts.{word_of-injective}
-use Rattle.command_words.proofs.SpellFacts.{spells-one}
+use Rattle.command_words.proofs.{RequestFacts.word_of-injective, SpellFacts.spells-one}
 use Rattle.command_words.proofs.WordFacts.{long_of-dashed, long_of-joined}
 
 module _ {A : Type 0} where

@@ -1,31 +1,24 @@
 -- The options that clap takes are those that the words spell, none of them twice.
-use Rattle.std.proofs.Common.{◌≡◌, ◌⊎◌, ◌∙◌, Bool, true, false, List, [], ◌∷◌, ◌++◌, map, Option}
-use Rattle.std.proofs.Common.{Some, None, refl, sym, ap, subst, inl, inr, append-nil, append_assoc}
-use Rattle.std.proofs.Common.{codes}
-use Rattle.std.specs.Prelude.{IsUtf8, fold}
+use Rattle.std.proofs.Common.{◌≡◌, Bool, true, false, ◌⊎◌, List, [], ◌∷◌, ◌++◌, map, Some, None}
+use Rattle.std.proofs.Common.{codes, IsUtf8, fold, Option, bytes_eq, sym, refl, ap, ◌∙◌, subst, inl}
+use Rattle.std.proofs.Common.{inr, append_assoc, append-nil}
+use Rattle.std.proofs.lemmas.{Bool.false_from_ne_true, Slice.Eq.bytes_eq-Decides}
 use Rattle.std.specs.List.{AllByRecursion, list_all, list_any}
-use Rattle.std.specs.Str.{bytes_eq}
-use Rattle.std.proofs.lemmas.Slice.Eq.{bytes_eq-Decides}
-use Rattle.std.proofs.lemmas.Bool.{false_from_ne_true}
-use Rattle.clap.specs.Lexer.{long_of, short_of}
-use Rattle.clap.specs.Walk.{Held, Row, Walk, settled_rows, walked}
-use Rattle.clap.proofs.WalkLemmas.{both}
+use Rattle.clap.{proofs.WalkLemmas.both, specs.Lexer.long_of, specs.Lexer.short_of}
 use Rattle.clap.specs.Faults.{settle_fault, turn_fault, walk_fault}
-use Rattle.command_words.specs.declared.option_name.OptionName.{OptionName}
-use Rattle.command_words.specs.Options.{BeginsApart, BeginsJoined, Given, SpellOptions, Text}
-use Rattle.command_words.specs.Options.{begins_with_hyphen, dashed, is_option, option_text}
-use Rattle.command_words.specs.Options.{given_for}
-use Rattle.command_words.specs.WordAnswers.{IsReadable}
+use Rattle.clap.specs.Walk.{Held, Row, settled_rows, Walk, walked}
+use Rattle.command_words.specs.{declared.option_name.OptionName.OptionName, WordAnswers.IsReadable}
+use Rattle.command_words.specs.Options.{begins_with_hyphen, BeginsApart, BeginsJoined, dashed, Text}
+use Rattle.command_words.specs.Options.{Given, given_for, is_option, option_text, SpellOptions}
 use Rattle.command_words.proofs.OptionFacts.{IsNew, IsNew-cons, IsNew-head, IsNew-nil, IsNew-tail}
-use Rattle.command_words.proofs.RuleFacts.{arg_by_long-is, row_for, built_rules, shape}
+use Rattle.command_words.proofs.RuleFacts.{arg_by_long-is, built_rules, row_for, shape}
 use Rattle.command_words.proofs.StepFacts.{joined-passes, joined-tells, joined-walks, named-fault}
 use Rattle.command_words.proofs.StepFacts.{named-walks, plain-refused, plain-refused_behind}
 use Rattle.command_words.proofs.StepFacts.{short-refused, unknown-refused, value-passes}
-use Rattle.command_words.proofs.StepFacts.{value-walks}
-use Rattle.command_words.proofs.WalkFacts.{Fits, Rests, State, holding, naming, or_else-empty}
-use Rattle.command_words.proofs.WalkFacts.{resting, rests-settle, settle-rests, settled_rows-whole}
-use Rattle.command_words.proofs.WalkFacts.{walk_at, whole}
-use Rattle.command_words.proofs.WordFacts.{IsLong, first_flag, long, long_of-dashed, long_of-joined}
+use Rattle.command_words.proofs.{StepFacts.value-walks, WalkFacts.walk_at, WalkFacts.whole}
+use Rattle.command_words.proofs.WalkFacts.{Fits, holding, naming, or_else-empty, resting, Rests}
+use Rattle.command_words.proofs.WalkFacts.{rests-settle, settle-rests, settled_rows-whole, State}
+use Rattle.command_words.proofs.WordFacts.{first_flag, IsLong, long, long_of-dashed, long_of-joined}
 use Rattle.command_words.proofs.WordFacts.{look, plain, plain-looks, short}
 
 -- each option that is given is known

@@ -1,21 +1,16 @@
 -- The request that words are, computed, and that they are one request at most.
-use Rattle.std.proofs.Common.{◌≡◌, ◌∙◌, Bool, true, not, ◌&&◌, List, [], ◌∷◌, Option, Some, None}
-use Rattle.std.proofs.Common.{refl, sym, ap, subst, inl, inr, codes}
-use Rattle.std.specs.Prelude.{if◌then◌else◌, is_some, option_and_then}
-use Rattle.std.specs.List.{list_all, list_any}
-use Rattle.std.specs.Str.{bytes_eq}
-use Rattle.std.proofs.lemmas.Bool.{cases_Bool}
-use Rattle.std.proofs.lemmas.Option.{option_and_then_some}
-use Rattle.std.proofs.lemmas.Slice.Eq.{bytes_eq-Decides}
-use Rattle.clap.proofs.WalkLemmas.{both}
-use Rattle.command_words.specs.declared.action.Action.{Action}
-use Rattle.command_words.specs.declared.action.Action.TheVariants.{Check, Dump, Build, Replay}
-use Rattle.command_words.specs.declared.action.Action.TheVariants.{Serve, Call, Gen}
+use Rattle.std.proofs.Common.{◌≡◌, Bool, true, not, ◌&&◌, List, [], ◌∷◌, is_some, if◌then◌else◌}
+use Rattle.std.proofs.Common.{Some, None, codes, Option, option_and_then, bytes_eq, sym, refl, ap}
+use Rattle.std.proofs.Common.{◌∙◌, subst, inl, inr}
+use Rattle.std.proofs.lemmas.{Bool.cases_Bool, Option.option_and_then_some}
+use Rattle.std.{proofs.lemmas.Slice.Eq.bytes_eq-Decides, specs.List.list_all, specs.List.list_any}
+use Rattle.{clap.proofs.WalkLemmas.both, command_words.proofs.OptionFacts.bytes_eq-same}
+use Rattle.command_words.specs.{declared.action.Action.Action, Requests.Asked, Requests.IsRequest}
+use Rattle.command_words.specs.declared.action.Action.TheVariants.{Build, Call, Check, Dump, Gen}
+use Rattle.command_words.specs.declared.action.Action.TheVariants.{Replay, Serve}
 use Rattle.command_words.specs.Commands.{options_of, word_of}
-use Rattle.command_words.specs.Options.{Given, IsOnce, Text, is_empty, is_option, given_for}
-use Rattle.command_words.specs.Requests.{Asked, IsRequest}
-use Rattle.command_words.proofs.AskingFacts.{asked_in, asked-complete, asked-sound}
-use Rattle.command_words.proofs.OptionFacts.{bytes_eq-same}
+use Rattle.command_words.specs.Options.{Given, given_for, is_empty, is_option, IsOnce, Text}
+use Rattle.command_words.proofs.AskingFacts.{asked-complete, asked-sound, asked_in}
 use Rattle.command_words.proofs.SpellFacts.{given_in, given_in-complete, given_in-sound}
 
 -- ---- commands

@@ -1,24 +1,20 @@
 -- What clap holds of a command with options, and the rows that it finds for the values of options.
-use Rattle.std.proofs.Common.{◌≡◌, ◌⊎◌, ◌∙◌, ℕ, Bool, true, false, ◌||◌, List, [], ◌∷◌, ◌++◌, map}
-use Rattle.std.proofs.Common.{Some, None, refl, sym, ap, inl, inr, append-nil, append_assoc}
-use Rattle.std.specs.Prelude.{count_by, fold, is_some}
+use Rattle.std.proofs.Common.{◌≡◌, ℕ, Bool, true, false, ◌||◌, ◌⊎◌, List, [], ◌∷◌, ◌++◌, map}
+use Rattle.std.proofs.Common.{is_some, Some, None, fold, count_by, bytes_eq, sym, refl, ap, ◌∙◌}
+use Rattle.std.proofs.Common.{inl, inr, append_assoc, append-nil}
+use Rattle.std.proofs.lemmas.{Bool.cases_Bool, List.map-append, Slice.Eq.bytes_eq-Decides}
 use Rattle.std.specs.List.{list_all, list_any}
-use Rattle.std.specs.Str.{bytes_eq}
-use Rattle.std.proofs.lemmas.Bool.{cases_Bool}
-use Rattle.std.proofs.lemmas.List.{map-append}
-use Rattle.std.proofs.lemmas.Slice.Eq.{bytes_eq-Decides}
-use Rattle.clap.specs.Walk.{Row, Rule, arg_by_id, arg_by_index, arg_by_long, arg_by_short, at_row}
-use Rattle.clap.specs.Walk.{first_of, has_row, is_early_multiple, more_values, used, with_default}
-use Rattle.clap.specs.Walk.{with_values}
-use Rattle.clap.specs.Simple.{App, Shape, built, filled, filled_from, is_buildable, is_ready}
-use Rattle.clap.specs.Simple.{is_ready_leaf, on_top}
-use Rattle.clap.specs.Faults.{check_fault, defaults_fault, is_free_app, is_simple_and_free}
-use Rattle.clap.specs.declared.builder.value_parser.Reading.TheVariants as reading
 use Rattle.clap.specs.declared.parser.matches.ValueSource.TheVariants.{CommandLine}
+use Rattle.clap.specs.Faults.{check_fault, defaults_fault, is_free_app, is_simple_and_free}
+use Rattle.clap.specs.Simple.{App, built, filled, filled_from, is_buildable, is_ready}
+use Rattle.clap.specs.{Simple.is_ready_leaf, Simple.on_top, Simple.Shape, Walk.with_values}
+use Rattle.clap.specs.Walk.{arg_by_id, arg_by_index, arg_by_long, arg_by_short, at_row, first_of}
+use Rattle.clap.specs.Walk.{has_row, is_early_multiple, more_values, Row, Rule, used, with_default}
 use Rattle.command_words.specs.declared.option_name.OptionName.{OptionName}
-use Rattle.command_words.specs.Options.{Given, Text, is_option, option_text, given_for}
+use Rattle.command_words.specs.Options.{Given, given_for, is_option, option_text, Text}
 use Rattle.command_words.specs.WordAnswers.{app_with, app_without_options, option_rule, with_option}
 use Rattle.command_words.proofs.OptionFacts.{is_option-flips, is_option-same, same-is_option}
+use Rattle.clap.specs.declared.builder.value_parser.Reading.TheVariants as reading
 
 -- ---- the command as clap builds it
 

@@ -1,15 +1,12 @@
 -- The options that words spell, computed: a word names an option as it looks, and is then compared
 -- with the option as it is written.
-use Rattle.std.proofs.Common.{◌≡◌, ◌∙◌, false, List, [], ◌∷◌, ◌++◌, Option, Some, None, refl, sym}
-use Rattle.std.proofs.Common.{ap, subst, inl, inr, codes}
-use Rattle.std.specs.Prelude.{if◌then◌else◌, option_map}
-use Rattle.std.specs.Str.{bytes_eq}
-use Rattle.std.proofs.lemmas.Bool.{cases_Bool}
-use Rattle.std.proofs.lemmas.Slice.Eq.{bytes_eq-Decides}
+use Rattle.std.proofs.Common.{◌≡◌, false, List, [], ◌∷◌, ◌++◌, if◌then◌else◌, Some, None, codes}
+use Rattle.std.proofs.Common.{Option, option_map, bytes_eq, sym, refl, ap, ◌∙◌, subst, inl, inr}
+use Rattle.std.proofs.lemmas.{Bool.cases_Bool, Slice.Eq.bytes_eq-Decides}
 use Rattle.clap.specs.Lexer.{long_of}
 use Rattle.command_words.specs.declared.option_name.OptionName.{OptionName}
-use Rattle.command_words.specs.Options.{Given, SpellOptions, Text, begins_with_hyphen, dashed}
-use Rattle.command_words.specs.Options.{option_text}
+use Rattle.command_words.specs.Options.{begins_with_hyphen, dashed, Given, option_text}
+use Rattle.command_words.specs.Options.{SpellOptions, Text}
 use Rattle.command_words.proofs.OptionFacts.{bytes_eq-same, named, named-option_text}
 use Rattle.command_words.proofs.WordFacts.{long_of-dashed, long_of-joined}
 

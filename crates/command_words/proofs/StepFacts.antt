@@ -1,27 +1,22 @@
 -- What clap makes of one word more.
-use Rattle.std.proofs.Common.{◌≡◌, ◌∙◌, ◌<◌, ℕ, true, false, List, [], ◌∷◌, ◌++◌, map, length}
-use Rattle.std.proofs.Common.{Option, Some, None, refl, sym, ap, inl, inr, arith, codes}
-use Rattle.std.specs.Prelude.{slice_get}
-use Rattle.std.specs.List.{list_any}
-use Rattle.std.specs.Str.{bytes_eq, chars}
-use Rattle.std.proofs.lemmas.Bool.{cases_Bool}
-use Rattle.clap.specs.Kinds.{or_else}
-use Rattle.clap.specs.Lexer.{long_of, short_of}
-use Rattle.clap.specs.Walk.{Held, Waiting, arg_by_long, has_row, idle, option, positional}
-use Rattle.clap.specs.Walk.{settled_rows, subcommand_met, used, walked}
+use Rattle.std.proofs.Common.{◌≡◌, ℕ, ◌<◌, true, false, List, [], ◌∷◌, ◌++◌, map, length, slice_get}
+use Rattle.std.proofs.Common.{Some, None, codes, Option, chars, bytes_eq, sym, refl, ap, ◌∙◌, inl}
+use Rattle.std.proofs.{Common.inr, Common.arith, lemmas.Bool.cases_Bool}
+use Rattle.{std.specs.List.list_any, command_words.specs.declared.option_name.OptionName.OptionName}
 use Rattle.clap.specs.Faults.{flags_fault, settle_fault, turn_fault, use_fault}
-use Rattle.command_words.specs.declared.option_name.OptionName.{OptionName}
-use Rattle.command_words.specs.Options.{Given, Text, is_option, option_text, given_for}
-use Rattle.command_words.proofs.OptionFacts.{bytes_eq-same}
+use Rattle.clap.specs.{Kinds.or_else, Lexer.long_of, Lexer.short_of}
+use Rattle.clap.specs.Walk.{arg_by_long, has_row, Held, idle, option, positional, settled_rows}
+use Rattle.clap.specs.Walk.{subcommand_met, used, Waiting, walked}
+use Rattle.command_words.specs.Options.{Given, given_for, is_option, option_text, Text}
+use Rattle.command_words.proofs.{OptionFacts.bytes_eq-same, WordFacts.long-not_pair}
 use Rattle.command_words.proofs.RuleFacts.{arg_by_id-known, arg_by_index-none, arg_by_long-known}
-use Rattle.command_words.proofs.RuleFacts.{arg_by_short-none, built_rule, has_row-given, row_for}
-use Rattle.command_words.proofs.RuleFacts.{built_rules, shape, used-new}
-use Rattle.command_words.proofs.WalkFacts.{Fits, Rests, State, held_at, held_with, holding}
-use Rattle.command_words.proofs.WalkFacts.{missing_row, naming, none-from_is_some, or_else-empty}
-use Rattle.command_words.proofs.WalkFacts.{or_else-nil, pending_of, resting, rests-settle}
-use Rattle.command_words.proofs.WalkFacts.{settle-rests, settled_rows-whole, waiting_of, walk_at}
+use Rattle.command_words.proofs.RuleFacts.{arg_by_short-none, built_rule, built_rules}
+use Rattle.command_words.proofs.RuleFacts.{has_row-given, row_for, shape, used-new}
+use Rattle.command_words.proofs.WalkFacts.{Fits, held_at, held_with, holding, missing_row, naming}
+use Rattle.command_words.proofs.WalkFacts.{none-from_is_some, or_else-empty, or_else-nil}
+use Rattle.command_words.proofs.WalkFacts.{pending_of, resting, Rests, rests-settle, settle-rests}
+use Rattle.command_words.proofs.WalkFacts.{settled_rows-whole, State, waiting_of, walk_at}
 use Rattle.command_words.proofs.WalkFacts.{walk_with, whole}
-use Rattle.command_words.proofs.WordFacts.{long-not_pair}
 
 no_subcommand : (waiting : Waiting) (word : Text) → subcommand_met [] waiting word ≡ None
 no_subcommand idle word = refl

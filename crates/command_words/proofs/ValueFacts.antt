@@ -1,21 +1,14 @@
 -- What values write, computed: what a value may mean is guessed, and then compared with how that is
 -- written.
-use Rattle.std.proofs.Common.{◌≡◌, ◌∙◌, ℕ, ◌<◌, ◌^◌, Option, Some, None, refl, sym, ap, subst, inl}
-use Rattle.std.proofs.Common.{inr, codes}
-use Rattle.std.specs.Prelude.{if◌then◌else◌, nat_lt}
-use Rattle.std.specs.Fmt.{decimal, digits}
-use Rattle.std.specs.Str.{bytes_eq}
-use Rattle.std.specs.Str.Parse.{digits_value}
-use Rattle.std.proofs.lemmas.Bool.{cases_Bool, lt-ltb, ltb-true}
-use Rattle.std.proofs.lemmas.Fmt.{decimal_is_IsNumeral}
-use Rattle.std.proofs.lemmas.Slice.Eq.{bytes_eq-Decides}
-use Rattle.nbfx_values.specs.declared.session.Kind.{Kind}
-use Rattle.nbfx_values.specs.declared.session.Kind.TheVariants as kinds
-use Rattle.nbfx_values.specs.declared.session.Mode.{Mode}
-use Rattle.nbfx_values.specs.declared.session.Mode.TheVariants.{Singleton, Duplex, Simplex}
-use Rattle.command_words.specs.Options.{Text}
+use Rattle.std.proofs.Common.{◌≡◌, ℕ, ◌^◌, ◌<◌, if◌then◌else◌, nat_lt, Some, None, codes, decimal}
+use Rattle.std.proofs.Common.{Option, bytes_eq, sym, refl, ap, ◌∙◌, subst, inl, inr, ltb-true}
+use Rattle.std.{proofs.Common.lt-ltb, specs.Fmt.digits, specs.Str.Parse.digits_value}
+use Rattle.std.proofs.lemmas.{Bool.cases_Bool, Fmt.decimal_is_IsNumeral, Slice.Eq.bytes_eq-Decides}
+use Rattle.nbfx_values.specs.declared.session.{Kind.Kind, Mode.Mode}
+use Rattle.nbfx_values.specs.declared.session.Mode.TheVariants.{Duplex, Simplex, Singleton}
+use Rattle.command_words.{specs.Options.Text, proofs.OptionFacts.bytes_eq-same}
 use Rattle.command_words.specs.Values.{IsKind, IsWritten, kind_text, mode_name}
-use Rattle.command_words.proofs.OptionFacts.{bytes_eq-same}
+use Rattle.nbfx_values.specs.declared.session.Kind.TheVariants as kinds
 
 -- what is guessed, where a text writes it
 abbrev checked : {A : Type 0} → (A → Text) → Text → A → Option A

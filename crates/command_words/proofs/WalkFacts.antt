@@ -1,17 +1,13 @@
 -- How clap goes over the words of options.
-use Rattle.std.proofs.Common.{◌≡◌, ◌∙◌, true, false, List, [], ◌∷◌, ◌++◌, map, Option, Some, None}
-use Rattle.std.proofs.Common.{refl, sym, ap, inl, inr}
-use Rattle.std.specs.Prelude.{is_some}
-use Rattle.std.specs.List.{list_any}
-use Rattle.std.proofs.lemmas.Bool.{cases_Bool}
-use Rattle.clap.specs.Kinds.{Kinds, or_else}
-use Rattle.clap.specs.Walk.{Held, Row, Waiting, Walk, has_row, idle, option, settled_rows}
-use Rattle.clap.specs.Faults.{settle_fault}
+use Rattle.std.proofs.Common.{◌≡◌, true, false, List, [], ◌∷◌, ◌++◌, map, is_some, Some, None}
+use Rattle.std.proofs.Common.{Option, sym, refl, ap, ◌∙◌, inl, inr}
+use Rattle.std.{proofs.lemmas.Bool.cases_Bool, specs.List.list_any}
+use Rattle.clap.specs.{Faults.settle_fault, Kinds.Kinds, Kinds.or_else}
+use Rattle.clap.specs.Walk.{has_row, Held, idle, option, Row, settled_rows, Waiting, Walk}
 use Rattle.command_words.specs.declared.option_name.OptionName.{OptionName}
-use Rattle.command_words.specs.Options.{Given, Text, begins_with_hyphen, is_option, option_text}
-use Rattle.command_words.specs.Options.{given_for}
-use Rattle.command_words.proofs.RuleFacts.{arg_by_id-known, has_row-given, row_for, built_rules}
-use Rattle.command_words.proofs.RuleFacts.{used-new}
+use Rattle.command_words.specs.Options.{begins_with_hyphen, Given, given_for, is_option}
+use Rattle.command_words.{specs.Options.option_text, specs.Options.Text, proofs.RuleFacts.used-new}
+use Rattle.command_words.proofs.RuleFacts.{arg_by_id-known, built_rules, has_row-given, row_for}
 
 -- ---- kinds of errors
 

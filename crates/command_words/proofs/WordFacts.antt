@@ -1,27 +1,22 @@
 -- What a word looks like, and how an option's looks.
-use Rattle.std.proofs.Common.{◌≡◌, ◌⊎◌, ◌∙◌, ◌<◌, ℕ, zero, suc, true, false, ◌==◌, List, [], ◌∷◌}
-use Rattle.std.proofs.Common.{◌++◌, length, Option, Some, None, refl, sym, ap, subst, inl, inr}
-use Rattle.std.proofs.Common.{codes, arith, true≢false, eqb-true, eq-eqb}
-use Rattle.std.specs.Prelude.{IsUtf8, slice_get}
-use Rattle.std.specs.Char.{encode_utf8}
-use Rattle.std.specs.Str.{bytes_eq, chars, encode_utf8_all}
-use Rattle.std.proofs.lemmas.Bool.{cases_Bool}
-use Rattle.std.proofs.lemmas.Slice.Eq.{bytes_eq-Decides}
-use Rattle.std.proofs.lemmas.Str.{encodes-chars}
-use Rattle.clap.specs.Lexer.{long_of, name_and_value, short_of}
-use Rattle.clap.proofs.CutLemmas.{Lacks}
+use Rattle.std.proofs.Common.{◌≡◌, ℕ, zero, suc, ◌<◌, true, false, ◌⊎◌, List, [], ◌∷◌, ◌++◌, length}
+use Rattle.std.proofs.Common.{◌==◌, slice_get, Some, None, codes, IsUtf8, Option, encode_utf8_all}
+use Rattle.std.proofs.Common.{bytes_eq, sym, refl, ap, ◌∙◌, subst, inl, inr, true≢false, arith}
+use Rattle.std.proofs.Common.{eq-eqb, eqb-true}
+use Rattle.std.proofs.lemmas.{Bool.cases_Bool, Slice.Eq.bytes_eq-Decides, Str.encodes-chars}
+use Rattle.{std.specs.Char.encode_utf8, std.specs.Str.chars, clap.proofs.CutLemmas.Lacks}
 use Rattle.clap.proofs.LexerLemmas.{name_and_value-at, name_and_value-without}
-use Rattle.command_words.specs.declared.option_name.OptionName.{OptionName}
-use Rattle.command_words.specs.declared.option_name.OptionName.TheVariants.{Static, Replies, Via}
-use Rattle.command_words.specs.declared.option_name.OptionName.TheVariants.{Mode, Encoding, Listen}
-use Rattle.command_words.specs.declared.option_name.OptionName.TheVariants.{Connections, Connect}
-use Rattle.command_words.specs.declared.option_name.OptionName.TheVariants.{Second, Seed, Count}
-use Rattle.command_words.specs.declared.option_name.OptionName.TheVariants.{Endpoint, Actions}
-use Rattle.command_words.specs.declared.option_name.OptionName.TheVariants.{Payload, Depth}
-use Rattle.command_words.specs.declared.option_name.OptionName.TheVariants.{Dictionary, Content}
-use Rattle.command_words.specs.declared.option_name.OptionName.TheVariants.{Session}
-use Rattle.command_words.specs.Options.{Text, begins_with_hyphen, dashed, option_text}
-use Rattle.command_words.specs.WordAnswers.{IsReadable}
+use Rattle.clap.specs.Lexer.{long_of, name_and_value, short_of}
+use Rattle.command_words.specs.{declared.option_name.OptionName.OptionName, WordAnswers.IsReadable}
+use Rattle.command_words.specs.declared.option_name.OptionName.TheVariants.{Actions, Connect}
+use Rattle.command_words.specs.declared.option_name.OptionName.TheVariants.{Connections, Content}
+use Rattle.command_words.specs.declared.option_name.OptionName.TheVariants.{Count, Depth}
+use Rattle.command_words.specs.declared.option_name.OptionName.TheVariants.{Dictionary, Encoding}
+use Rattle.command_words.specs.declared.option_name.OptionName.TheVariants.{Endpoint, Listen, Mode}
+use Rattle.command_words.specs.declared.option_name.OptionName.TheVariants.{Payload, Replies}
+use Rattle.command_words.specs.declared.option_name.OptionName.TheVariants.{Second, Seed, Session}
+use Rattle.command_words.specs.declared.option_name.OptionName.TheVariants.{Static, Via}
+use Rattle.command_words.specs.Options.{begins_with_hyphen, dashed, option_text, Text}
 
 -- ---- the words of options
 

@@ -1,24 +1,18 @@
 -- Words that are requests, with what they ask for, and words that are none. Each line has the words
 -- with a space between each two.
-use Rattle.std.proofs.Common.{◌≡◌, ◌∙◌, ◌==◌, ℕ, List, [], ◌∷◌, ◌++◌, map, Option, Some, None, refl}
-use Rattle.std.proofs.Common.{sym, codes}
-use Rattle.std.specs.Prelude.{if◌then◌else◌}
-use Rattle.std.specs.Fmt.{digits}
-use Rattle.std.specs.List.{AllByRecursion}
-use Rattle.nbfx_values.specs.Limits.{Limits, limits, usual_limits}
-use Rattle.nbfx_values.specs.declared.session.Kind.{Kind}
-use Rattle.nbfx_values.specs.declared.session.Kind.TheVariants.{Plain, Session}
+use Rattle.std.proofs.Common.{◌≡◌, ℕ, List, [], ◌∷◌, ◌++◌, map, if◌then◌else◌, ◌==◌, Some, None}
+use Rattle.std.proofs.Common.{codes, Option, sym, refl, ◌∙◌}
+use Rattle.std.specs.{Fmt.digits, List.AllByRecursion}
+use Rattle.nbfx_values.specs.declared.session.Kind.{Kind, TheVariants.Plain, TheVariants.Session}
 use Rattle.nbfx_values.specs.declared.session.Mode.{Mode}
-use Rattle.nbfx_values.specs.declared.session.Mode.TheVariants.{Singleton, Duplex, Simplex}
-use Rattle.command_words.specs.declared.task.Detail.{Detail}
-use Rattle.command_words.specs.declared.task.Detail.TheVariants.{Summary, Whole}
-use Rattle.command_words.specs.declared.task.Origin.{Origin}
+use Rattle.nbfx_values.specs.declared.session.Mode.TheVariants.{Duplex, Simplex, Singleton}
+use Rattle.nbfx_values.specs.Limits.{Limits, limits, usual_limits}
+use Rattle.command_words.specs.declared.task.Detail.{Detail, TheVariants.Summary, TheVariants.Whole}
+use Rattle.command_words.specs.{declared.task.Origin.Origin, Options.Text}
 use Rattle.command_words.specs.declared.task.Origin.TheVariants.{Initiator, Receiver}
-use Rattle.command_words.specs.Options.{Text}
-use Rattle.command_words.specs.Requests.{Asked, IsRequest}
-use Rattle.command_words.specs.Tasks.{Opening, Serving, Task, report, build, replay, serve, call}
-use Rattle.command_words.specs.Tasks.{generate}
-use Rattle.command_words.proofs.RequestFacts.{request_in, request-complete, request-sound}
+use Rattle.command_words.specs.{Requests.Asked, Requests.IsRequest, Tasks.Serving, Tasks.Task}
+use Rattle.command_words.specs.Tasks.{build, call, generate, Opening, replay, report, serve}
+use Rattle.command_words.proofs.RequestFacts.{request-complete, request-sound, request_in}
 
 -- the words of a line, the first of which has begun
 abbrev words_from : Text → Text → List Text

@@ -1,15 +1,12 @@
 -- A request as what its words ask for.
 use Rattle.nbfx_values.specs.QuotasOf.{limits_of}
-use Rattle.command_words.specs.declared.request.Request.{Request}
-use Rattle.command_words.specs.declared.task.Opening.{Opening as OpeningTaken}
-use Rattle.command_words.specs.declared.task.Serving.{Serving as ServingTaken}
-use Rattle.command_words.specs.declared.task.Task.{Task as TaskTaken}
-use Rattle.command_words.specs.declared.task.Task.TheVariants.{Report, Build, Replay, Serve, Call}
-use Rattle.command_words.specs.declared.task.Task.TheVariants.{Generate}
-use Rattle.command_words.specs.Requests.{Asked}
-use Rattle.command_words.specs.Tasks.{Opening, Serving, Task, report, build, replay, serve, call}
-use Rattle.command_words.specs.Tasks.{generate}
-use Rattle.command_words.specs.Values.{text_behind}
+use Rattle.command_words.specs.declared.{request.Request.Request, task.Task.Task as TaskTaken}
+use Rattle.command_words.specs.{declared.task.Opening.Opening as OpeningTaken, Requests.Asked}
+use Rattle.command_words.specs.{declared.task.Serving.Serving as ServingTaken, Values.text_behind}
+use Rattle.command_words.specs.declared.task.Task.TheVariants.{Build, Call, Generate, Replay}
+use Rattle.command_words.specs.declared.task.Task.TheVariants.{Report, Serve}
+use Rattle.command_words.specs.Tasks.{build, call, generate, Opening, replay, report, serve}
+use Rattle.command_words.specs.Tasks.{Serving, Task}
 
 abbrev pub opening_of : OpeningTaken → Opening
 opening_of opening = record {

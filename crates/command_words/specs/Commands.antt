@@ -1,17 +1,16 @@
 -- The commands: the word of each, and its options.
 use Rattle.std.specs.Prelude.{List, [], ◌∷◌, codes}
-use Rattle.command_words.specs.declared.action.Action.{Action}
-use Rattle.command_words.specs.declared.action.Action.TheVariants.{Check, Dump, Build, Replay}
-use Rattle.command_words.specs.declared.action.Action.TheVariants.{Serve, Call, Gen}
-use Rattle.command_words.specs.declared.option_name.OptionName.{OptionName}
-use Rattle.command_words.specs.declared.option_name.OptionName.TheVariants.{Static, Replies, Via}
-use Rattle.command_words.specs.declared.option_name.OptionName.TheVariants.{Mode, Encoding, Listen}
-use Rattle.command_words.specs.declared.option_name.OptionName.TheVariants.{Connections, Connect}
-use Rattle.command_words.specs.declared.option_name.OptionName.TheVariants.{Second, Seed, Count}
-use Rattle.command_words.specs.declared.option_name.OptionName.TheVariants.{Endpoint, Actions}
-use Rattle.command_words.specs.declared.option_name.OptionName.TheVariants.{Payload, Depth}
-use Rattle.command_words.specs.declared.option_name.OptionName.TheVariants.{Dictionary, Content}
-use Rattle.command_words.specs.declared.option_name.OptionName.TheVariants.{Session}
+use Rattle.command_words.specs.declared.{action.Action.Action, option_name.OptionName.OptionName}
+use Rattle.command_words.specs.declared.action.Action.TheVariants.{Build, Call, Check, Dump, Gen}
+use Rattle.command_words.specs.declared.action.Action.TheVariants.{Replay, Serve}
+use Rattle.command_words.specs.declared.option_name.OptionName.TheVariants.{Actions, Connect}
+use Rattle.command_words.specs.declared.option_name.OptionName.TheVariants.{Connections, Content}
+use Rattle.command_words.specs.declared.option_name.OptionName.TheVariants.{Count, Depth}
+use Rattle.command_words.specs.declared.option_name.OptionName.TheVariants.{Dictionary, Encoding}
+use Rattle.command_words.specs.declared.option_name.OptionName.TheVariants.{Endpoint, Listen, Mode}
+use Rattle.command_words.specs.declared.option_name.OptionName.TheVariants.{Payload, Replies}
+use Rattle.command_words.specs.declared.option_name.OptionName.TheVariants.{Second, Seed, Session}
+use Rattle.command_words.specs.declared.option_name.OptionName.TheVariants.{Static, Via}
 use Rattle.command_words.specs.Options.{Text}
 
 abbrev pub word_of : Action → Text

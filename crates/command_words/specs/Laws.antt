@@ -1,7 +1,6 @@
 -- What holds of words by their definitions alone.
 use Rattle.std.specs.Prelude.{◌≡◌, List}
-use Rattle.command_words.specs.Options.{Text}
-use Rattle.command_words.specs.Requests.{Asked, IsRequest}
+use Rattle.command_words.specs.{Options.Text, Requests.Asked, Requests.IsRequest}
 
 -- words are one request at most
 abbrev pub AskForOne : Type 0

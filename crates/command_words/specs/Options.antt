@@ -1,18 +1,16 @@
 -- The options, the values that they are given, and how they are spelled. A word is the list of its
 -- bytes.
-use Rattle.std.specs.Prelude.{◌≡◌, ◌⊎◌, ℕ, Bool, false, true, not, ◌==◌, ⊤, IsTrue, List, [], ◌∷◌}
-use Rattle.std.specs.Prelude.{◌++◌, Option, Some, None, codes, if◌then◌else◌}
-use Rattle.std.specs.List.{list_all}
-use Rattle.std.specs.Str.{bytes_eq}
-use Rattle.command_words.specs.declared.option_name.OptionName.{OptionName}
-use Rattle.command_words.specs.declared.option_name.OptionName.TheVariants.{Static, Replies, Via}
-use Rattle.command_words.specs.declared.option_name.OptionName.TheVariants.{Mode, Encoding, Listen}
-use Rattle.command_words.specs.declared.option_name.OptionName.TheVariants.{Connections, Connect}
-use Rattle.command_words.specs.declared.option_name.OptionName.TheVariants.{Second, Seed, Count}
-use Rattle.command_words.specs.declared.option_name.OptionName.TheVariants.{Endpoint, Actions}
-use Rattle.command_words.specs.declared.option_name.OptionName.TheVariants.{Payload, Depth}
-use Rattle.command_words.specs.declared.option_name.OptionName.TheVariants.{Dictionary, Content}
-use Rattle.command_words.specs.declared.option_name.OptionName.TheVariants.{Session}
+use Rattle.std.specs.Prelude.{◌≡◌, ℕ, Bool, true, false, not, ◌⊎◌, List, [], ◌∷◌, ◌++◌}
+use Rattle.std.specs.Prelude.{if◌then◌else◌, IsTrue, ◌==◌, Some, None, codes, Option, bytes_eq, ⊤}
+use Rattle.{std.specs.List.list_all, command_words.specs.declared.option_name.OptionName.OptionName}
+use Rattle.command_words.specs.declared.option_name.OptionName.TheVariants.{Actions, Connect}
+use Rattle.command_words.specs.declared.option_name.OptionName.TheVariants.{Connections, Content}
+use Rattle.command_words.specs.declared.option_name.OptionName.TheVariants.{Count, Depth}
+use Rattle.command_words.specs.declared.option_name.OptionName.TheVariants.{Dictionary, Encoding}
+use Rattle.command_words.specs.declared.option_name.OptionName.TheVariants.{Endpoint, Listen, Mode}
+use Rattle.command_words.specs.declared.option_name.OptionName.TheVariants.{Payload, Replies}
+use Rattle.command_words.specs.declared.option_name.OptionName.TheVariants.{Second, Seed, Session}
+use Rattle.command_words.specs.declared.option_name.OptionName.TheVariants.{Static, Via}
 
 abbrev pub Text : Type 0
 Text = List ℕ

@@ -1,33 +1,27 @@
 -- What the values of options mean, and the words of a request.
-use Rattle.std.specs.Prelude.{◌≡◌, ◌<◌, ◌≤◌, ◌^◌, ℕ, ◌*◌, length, max, IsTrue, List, ◌∷◌, Option}
-use Rattle.std.specs.Prelude.{Some, None}
-use Rattle.std.specs.Fmt.{decimal}
-use Rattle.std.specs.List.{list_all, list_any}
+use Rattle.std.specs.Prelude.{◌≡◌, ℕ, ◌*◌, ◌^◌, ◌<◌, ◌≤◌, max, List, ◌∷◌, length, IsTrue, Some}
+use Rattle.std.specs.{Prelude.None, Prelude.decimal, Prelude.Option, List.list_all, List.list_any}
+use Rattle.nbfx_values.specs.declared.session.{Kind.Kind, Mode.Mode}
 use Rattle.nbfx_values.specs.Limits.{IsGood, Limits, usual_limits}
-use Rattle.nbfx_values.specs.declared.session.Kind.{Kind}
-use Rattle.nbfx_values.specs.declared.session.Mode.{Mode}
-use Rattle.command_words.specs.declared.action.Action.{Action}
-use Rattle.command_words.specs.declared.action.Action.TheVariants.{Check, Dump, Build, Replay}
-use Rattle.command_words.specs.declared.action.Action.TheVariants.{Serve, Call, Gen}
+use Rattle.command_words.specs.declared.{action.Action.Action, task.Origin.Origin}
+use Rattle.command_words.specs.declared.action.Action.TheVariants.{Build, Call, Check, Dump, Gen}
+use Rattle.command_words.specs.declared.action.Action.TheVariants.{Replay, Serve}
 use Rattle.command_words.specs.declared.option_name.OptionName.{OptionName}
-use Rattle.command_words.specs.declared.option_name.OptionName.TheVariants.{Static, Replies, Via}
+use Rattle.command_words.specs.declared.option_name.OptionName.TheVariants.{Actions, Connect}
+use Rattle.command_words.specs.declared.option_name.OptionName.TheVariants.{Connections, Content}
+use Rattle.command_words.specs.declared.option_name.OptionName.TheVariants.{Count, Depth}
+use Rattle.command_words.specs.declared.option_name.OptionName.TheVariants.{Dictionary, Encoding}
+use Rattle.command_words.specs.declared.option_name.OptionName.TheVariants.{Endpoint, Listen}
 use Rattle.command_words.specs.declared.option_name.OptionName.TheVariants.{Mode as ModeOption}
-use Rattle.command_words.specs.declared.option_name.OptionName.TheVariants.{Encoding, Listen}
-use Rattle.command_words.specs.declared.option_name.OptionName.TheVariants.{Connections, Connect}
-use Rattle.command_words.specs.declared.option_name.OptionName.TheVariants.{Second, Seed, Count}
-use Rattle.command_words.specs.declared.option_name.OptionName.TheVariants.{Endpoint, Actions}
-use Rattle.command_words.specs.declared.option_name.OptionName.TheVariants.{Payload, Depth}
-use Rattle.command_words.specs.declared.option_name.OptionName.TheVariants.{Dictionary, Content}
-use Rattle.command_words.specs.declared.option_name.OptionName.TheVariants.{Session}
-use Rattle.command_words.specs.declared.task.Detail.{Detail}
-use Rattle.command_words.specs.declared.task.Detail.TheVariants.{Summary, Whole}
-use Rattle.command_words.specs.declared.task.Origin.{Origin}
+use Rattle.command_words.specs.declared.option_name.OptionName.TheVariants.{Payload, Replies}
+use Rattle.command_words.specs.declared.option_name.OptionName.TheVariants.{Second, Seed, Session}
+use Rattle.command_words.specs.declared.option_name.OptionName.TheVariants.{Static, Via}
+use Rattle.command_words.specs.declared.task.Detail.{Detail, TheVariants.Summary, TheVariants.Whole}
 use Rattle.command_words.specs.declared.task.Origin.TheVariants.{Initiator, Receiver}
-use Rattle.command_words.specs.Options.{Given, HaveValues, IsOnce, SpellOptions, Text, is_option}
-use Rattle.command_words.specs.Options.{given_for}
 use Rattle.command_words.specs.Commands.{options_of, word_of}
-use Rattle.command_words.specs.Tasks.{Opening, Serving, Task, report, build, replay, serve, call}
-use Rattle.command_words.specs.Tasks.{generate}
+use Rattle.command_words.specs.Options.{Given, given_for, HaveValues, is_option, IsOnce}
+use Rattle.command_words.specs.{Options.SpellOptions, Options.Text, Tasks.Serving, Tasks.Task}
+use Rattle.command_words.specs.Tasks.{build, call, generate, Opening, replay, report, serve}
 use Rattle.command_words.specs.Values.{IsKind, IsMode, IsNumber, mode_name}
 
 -- what words ask for: what every command is told, and what is to be done

@@ -1,10 +1,7 @@
 -- What the program may be asked to do.
-use Rattle.std.specs.Prelude.{ℕ, Option}
-use Rattle.nbfx_values.specs.declared.session.Kind.{Kind}
-use Rattle.nbfx_values.specs.declared.session.Mode.{Mode}
-use Rattle.command_words.specs.declared.task.Detail.{Detail}
-use Rattle.command_words.specs.declared.task.Origin.{Origin}
-use Rattle.command_words.specs.Options.{Text}
+use Rattle.{std.specs.Prelude.ℕ, std.specs.Prelude.Option, command_words.specs.Options.Text}
+use Rattle.nbfx_values.specs.declared.session.{Kind.Kind, Mode.Mode}
+use Rattle.command_words.specs.declared.task.{Detail.Detail, Origin.Origin}
 
 -- what an initiator opens a session with
 pub record Opening : Type 0 where

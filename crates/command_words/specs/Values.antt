@@ -1,13 +1,10 @@
 -- What values write: numbers, and the names of modes and encodings.
-use Rattle.std.specs.Prelude.{◌≡◌, ℕ, Option, Some, None, codes, option_map}
-use Rattle.std.specs.Borrow.{Bor}
-use Rattle.std.specs.Fmt.{decimal}
-use Rattle.nbfx_values.specs.Session.{kind_number}
-use Rattle.nbfx_values.specs.declared.session.Kind.{Kind}
-use Rattle.nbfx_values.specs.declared.session.Kind.TheVariants as kinds
-use Rattle.nbfx_values.specs.declared.session.Mode.{Mode}
-use Rattle.nbfx_values.specs.declared.session.Mode.TheVariants.{Singleton, Duplex, Simplex}
+use Rattle.std.specs.Prelude.{◌≡◌, ℕ, Some, None, codes, decimal, Option, option_map}
+use Rattle.{std.specs.Borrow.Bor, nbfx_values.specs.Session.kind_number}
+use Rattle.nbfx_values.specs.declared.session.{Kind.Kind, Mode.Mode}
+use Rattle.nbfx_values.specs.declared.session.Mode.TheVariants.{Duplex, Simplex, Singleton}
 use Rattle.command_words.specs.Options.{Text}
+use Rattle.nbfx_values.specs.declared.session.Kind.TheVariants as kinds
 
 -- the text of a reference that there may be
 abbrev pub text_behind : Option (Bor Text) → Option Text

@@ -1,15 +1,13 @@
 -- What the parts of a reader of words answer.
-use Rattle.std.specs.Prelude.{◌≡◌, ◌≢◌, ◌⊎◌, ◌&&◌, nat_le, nat_lt, Bool, true, false, Some, List}
-use Rattle.std.specs.Prelude.{[], ◌∷◌, Option, IsUtf8, codes, fold}
+use Rattle.std.specs.Prelude.{◌≡◌, Bool, true, false, ◌&&◌, ◌≢◌, ◌⊎◌, List, [], ◌∷◌, nat_lt, nat_le}
+use Rattle.std.specs.Prelude.{Some, codes, IsUtf8, fold, Option}
 use Rattle.std.specs.Char.{is_ascii_digit}
+use Rattle.clap.specs.{declared.parser.matches.ArgMatches.ArgMatches, Walk.Rule}
 use Rattle.clap.specs.Matches.{first_value, found_of}
-use Rattle.clap.specs.Walk.{Rule}
 use Rattle.clap.specs.Simple.{App, new_app, new_rule, on_top, with_rule}
-use Rattle.clap.specs.declared.parser.matches.ArgMatches.{ArgMatches}
-use Rattle.command_words.specs.declared.action.Action.{Action}
-use Rattle.command_words.specs.declared.option_name.OptionName.{OptionName}
+use Rattle.command_words.specs.declared.{action.Action.Action, option_name.OptionName.OptionName}
 use Rattle.command_words.specs.Commands.{options_of, word_of}
-use Rattle.command_words.specs.Options.{Given, IsOnce, SpellOptions, Text, option_text, given_for}
+use Rattle.command_words.specs.Options.{Given, given_for, IsOnce, option_text, SpellOptions, Text}
 use Rattle.command_words.specs.Requests.{AreOptionsOf, GiveOptions}
 
 -- ---- words that are given to clap

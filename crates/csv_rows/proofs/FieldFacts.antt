@@ -1,12 +1,9 @@
 -- The two fields of a row, read one by one, and fields as text.
-use Rattle.std.proofs.Common.{◌≡◌, ◌≢◌, ℕ, Bool, true, false, List, [], ◌∷◌, length, Some, None}
-use Rattle.std.proofs.Common.{Result, Ok, Err, Bor, option_map, ap, refl, arith}
-use Rattle.std.specs.Prelude.{if◌then◌else◌}
-use Rattle.std.specs.Result.{MatchResult, result_ok}
-use Rattle.std.specs.Str.{IsUtf8, is_utf8}
-use Rattle.std.proofs.lemmas.Bool.{false_from_ne_true}
+use Rattle.std.proofs.Common.{◌≡◌, ℕ, Bool, true, false, ◌≢◌, List, [], ◌∷◌, length, if◌then◌else◌}
+use Rattle.std.proofs.Common.{Some, None, Ok, Err, IsUtf8, Result, option_map, MatchResult, refl}
+use Rattle.std.proofs.{Common.ap, Common.arith, Common.Bor, lemmas.Bool.false_from_ne_true}
 use Rattle.std.proofs.lemmas.Str.{IsUtf8-from_is_utf8, is_utf8-from_IsUtf8}
-use Rattle.csv.specs.Records.{field_at}
+use Rattle.{std.specs.Result.result_ok, std.specs.Str.is_utf8, csv.specs.Records.field_at}
 use Rattle.csv_rows.specs.Rows.{Row, text_of, two_of}
 
 -- a row without a first field, without a second, with more or fewer fields than two, with two

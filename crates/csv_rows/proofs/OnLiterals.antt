@@ -1,7 +1,5 @@
 -- What a proof unfolds to compute the rows of literal files.
-use Rattle.std.specs.Prelude.{⊤}
-use Rattle.std.specs.Char.{encode_utf8}
-use Rattle.std.specs.Str.{chars, is_utf8}
+use Rattle.std.specs.{Prelude.⊤, Char.encode_utf8, Str.chars, Str.is_utf8}
 use Rattle.csv.proofs.OnLiterals.{csv_on_literals}
 
 unfoldable pub rows_on_literals : ⊤

@@ -1,12 +1,9 @@
 -- What a reader of `csv` has left behind a read.
-use Rattle.std.proofs.Common.{◌≡◌, ◌∙◌, ℕ, Bool, true, false, List, [], Option, Some, None, Bor}
-use Rattle.std.proofs.Common.{refl, inl}
-use Rattle.csv.specs.Machine.{next_record}
-use Rattle.csv.specs.Reading.{NextIs, ReadRecord, ReadsNext, default_config, has_failed}
-use Rattle.csv.specs.Reading.{is_flexible, pending_of, took_first}
-use Rattle.csv.specs.declared.parser.Config.{Config}
-use Rattle.csv.specs.declared.parser.State.{State}
-use Rattle.csv.specs.declared.reader.Reader.{Reader}
+use Rattle.std.proofs.Common.{◌≡◌, ℕ, Bool, true, false, List, [], Some, None, Option, refl, ◌∙◌}
+use Rattle.{std.proofs.Common.inl, std.proofs.Common.Bor, csv.specs.Machine.next_record}
+use Rattle.csv.specs.declared.{parser.Config.Config, parser.State.State, reader.Reader.Reader}
+use Rattle.csv.specs.Reading.{default_config, has_failed, is_flexible, NextIs, pending_of}
+use Rattle.csv.specs.Reading.{ReadRecord, ReadsNext, took_first}
 use Rattle.csv_rows.specs.Inside.{IsReading, rows_from, rows_in, unread}
 use Rattle.csv_rows.specs.Rows.{Advanced, Row}
 use Rattle.csv_rows.proofs.RecordFacts.{first_read, none_read}

@@ -1,13 +1,10 @@
 -- The records of a text, of which the first is read.
 use Rattle.std.proofs.Common.{◌≡◌, ℕ, zero, suc, ◌+◌, ◌<◌, ◌≤◌, true, false, List, [], ◌∷◌, ◌++◌}
-use Rattle.std.proofs.Common.{◌∙◌, length, Option, Some, None, refl, ap, arith, inl, inr, subst}
-use Rattle.std.proofs.Common.{sym}
-use Rattle.std.proofs.lemmas.Bool.{cases_Bool, false≢true}
-use Rattle.csv.specs.Machine.{Read, ends_at_end, field_after, fields_after, is_end, next_record}
-use Rattle.csv.specs.Machine.{step}
-use Rattle.csv.specs.Reading.{NextIs, records_from, records_next}
-use Rattle.csv.specs.declared.parser.Config.{Config}
-use Rattle.csv.specs.declared.parser.State.{State}
+use Rattle.std.proofs.Common.{length, Some, None, Option, sym, refl, ap, ◌∙◌, subst, inl, inr}
+use Rattle.std.proofs.{Common.arith, lemmas.Bool.cases_Bool, lemmas.Bool.false≢true}
+use Rattle.csv.specs.declared.parser.{Config.Config, State.State}
+use Rattle.csv.specs.Machine.{ends_at_end, field_after, fields_after, is_end, next_record, Read}
+use Rattle.csv.specs.{Machine.step, Reading.NextIs, Reading.records_from, Reading.records_next}
 use Rattle.csv.specs.declared.parser.State.TheVariants as st
 
 module _ (cfg : Config) where

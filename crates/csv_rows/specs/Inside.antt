@@ -1,12 +1,11 @@
 -- What a reader of `csv` has left, and what it keeps.
-use Rattle.std.specs.Prelude.{◌≡◌, ◌+◌, ℕ, List, [], Option, Some, None, true, false, length}
-use Rattle.csv.specs.Reading.{Ready, default_config, has_failed, is_flexible, reader_config}
-use Rattle.csv.specs.Reading.{reader_state, reader_trim, records_from, source_of}
-use Rattle.csv.specs.declared.parser.State.{State}
-use Rattle.csv.specs.declared.reader.Reader.{Reader}
-use Rattle.csv.specs.declared.reader.Trim.TheVariants as trim
-use Rattle.csv_rows.specs.Rows.{Row}
+use Rattle.std.specs.Prelude.{◌≡◌, ℕ, ◌+◌, true, false, List, [], length, Some, None, Option}
 use denote.Ref.{Bor}
+use Rattle.csv.specs.declared.{parser.State.State, reader.Reader.Reader}
+use Rattle.csv.specs.Reading.{default_config, has_failed, is_flexible, reader_config, reader_state}
+use Rattle.csv.specs.Reading.{reader_trim, Ready, records_from, source_of}
+use Rattle.csv_rows.specs.Rows.{Row}
+use Rattle.csv.specs.declared.reader.Trim.TheVariants as trim
 
 -- the bytes that weren't read yet, of a reader that hasn't failed
 abbrev pub unread : Reader (Bor (List ℕ)) → Option (List ℕ)

@@ -1,7 +1,6 @@
 -- The rows of a CSV file. A row is the list of its fields, and a field the list of its bytes.
-use Rattle.std.specs.Prelude.{◌≡◌, ℕ, List, [], ◌∷◌, Option, Some, None, Bool, true, false}
-use Rattle.std.specs.Prelude.{if◌then◌else◌}
-use Rattle.std.specs.Str.{is_utf8}
+use Rattle.std.specs.Prelude.{◌≡◌, ℕ, Bool, true, false, List, [], ◌∷◌, if◌then◌else◌, Some, None}
+use Rattle.std.specs.{Prelude.Option, Str.is_utf8}
 use Rattle.csv.specs.Reading.{default_config, records, strip_bom}
 
 -- the fields of a row

@@ -1,32 +1,24 @@
 -- What is written of input that isn't refused.
-use Rattle.std.proofs.Common.{◌≡◌, ℕ, ◌+◌, List, [], ◌∷◌, ◌++◌, length, map, take, drop, flat_map}
-use Rattle.std.proofs.Common.{Bool, true, false, None, Result, Ok, Err, refl, ap, ◌∙◌, arith}
-use Rattle.std.specs.Prelude.{nat_lt}
-use Rattle.std.specs.Option.{option_to_list}
-use Rattle.std.proofs.lemmas.List.{append-nil}
-use Rattle.std.proofs.lemmas.Bool.{ltb-false as ge_nat_lt}
-use Rattle.unit_streams.specs.Grammar.{Grammar}
-use Rattle.unit_streams.specs.Judging.{History, led_by, history, history_from, offence}
-use Rattle.unit_streams.specs.Units.{Counted, UnitsLead, events_along, size_of, IsAccepted}
-use Rattle.unit_streams.specs.Tellers.{report, told_along}
+use Rattle.std.proofs.Common.{◌≡◌, ℕ, ◌+◌, Bool, true, false, List, [], ◌∷◌, ◌++◌, map, length}
+use Rattle.std.proofs.Common.{take, drop, nat_lt, None, Ok, Err, Result, option_to_list, flat_map}
+use Rattle.std.proofs.Common.{refl, ap, ◌∙◌, append-nil, arith, ltb-false as ge_nat_lt}
 use Rattle.unit_streams.proofs.Accepted.{accepted_or_offended, leads_length}
-use Rattle.unit_streams.proofs.Units.{between_first, units_bring}
-use Rattle.unit_streams.proofs.Pieces.{told_flat}
+use Rattle.unit_streams.proofs.{Pieces.told_flat, Units.between_first, Units.units_bring}
+use Rattle.unit_streams.specs.{Grammar.Grammar, Tellers.report, Tellers.told_along}
+use Rattle.unit_streams.specs.Judging.{History, history, history_from, led_by, offence}
+use Rattle.unit_streams.specs.Units.{Counted, events_along, IsAccepted, size_of, UnitsLead}
 use Rattle.string_tables.specs.StringTable.{StringTable}
-use Rattle.line_notation.specs.Lines.{cut}
-use Rattle.line_notation.specs.LineReaderState.{Standing, failed, going, answer_of, outcome}
-use Rattle.line_notation.specs.LineReaderState.{Placed as PlacedLine, on, ends, standing_of}
-use Rattle.line_notation.specs.LineReaderState.{document_of, documents_from, at_start}
-use Rattle.line_notation.specs.declared.reader.LineKind.{LineKind}
 use Rattle.nbfx_encoder.specs.Envelopes.{behind_bytes, envelope, envelope_then, envelopes_from}
-use Rattle.nbfx_encoder.specs.Placing.{Placed}
-use Rattle.nbfx_encoder.specs.Spelling.{Unfit}
-use Rattle.document_lines.specs.Input.{Settings, Situation, lines_of_documents, envelopes_and_end}
-use Rattle.document_lines.specs.Input.{refused_line, completed_line, behind_line, envelope_of}
-use Rattle.document_lines.specs.Input.{fault_of, table_of, payload_at, ending_fault}
-use Rattle.document_lines.specs.Laws.{AcceptedIsBuilt, IsBuilt}
-use Rattle.document_lines.specs.declared.InputFault.{InputFault}
-use Rattle.document_lines.proofs.Lines.{readable, cut_line}
+use Rattle.nbfx_encoder.specs.{Placing.Placed, Spelling.Unfit}
+use Rattle.line_notation.specs.{declared.reader.LineKind.LineKind, Lines.cut}
+use Rattle.line_notation.specs.LineReaderState.{answer_of, at_start, document_of, documents_from}
+use Rattle.line_notation.specs.LineReaderState.{ends, failed, going, on, outcome}
+use Rattle.line_notation.specs.LineReaderState.{Placed as PlacedLine, Standing, standing_of}
+use Rattle.document_lines.specs.{declared.InputFault.InputFault, Laws.AcceptedIsBuilt, Laws.IsBuilt}
+use Rattle.document_lines.specs.Input.{behind_line, completed_line, ending_fault, envelope_of}
+use Rattle.document_lines.specs.Input.{envelopes_and_end, fault_of, lines_of_documents, payload_at}
+use Rattle.document_lines.specs.Input.{refused_line, Settings, Situation, table_of}
+use Rattle.document_lines.proofs.Lines.{cut_line, readable}
 
 -- a reader of lines that hasn't failed
 abbrev pub IsGoing : Standing → Type 0

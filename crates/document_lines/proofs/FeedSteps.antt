@@ -1,26 +1,21 @@
 -- A reader takes a piece, line by line.
-use Rattle.std.proofs.Common.{◌≡◌, ℕ, ◌+◌, ◌<◌, ◌≤◌, List, ◌++◌, length, take, drop, true, false}
-use Rattle.std.proofs.Common.{Option, Some, None, Result, Ok, Err, refl, sym, ap, ◌∙◌, subst, arith}
-use Rattle.std.proofs.Common.{append_assoc}
-use Rattle.std.specs.Prelude.{is_some}
-use Rattle.std.proofs.Math.Seq.{take-add, take-length}
-use Rattle.std.proofs.lemmas.List.{append-nil, take-append-le}
-use Rattle.unit_streams.specs.Grammar.{Grammar, standing}
-use Rattle.unit_streams.specs.Judging.{event_at, refusal_at, goes_on, completes, offends, answer}
+use Rattle.std.proofs.Common.{◌≡◌, ℕ, ◌+◌, ◌<◌, ◌≤◌, true, false, List, ◌++◌, length, take, drop}
+use Rattle.std.proofs.Common.{is_some, Some, None, Ok, Err, Option, Result, sym, refl, ap, ◌∙◌}
+use Rattle.std.proofs.Common.{subst, append_assoc, append-nil, arith}
+use Rattle.std.proofs.{Math.Seq.take-add, Math.Seq.take-length, lemmas.List.take-append-le}
+use Rattle.unit_streams.proofs.{Answers.answers_are_first, Answers.quiet_none, Quiet.quiet_joined}
+use Rattle.unit_streams.proofs.Passing.{going_refusal, refusal_from}
+use Rattle.unit_streams.proofs.Quiet.{quiet_before_behind, quiet_before_joined, quiet_behind}
 use Rattle.unit_streams.specs.Going.{IsQuiet, IsQuietBefore}
-use Rattle.unit_streams.proofs.Answers.{answers_are_first, quiet_none}
-use Rattle.unit_streams.proofs.Passing.{refusal_from, going_refusal}
-use Rattle.unit_streams.proofs.Quiet.{quiet_joined, quiet_before_joined, quiet_behind}
-use Rattle.unit_streams.proofs.Quiet.{quiet_before_behind}
-use Rattle.stream_loop.specs.Answers.{Says, said}
-use Rattle.stream_loop.specs.declared.reading_end.FeedFault.{FeedFault}
-use Rattle.stream_loop.specs.declared.reading_end.FeedFault.TheVariants.{Refused, Memory}
-use Rattle.document_lines.specs.Input.{Settings, Situation, lines_of_documents}
-use Rattle.document_lines.specs.DocumentReaderState.{Reached, StandsFor, UnitAnswers, WhereItStands}
-use Rattle.document_lines.specs.DocumentReaderState.{settings_of}
-use Rattle.document_lines.specs.declared.InputFault.{InputFault}
-use Rattle.document_lines.specs.declared.InputFault.TheVariants.{TooLong}
+use Rattle.unit_streams.specs.Grammar.{Grammar, standing}
+use Rattle.unit_streams.specs.Judging.{answer, completes, event_at, goes_on, offends, refusal_at}
+use Rattle.stream_loop.specs.{declared.reading_end.FeedFault.FeedFault, Answers.said, Answers.Says}
+use Rattle.stream_loop.specs.declared.reading_end.FeedFault.TheVariants.{Memory, Refused}
+use Rattle.document_lines.specs.declared.InputFault.{InputFault, TheVariants.TooLong}
 use Rattle.document_lines.specs.declared.reader.DocumentReader.{DocumentReader}
+use Rattle.document_lines.specs.DocumentReaderState.{Reached, settings_of, StandsFor, UnitAnswers}
+use Rattle.document_lines.specs.DocumentReaderState.{WhereItStands}
+use Rattle.document_lines.specs.Input.{lines_of_documents, Settings, Situation}
 use Rattle.document_lines.proofs.Lines.{long_enough, short_enough}
 
 -- it has come k bytes of y behind p, which decided nothing

@@ -1,9 +1,7 @@
 -- Where a search for a line feed finds the end of a line.
-use Rattle.std.proofs.Common.{◌≡◌, ℕ, zero, suc, List, [], ◌∷◌, ◌++◌, take, drop, length, Bool}
-use Rattle.std.proofs.Common.{true, false, refl, ap, arith}
-use Rattle.std.specs.Prelude.{◌==◌}
-use Rattle.std.proofs.lemmas.Bool.{eqb-true}
-use Rattle.memchr.specs.Find.{Nowhere, NoneBefore, Passes, is_byte}
+use Rattle.std.proofs.Common.{◌≡◌, ℕ, zero, suc, Bool, true, false, List, [], ◌∷◌, ◌++◌, length}
+use Rattle.std.proofs.Common.{take, drop, ◌==◌, refl, ap, arith, eqb-true}
+use Rattle.memchr.specs.Find.{is_byte, NoneBefore, Nowhere, Passes}
 use Rattle.line_notation.specs.Lines.{has_no_feed}
 
 -- no byte is found, so there is no line feed

@@ -1,51 +1,37 @@
 -- Input that is lines of documents that fit isn't refused (specs/Laws).
-use Rattle.std.proofs.Common.{◌≡◌, ℕ, suc, ◌+◌, ◌≤◌, List, [], ◌∷◌, ◌++◌, length, drop, Bool, true}
-use Rattle.std.proofs.Common.{false, Option, Some, None, Result, Ok, Err, refl, sym, ap, ◌∙◌, subst}
-use Rattle.std.proofs.Common.{arith}
-use Rattle.std.specs.Prelude.{◌==◌, ◌&&◌, not, nat_lt, if◌then◌else◌}
-use Rattle.std.proofs.lemmas.Bool.{eqb-false, le-ltb, ne_eqb}
-use Rattle.unit_streams.specs.Front.{whole}
-use Rattle.unit_streams.specs.Grammar.{Grammar}
-use Rattle.unit_streams.specs.Units.{Counted, UnitsLead, IsAccepted, size_of}
+use Rattle.std.proofs.Common.{◌≡◌, ℕ, suc, ◌+◌, ◌≤◌, Bool, true, false, not, ◌&&◌, List, [], ◌∷◌}
+use Rattle.std.proofs.Common.{◌++◌, length, drop, if◌then◌else◌, nat_lt, ◌==◌, Some, None, Ok, Err}
+use Rattle.std.proofs.Common.{Option, Result, sym, refl, ap, ◌∙◌, subst, arith, le-ltb, ne_eqb}
+use Rattle.{std.proofs.lemmas.Bool.eqb-false, string_tables.specs.StringTable.StringTable}
 use Rattle.unit_streams.proofs.Accepted.{accepted_or_offended, leads_length}
-use Rattle.unit_streams.proofs.Units.{short_below}
-use Rattle.nbfx_values.specs.declared.content.ArrayItem.{ArrayItem}
-use Rattle.nbfx_values.specs.declared.content.Item.{Item}
-use Rattle.nbfx_values.specs.declared.content.Item.TheVariants.{Start, Xmlns, Attr, Text, Comment}
-use Rattle.nbfx_values.specs.declared.content.Item.TheVariants.{Array, Close}
-use Rattle.nbfx_values.specs.declared.position.Position.{Position}
-use Rattle.nbfx_values.specs.declared.position.Position.TheVariants.{Before, Within, After}
+use Rattle.unit_streams.{proofs.Units.short_below, specs.Front.whole, specs.Grammar.Grammar}
+use Rattle.unit_streams.specs.Units.{Counted, IsAccepted, size_of, UnitsLead}
+use Rattle.nbfx_values.specs.declared.{content.ArrayItem.ArrayItem, position.Position.Position}
+use Rattle.nbfx_values.specs.declared.content.Item.{Item, TheVariants.Text, TheVariants.Xmlns}
+use Rattle.nbfx_values.specs.declared.content.Item.TheVariants.{Array, Attr, Close, Comment, Start}
+use Rattle.nbfx_values.specs.declared.position.Position.TheVariants.{After, Before, Within}
 use Rattle.nbfx_values.specs.Positions.{position_of}
-use Rattle.nbfx_encoder.specs.Envelopes.{UnfitAt, behind_bytes, envelope, envelope_then}
-use Rattle.nbfx_encoder.specs.Envelopes.{envelopes_from}
-use Rattle.nbfx_encoder.specs.Placing.{Placed}
-use Rattle.nbfx_encoder.specs.Spelling.{Unfit, encoded}
-use Rattle.string_tables.specs.StringTable.{StringTable}
-use Rattle.line_notation.specs.Between.{is_between, next_line}
-use Rattle.line_notation.specs.Forms.{Form, form_of}
-use Rattle.line_notation.specs.Judging.{judged}
-use Rattle.line_notation.specs.Lines.{cut, cut_before}
-use Rattle.line_notation.specs.LineReaderState.{Standing, failed, going, answer_of, at_start}
-use Rattle.line_notation.specs.LineReaderState.{document_of, documents_from, ending}
-use Rattle.line_notation.specs.LineReaderState.{ends as ends_document, kind_of, led, on as leads_on}
-use Rattle.line_notation.specs.LineReaderState.{outcome, outcome_of, documents_of, placed}
-use Rattle.line_notation.specs.LineReaderState.{placed_array, placed_at, Placed as PlacedLine}
-use Rattle.line_notation.specs.LineReaderState.{standing, standing_from, standing_of}
-use Rattle.line_notation.specs.declared.line.Line.{Line}
-use Rattle.line_notation.specs.declared.line.Line.TheVariants as says
-use Rattle.line_notation.specs.declared.reader.LineFault.{LineFault}
-use Rattle.line_notation.specs.declared.reader.LineKind.{LineKind}
-use Rattle.line_notation.specs.declared.reader.LineKind.TheVariants.{WrongCount}
-use Rattle.line_notation.specs.Laws.{AreOfWhatTheyBring}
-use Rattle.document_lines.specs.Input.{Settings, Situation, lines_of_documents, with_byte, line_at}
+use Rattle.nbfx_encoder.specs.Envelopes.{behind_bytes, envelope, envelope_then, envelopes_from}
+use Rattle.nbfx_encoder.specs.{Envelopes.UnfitAt, Placing.Placed, Spelling.encoded, Spelling.Unfit}
+use Rattle.line_notation.specs.declared.{line.Line.Line, reader.LineFault.LineFault}
+use Rattle.line_notation.specs.declared.reader.LineKind.{LineKind, TheVariants.WrongCount}
+use Rattle.line_notation.specs.{Between.is_between, Between.next_line, Lines.cut, Lines.cut_before}
+use Rattle.line_notation.specs.{Forms.Form, Forms.form_of, Judging.judged, Laws.AreOfWhatTheyBring}
+use Rattle.line_notation.specs.LineReaderState.{answer_of, at_start, document_of, documents_from}
+use Rattle.line_notation.specs.LineReaderState.{documents_of, ending, ends as ends_document, failed}
+use Rattle.line_notation.specs.LineReaderState.{going, kind_of, led, on as leads_on, outcome}
+use Rattle.line_notation.specs.LineReaderState.{outcome_of, Placed as PlacedLine, placed}
+use Rattle.line_notation.specs.LineReaderState.{placed_array, placed_at, Standing, standing}
+use Rattle.line_notation.specs.LineReaderState.{standing_from, standing_of}
+use Rattle.document_lines.specs.declared.InputFault.{InputFault, TheVariants.Line as RefusedLine}
 use Rattle.document_lines.specs.Input.{behind_line, ending_fault, fault_of, is_full, is_singleton}
-use Rattle.document_lines.specs.Input.{refused_line, table_of, start_of}
+use Rattle.document_lines.specs.Input.{line_at, lines_of_documents, refused_line, Settings}
+use Rattle.document_lines.specs.Input.{Situation, start_of, table_of, with_byte}
 use Rattle.document_lines.specs.Laws.{FittingIsAccepted, MayBeBuilt}
-use Rattle.document_lines.specs.declared.InputFault.{InputFault}
-use Rattle.document_lines.specs.declared.InputFault.TheVariants.{Line as RefusedLine}
 use Rattle.document_lines.proofs.Built.{at, lines_of}
 use Rattle.document_lines.proofs.Lines.{other_cut, readable, short_enough}
 use Rattle.document_lines.proofs.Written.{led_documents, led_lines}
+use Rattle.line_notation.specs.declared.line.Line.TheVariants as says
 
 -- ---- lines of bytes
 

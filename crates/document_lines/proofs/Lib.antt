@@ -15,3 +15,11 @@ pub mod Built
 pub mod Walking
 pub mod Written
 pub mod Fitting
+-- bytes are cut at their line feeds, also where they came in pieces
+pub mod Cutting
+-- where lines lead that come behind others, and what that says of all bytes
+pub mod Leading
+-- what a reader of a list has read behind a line, and what it says at the end (src/reading.rt)
+pub mod ListReaderFacts
+-- what was taken of a source (src/taking.rt)
+pub mod TakingFacts

@@ -1,44 +1,35 @@
 -- What bytes of one line bring behind others, by the grammar, and what a reader is then.
-use Rattle.std.proofs.Common.{◌≡◌, ℕ, suc, ◌+◌, ◌<◌, ◌≤◌, inl, inr, List, [], ◌∷◌, ◌++◌, length}
-use Rattle.std.proofs.Common.{take, drop, Bool, true, Option, Some, None, Result, Ok, Err, refl}
-use Rattle.std.proofs.Common.{sym, ap, ◌∙◌, subst, arith, append_assoc, length-append}
-use Rattle.std.specs.Prelude.{OnOk, ◌==◌, nat_lt, not, vec_len}
-use Rattle.std.proofs.lemmas.Bool.{le-ltb, lt-ltb, ne_eqb}
-use Rattle.std.specs.Option.{option_or}
-use Rattle.std.proofs.lemmas.List.{length-take-le}
-use Rattle.std.proofs.Math.Seq.{take-length}
-use Rattle.std.proofs.lemmas.List.Folds.{list_all-append}
-use Rattle.unit_streams.specs.Front.{whole}
-use Rattle.unit_streams.specs.Grammar.{Grammar, Standing, standing, with_more, behind_unit}
-use Rattle.unit_streams.specs.Judging.{ending_at, event_at, refusal_at}
-use Rattle.unit_streams.specs.Going.{IsGoing, IsQuiet, IsQuietBefore}
-use Rattle.unit_streams.proofs.Peeling.{extent, Decides, Leaves}
-use Rattle.unit_streams.proofs.Fronts.{leaves_or_decides}
-use Rattle.unit_streams.proofs.Standing.{standing_length, standing_nothing}
+use Rattle.std.proofs.Common.{◌≡◌, ℕ, suc, ◌+◌, ◌<◌, ◌≤◌, Bool, true, not, List, [], ◌∷◌, ◌++◌}
+use Rattle.std.proofs.Common.{length, take, drop, OnOk, nat_lt, ◌==◌, Some, None, Ok, Err, vec_len}
+use Rattle.std.proofs.Common.{Option, Result, sym, refl, ap, ◌∙◌, subst, inl, inr, append_assoc}
+use Rattle.std.proofs.Common.{arith, length-append, length-take-le, le-ltb, lt-ltb, ne_eqb}
+use Rattle.std.proofs.{Math.Seq.take-length, lemmas.List.Folds.list_all-append}
+use Rattle.{std.specs.Option.option_or, unit_streams.proofs.Fronts.leaves_or_decides}
 use Rattle.unit_streams.proofs.Passing.{decides_quiet, given_none, leaves_quiet, leaves_standing}
 use Rattle.unit_streams.proofs.Passing.{whole_event, whole_quiet, whole_refusal, whole_standing}
-use Rattle.line_notation.specs.Lines.{has_no_feed}
-use Rattle.line_notation.specs.LineReaderState.{after, answer}
-use Rattle.line_notation.specs.declared.reader.LineFault.{LineFault}
-use Rattle.line_notation.specs.declared.reader.LineFault.TheVariants as line_faults
-use Rattle.line_notation.specs.declared.reader.LineStep.{LineStep}
-use Rattle.line_notation.specs.declared.reader.LineStep.TheVariants.{More, Done}
-use Rattle.line_notation.specs.LineReaderState.{Standing as LineStanding}
-use Rattle.nbfx_encoder.specs.Placing.{Placed}
-use Rattle.nbfx_encoder.specs.Spelling.{Unfit}
+use Rattle.unit_streams.proofs.Peeling.{Decides, extent, Leaves}
+use Rattle.unit_streams.proofs.Standing.{standing_length, standing_nothing}
+use Rattle.unit_streams.specs.{Front.whole, Going.IsGoing, Going.IsQuiet, Going.IsQuietBefore}
+use Rattle.unit_streams.specs.Grammar.{behind_unit, Grammar, Standing, standing, with_more}
+use Rattle.unit_streams.specs.Judging.{ending_at, event_at, refusal_at}
+use Rattle.nbfx_encoder.specs.{Placing.Placed, Spelling.Unfit}
 use Rattle.stream_loop.specs.declared.reading_end.FeedFault.{FeedFault}
-use Rattle.stream_loop.specs.declared.reading_end.FeedFault.TheVariants.{Refused, Memory}
-use Rattle.document_lines.specs.Input.{Settings, Situation, lines_of_documents, line_at}
-use Rattle.document_lines.specs.Input.{behind_line, completed_line, ending_fault, envelope_of}
-use Rattle.document_lines.specs.Input.{fault_of, payload_at, refused_line, start_of}
-use Rattle.document_lines.specs.DocumentReaderState.{IsAt, LineAnswers, Reached, StandsFor}
-use Rattle.document_lines.specs.DocumentReaderState.{UnitAnswers, WhereItStands, settings_of}
+use Rattle.stream_loop.specs.declared.reading_end.FeedFault.TheVariants.{Memory, Refused}
+use Rattle.line_notation.specs.declared.reader.{LineFault.LineFault, LineStep.LineStep}
+use Rattle.line_notation.specs.declared.reader.LineStep.TheVariants.{Done, More}
+use Rattle.line_notation.specs.LineReaderState.{after, answer, Standing as LineStanding}
+use Rattle.line_notation.specs.Lines.{has_no_feed}
 use Rattle.document_lines.specs.declared.InputFault.{InputFault}
 use Rattle.document_lines.specs.declared.line_encoder.LineEncoder.{LineEncoder}
 use Rattle.document_lines.specs.declared.reader.DocumentReader.{DocumentReader}
-use Rattle.document_lines.proofs.Finding.{IsLineEnd}
+use Rattle.document_lines.specs.DocumentReaderState.{IsAt, LineAnswers, Reached, settings_of}
+use Rattle.document_lines.specs.DocumentReaderState.{StandsFor, UnitAnswers, WhereItStands}
+use Rattle.document_lines.specs.Input.{behind_line, completed_line, ending_fault, envelope_of}
+use Rattle.document_lines.specs.Input.{fault_of, line_at, lines_of_documents, payload_at}
+use Rattle.document_lines.specs.Input.{refused_line, Settings, Situation, start_of}
+use Rattle.document_lines.proofs.{Finding.IsLineEnd, Lines.short_enough}
 use Rattle.document_lines.proofs.Lines.{begun_no_feed, feed_whole, no_feed_begun, readable}
-use Rattle.document_lines.proofs.Lines.{short_enough}
+use Rattle.line_notation.specs.declared.reader.LineFault.TheVariants as line_faults
 
 -- a line that is refused completes no document
 module _ (x : Settings) (z : Situation) where

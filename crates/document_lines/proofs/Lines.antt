@@ -1,21 +1,17 @@
 -- A line is known by its own bytes, and input by the session quota has an end.
-use Rattle.std.proofs.Common.{◌≡◌, ℕ, suc, ◌+◌, ◌<◌, ◌≤◌, ◌⊎◌, inl, inr, List, [], ◌∷◌, ◌++◌}
-use Rattle.std.proofs.Common.{length, drop, Bool, true, false, Option, Some, None, refl, sym, ap}
-use Rattle.std.proofs.Common.{◌∙◌, arith}
-use Rattle.std.specs.Prelude.{◌==◌, nat_le, if◌then◌else◌}
-use Rattle.std.proofs.lemmas.Bool.{leb-false, le-leb, lt-leb}
-use Rattle.unit_streams.specs.Front.{Front, begun, whole, wrong}
-use Rattle.unit_streams.specs.Grammar.{IsReadable, standing}
-use Rattle.unit_streams.specs.Judging.{refusal_at}
-use Rattle.unit_streams.proofs.Peeling.{extent, peels_front}
+use Rattle.std.proofs.Common.{◌≡◌, ℕ, suc, ◌+◌, ◌<◌, ◌≤◌, Bool, true, false, ◌⊎◌, List, [], ◌∷◌}
+use Rattle.std.proofs.Common.{◌++◌, length, drop, if◌then◌else◌, nat_le, ◌==◌, Some, None, Option}
+use Rattle.std.proofs.Common.{sym, refl, ap, ◌∙◌, inl, inr, arith, le-leb, leb-false}
+use Rattle.std.proofs.lemmas.Bool.{lt-leb}
 use Rattle.unit_streams.proofs.Passing.{going_at, going_refusal, refusal_from}
-use Rattle.unit_streams.proofs.Pending.{pending_unrefused}
-use Rattle.unit_streams.proofs.Standing.{standing_nothing}
+use Rattle.unit_streams.proofs.Peeling.{extent, peels_front}
+use Rattle.unit_streams.proofs.{Pending.pending_unrefused, Standing.standing_nothing}
+use Rattle.unit_streams.specs.Front.{begun, Front, whole, wrong}
+use Rattle.unit_streams.specs.{Grammar.IsReadable, Grammar.standing, Judging.refusal_at}
 use Rattle.line_notation.specs.Lines.{cut, cut_before, has_no_feed}
-use Rattle.document_lines.specs.Input.{Settings, with_byte, line_at, lines_of_documents}
-use Rattle.document_lines.specs.Laws.{InputIsClosed, InputMayBegin, InputIsBounded}
-use Rattle.document_lines.specs.declared.InputFault.{InputFault}
-use Rattle.document_lines.specs.declared.InputFault.TheVariants.{TooLong}
+use Rattle.document_lines.specs.declared.InputFault.{InputFault, TheVariants.TooLong}
+use Rattle.document_lines.specs.Input.{line_at, lines_of_documents, Settings, with_byte}
+use Rattle.document_lines.specs.Laws.{InputIsBounded, InputIsClosed, InputMayBegin}
 
 -- a byte more before a line
 longer_begun : (b : ℕ) (v : Front (List ℕ) InputFault) → with_byte b v ≡ begun → v ≡ begun

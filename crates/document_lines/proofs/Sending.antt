@@ -1,32 +1,26 @@
 -- What an encoder of lines answers and is, by where the line led.
-use Rattle.std.proofs.Common.{◌≡◌, ℕ, ◌+◌, inl, inr, List, true, false, Option, Some, None, Result}
-use Rattle.std.proofs.Common.{Ok, Err, refl, sym, ap, ◌∙◌, subst, arith}
-use Rattle.std.specs.Prelude.{◌==◌, ◌&&◌, not, if◌then◌else◌}
-use Rattle.std.proofs.lemmas.Bool.{cases_Bool, ne_eqb}
-use Rattle.nbfx_values.specs.declared.content.Item.{Item}
-use Rattle.nbfx_values.specs.declared.session.Mode.{Mode}
-use Rattle.nbfx_values.specs.declared.session.Mode.TheVariants.{Singleton, Duplex, Simplex}
-use Rattle.line_notation.specs.Between.{IsUnrefused, is_between, next_line}
-use Rattle.line_notation.specs.LineReaderState.{after, answer}
-use Rattle.line_notation.specs.declared.reader.LineFault.{LineFault}
-use Rattle.line_notation.specs.declared.reader.LineFault.TheVariants.{Bad}
-use Rattle.line_notation.specs.declared.reader.LineKind.{LineKind}
-use Rattle.line_notation.specs.declared.reader.LineKind.TheVariants.{WrongCount}
-use Rattle.line_notation.specs.declared.reader.LineStep.{LineStep}
-use Rattle.line_notation.specs.declared.reader.LineStep.TheVariants.{More, Done}
-use Rattle.nbfx_encoder.specs.Sending.{KeepsSettings, behind_message, first_state, kind_in}
-use Rattle.nbfx_encoder.specs.Sending.{limits_in, mode_in, names_in, state_in}
-use Rattle.nbfx_encoder.specs.Spelling.{encoded}
+use Rattle.std.proofs.Common.{◌≡◌, ℕ, ◌+◌, true, false, not, ◌&&◌, List, if◌then◌else◌, ◌==◌, Some}
+use Rattle.std.proofs.Common.{None, Ok, Err, Option, Result, sym, refl, ap, ◌∙◌, subst, inl, inr}
+use Rattle.std.proofs.{Common.arith, Common.ne_eqb, lemmas.Bool.cases_Bool}
+use Rattle.nbfx_values.specs.declared.{content.Item.Item, session.Mode.Mode}
+use Rattle.nbfx_values.specs.declared.session.Mode.TheVariants.{Duplex, Simplex, Singleton}
 use Rattle.nbfx_encoder.specs.declared.sender.SendState.TheVariants.{Ready, Spent}
-use Rattle.nbfx_encoder.specs.declared.sender.Side.TheVariants.{Initiator}
+use Rattle.nbfx_encoder.specs.{declared.sender.Side.TheVariants.Initiator, Spelling.encoded}
+use Rattle.nbfx_encoder.specs.Sending.{behind_message, first_state, KeepsSettings, kind_in}
+use Rattle.nbfx_encoder.specs.Sending.{limits_in, mode_in, names_in, state_in}
 use Rattle.stream_loop.specs.declared.reading_end.FeedFault.{FeedFault}
-use Rattle.stream_loop.specs.declared.reading_end.FeedFault.TheVariants.{Refused, Memory}
-use Rattle.document_lines.specs.Input.{Settings, Situation, behind_line, completed_line, is_full}
-use Rattle.document_lines.specs.Input.{is_singleton, payload_at, refused_line}
-use Rattle.document_lines.specs.DocumentReaderState.{IsAt, IsSent, LineAnswers, SendAnswers}
-use Rattle.document_lines.specs.declared.InputFault.{InputFault}
-use Rattle.document_lines.specs.declared.InputFault.TheVariants.{Line}
+use Rattle.stream_loop.specs.declared.reading_end.FeedFault.TheVariants.{Memory, Refused}
+use Rattle.line_notation.specs.declared.reader.LineFault.{LineFault, TheVariants.Bad}
+use Rattle.line_notation.specs.declared.reader.LineKind.{LineKind, TheVariants.WrongCount}
+use Rattle.line_notation.specs.declared.reader.LineStep.{LineStep}
+use Rattle.line_notation.specs.declared.reader.LineStep.TheVariants.{Done, More}
+use Rattle.line_notation.specs.Between.{is_between, IsUnrefused, next_line}
+use Rattle.line_notation.specs.LineReaderState.{after, answer}
+use Rattle.document_lines.specs.declared.InputFault.{InputFault, TheVariants.Line}
 use Rattle.document_lines.specs.declared.line_encoder.LineEncoder.{LineEncoder}
+use Rattle.document_lines.specs.DocumentReaderState.{IsAt, IsSent, LineAnswers, SendAnswers}
+use Rattle.document_lines.specs.Input.{behind_line, completed_line, is_full, is_singleton}
+use Rattle.document_lines.specs.Input.{payload_at, refused_line, Settings, Situation}
 use Rattle.document_lines.proofs.Standings.{done_leads, more_leads, no_lone}
 
 -- before the first document a message may be sent

@@ -1,23 +1,18 @@
 -- Where a line leads that a reader of lines answers.
-use Rattle.std.proofs.Common.{◌≡◌, ℕ, ◌+◌, ◌≤◌, List, [], ◌∷◌, Bool, true, false, Option, Some}
-use Rattle.std.proofs.Common.{None, Result, Ok, Err, ap, arith}
-use Rattle.std.specs.Prelude.{if◌then◌else◌}
+use Rattle.std.proofs.Common.{◌≡◌, ℕ, ◌+◌, ◌≤◌, Bool, true, false, List, [], ◌∷◌, if◌then◌else◌}
+use Rattle.std.proofs.Common.{Some, None, Ok, Err, Option, Result, ap, arith}
+use Rattle.nbfx_values.specs.declared.content.Item.{Item, TheVariants.Text, TheVariants.Xmlns}
+use Rattle.nbfx_values.specs.declared.content.Item.TheVariants.{Array, Attr, Close, Comment, Start}
+use Rattle.nbfx_values.specs.{declared.position.Position.TheVariants.Before, Positions.moved}
 use Rattle.nbfx_values.specs.Items.{is_valid_item}
-use Rattle.nbfx_values.specs.Positions.{moved}
-use Rattle.nbfx_values.specs.declared.content.Item.{Item}
-use Rattle.nbfx_values.specs.declared.content.Item.TheVariants.{Start, Xmlns, Attr, Text, Comment}
-use Rattle.nbfx_values.specs.declared.content.Item.TheVariants.{Array, Close}
-use Rattle.nbfx_values.specs.declared.position.Position.TheVariants.{Before}
-use Rattle.line_notation.specs.Between.{IsUnrefused, is_between, next_line}
-use Rattle.line_notation.specs.Forms.{Form, form_of}
-use Rattle.line_notation.specs.Judging.{judged}
-use Rattle.line_notation.specs.LineReaderState.{Placed, HasReadFewer, Standing, after, answer}
-use Rattle.line_notation.specs.LineReaderState.{answer_of, ends, failed, going, led, on, outcome}
-use Rattle.line_notation.specs.LineReaderState.{outcome_of, placed_at, standing_of}
-use Rattle.line_notation.specs.declared.line.Line.{Line}
+use Rattle.line_notation.specs.declared.{line.Line.Line, reader.LineKind.LineKind}
+use Rattle.line_notation.specs.declared.reader.LineStep.TheVariants.{Done, More}
+use Rattle.line_notation.specs.Between.{is_between, IsUnrefused, next_line}
+use Rattle.line_notation.specs.{Forms.Form, Forms.form_of, Judging.judged}
+use Rattle.line_notation.specs.LineReaderState.{after, answer, answer_of, ends, failed, going}
+use Rattle.line_notation.specs.LineReaderState.{HasReadFewer, led, on, outcome, outcome_of, Placed}
+use Rattle.line_notation.specs.LineReaderState.{placed_at, Standing, standing_of}
 use Rattle.line_notation.specs.declared.line.Line.TheVariants as says
-use Rattle.line_notation.specs.declared.reader.LineKind.{LineKind}
-use Rattle.line_notation.specs.declared.reader.LineStep.TheVariants.{More, Done}
 
 -- no item is a document by itself
 no_lone_item : (item : Item) (v : Bool) (items doc : List Item)

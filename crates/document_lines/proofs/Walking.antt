@@ -1,31 +1,25 @@
 -- How far the lines of any input lead that aren't refused, and what the input brings from there on.
-use Rattle.std.proofs.Common.{◌≡◌, ℕ, zero, suc, ◌+◌, ◌-◌, ◌<◌, ◌≤◌, inl, inr, List, [], ◌∷◌, ◌++◌}
-use Rattle.std.proofs.Common.{length, take, drop, Bool, true, false, Option, Some, None, refl, sym}
-use Rattle.std.proofs.Common.{ap, ◌∙◌, subst, arith, length-append, length-drop}
-use Rattle.std.specs.Prelude.{◌==◌, nat_le, nat_lt, if◌then◌else◌}
-use Rattle.std.specs.Option.{option_or}
-use Rattle.std.proofs.lemmas.Bool.{cases_lt}
-use Rattle.std.proofs.lemmas.List.{append-nil, length-take-le, take-append-drop}
-use Rattle.unit_streams.specs.Front.{Front, begun, whole, wrong}
-use Rattle.unit_streams.specs.Grammar.{Grammar, Standing, standing, with_more}
-use Rattle.unit_streams.specs.Judging.{ending_at, given_at, history_from, led_by, only, refusal_at}
-use Rattle.unit_streams.specs.Going.{IsGoing, IsQuiet}
-use Rattle.unit_streams.specs.Units.{Counted, UnitsLead, size_of}
+use Rattle.std.proofs.Common.{◌≡◌, ℕ, zero, suc, ◌+◌, ◌-◌, ◌<◌, ◌≤◌, Bool, true, false, List, []}
+use Rattle.std.proofs.Common.{◌∷◌, ◌++◌, length, take, drop, if◌then◌else◌, nat_lt, nat_le, ◌==◌}
+use Rattle.std.proofs.Common.{Some, None, Option, sym, refl, ap, ◌∙◌, subst, inl, inr, append-nil}
+use Rattle.std.proofs.Common.{arith, length-append, length-drop, take-append-drop, length-take-le}
+use Rattle.std.{proofs.lemmas.Bool.cases_lt, specs.Option.option_or}
+use Rattle.unit_streams.proofs.{Fronts.whole_some, Units.unit_quiet}
 use Rattle.unit_streams.proofs.Histories.{events_in_none, history_along, history_behind}
 use Rattle.unit_streams.proofs.Histories.{history_ends, history_refused, quiet_events}
 use Rattle.unit_streams.proofs.Passing.{going_refusal, refusal_from, whole_refusal}
-use Rattle.unit_streams.proofs.Fronts.{whole_some}
-use Rattle.unit_streams.proofs.Units.{IsBetween, between_going, between_place, unit_decides}
-use Rattle.unit_streams.proofs.Units.{unit_quiet}
-use Rattle.line_notation.specs.Lines.{has_no_feed}
-use Rattle.line_notation.specs.LineReaderState.{after, answer}
-use Rattle.document_lines.specs.Input.{Settings, Situation, lines_of_documents, line_at}
-use Rattle.document_lines.specs.Input.{ending_fault, refused_line}
-use Rattle.document_lines.specs.declared.InputFault.{InputFault}
-use Rattle.document_lines.specs.declared.InputFault.TheVariants.{TooLong}
-use Rattle.document_lines.proofs.Lines.{begun_no_feed, long_enough, no_feed_begun, readable}
-use Rattle.document_lines.proofs.Lines.{short_enough}
+use Rattle.unit_streams.proofs.Units.{between_going, between_place, IsBetween, unit_decides}
+use Rattle.unit_streams.specs.Front.{begun, Front, whole, wrong}
+use Rattle.unit_streams.specs.Going.{IsGoing, IsQuiet}
+use Rattle.unit_streams.specs.Grammar.{Grammar, Standing, standing, with_more}
+use Rattle.unit_streams.specs.Judging.{ending_at, given_at, history_from, led_by, only, refusal_at}
+use Rattle.unit_streams.specs.Units.{Counted, size_of, UnitsLead}
+use Rattle.line_notation.specs.{LineReaderState.after, LineReaderState.answer, Lines.has_no_feed}
+use Rattle.document_lines.specs.declared.InputFault.{InputFault, TheVariants.TooLong}
+use Rattle.document_lines.specs.Input.{ending_fault, line_at, lines_of_documents, refused_line}
+use Rattle.document_lines.{specs.Input.Settings, specs.Input.Situation, proofs.Lines.short_enough}
 use Rattle.document_lines.proofs.LineSteps.{begins_quiet, begins_standing, refused_incomplete}
+use Rattle.document_lines.proofs.Lines.{begun_no_feed, long_enough, no_feed_begun, readable}
 
 -- no bytes are wrong as a line
 never_wrong : (b : List ℕ) (fault : InputFault) (n : ℕ) → line_at b ≡ wrong fault n → ⊥

@@ -1,25 +1,21 @@
 -- Input of a few lines: what is written of it, and why it is refused, by computation alone.
-use Rattle.std.proofs.Common.{◌≡◌, ℕ, List, [], ◌∷◌, ◌++◌, map, Option, Some, None, refl}
-use Rattle.std.specs.Prelude.{⊤, codes}
-use Rattle.std.specs.Char.{encode_utf8}
-use Rattle.multibyte_ints.specs.Integer.{shortest, shortest_within}
-use Rattle.multibyte_ints.specs.Text.{string_bytes_of}
-use Rattle.unit_streams.specs.Grammar.{standing, peel, peeled}
-use Rattle.unit_streams.specs.Judging.{offence, history, history_from, event_at, refusal_at}
-use Rattle.unit_streams.specs.Judging.{ending_at}
-use Rattle.unit_streams.specs.Tellers.{report, told_along, state_behind}
-use Rattle.nbfx_values.specs.Limits.{Limits, limits, usual_limits}
-use Rattle.nbfx_values.specs.declared.session.Kind.{Kind}
-use Rattle.nbfx_values.specs.declared.session.Kind.TheVariants.{Plain, Session}
+use Rattle.std.proofs.Common.{◌≡◌, ℕ, List, [], ◌∷◌, ◌++◌, map, Some, None, codes, Option, refl}
+use Rattle.std.specs.{Prelude.⊤, Char.encode_utf8}
+use Rattle.unit_streams.specs.{Grammar.peel, Grammar.peeled, Grammar.standing, Judging.refusal_at}
+use Rattle.unit_streams.specs.Judging.{ending_at, event_at, history, history_from, offence}
+use Rattle.unit_streams.specs.Tellers.{report, state_behind, told_along}
+use Rattle.multibyte_ints.specs.{Integer.shortest, Integer.shortest_within, Text.string_bytes_of}
+use Rattle.nbfx_values.specs.declared.session.Kind.{Kind, TheVariants.Plain, TheVariants.Session}
 use Rattle.nbfx_values.specs.declared.session.Mode.{Mode}
-use Rattle.nbfx_values.specs.declared.session.Mode.TheVariants.{Singleton, Duplex, Simplex}
-use Rattle.line_notation.specs.declared.reader.LineKind.TheVariants.{NotALine, OutOfPlace, Cut}
-use Rattle.line_notation.specs.declared.reader.LineKind.TheVariants.{WrongCount}
-use Rattle.line_notation.proofs.OnLiterals.{lines_on_literals}
+use Rattle.nbfx_values.specs.declared.session.Mode.TheVariants.{Duplex, Simplex, Singleton}
+use Rattle.nbfx_values.specs.Limits.{Limits, limits, usual_limits}
 use Rattle.nbfx_encoder.specs.declared.faults.EncodeFault.TheVariants.{TooDeep}
-use Rattle.document_lines.specs.Input.{Settings, lines_of_documents, envelopes_and_end}
+use Rattle.line_notation.proofs.OnLiterals.{lines_on_literals}
+use Rattle.line_notation.specs.declared.reader.LineKind.TheVariants.{Cut, NotALine, OutOfPlace}
+use Rattle.line_notation.specs.declared.reader.LineKind.TheVariants.{WrongCount}
 use Rattle.document_lines.specs.declared.InputFault.{InputFault}
-use Rattle.document_lines.specs.declared.InputFault.TheVariants.{Line, Unfit, TooLong}
+use Rattle.document_lines.specs.declared.InputFault.TheVariants.{Line, TooLong, Unfit}
+use Rattle.document_lines.specs.Input.{envelopes_and_end, lines_of_documents, Settings}
 
 -- the input, what is written of it, and why it is refused
 abbrev Row : Type 0

@@ -1,45 +1,38 @@
 -- What is written of any input, and why it is refused.
-use Rattle.std.proofs.Common.{◌≡◌, ℕ, ◌+◌, ◌≤◌, inl, inr, List, [], ◌∷◌, ◌++◌, length, take, drop}
-use Rattle.std.proofs.Common.{Bool, true, false, Option, Some, None, Result, Ok, Err, refl, sym, ap}
-use Rattle.std.proofs.Common.{◌∙◌, subst, arith, length-append}
-use Rattle.std.specs.Prelude.{◌==◌, ◌&&◌, ◌||◌, not, nat_lt, if◌then◌else◌}
-use Rattle.std.proofs.lemmas.Bool.{cases_Bool, eqb-false, eqb-true, ltb-false}
-use Rattle.std.proofs.lemmas.List.{append-nil, nil_from_length}
-use Rattle.unit_streams.specs.Front.{begun, whole}
-use Rattle.unit_streams.specs.Grammar.{Grammar}
+use Rattle.std.proofs.Common.{◌≡◌, ℕ, ◌+◌, ◌≤◌, Bool, true, false, not, ◌&&◌, ◌||◌, List, [], ◌∷◌}
+use Rattle.std.proofs.Common.{◌++◌, length, take, drop, if◌then◌else◌, nat_lt, ◌==◌, Some, None, Ok}
+use Rattle.std.proofs.Common.{Err, Option, Result, sym, refl, ap, ◌∙◌, subst, inl, inr, append-nil}
+use Rattle.std.proofs.Common.{arith, length-append, ltb-false, eqb-true}
+use Rattle.std.proofs.lemmas.{Bool.cases_Bool, Bool.eqb-false, List.nil_from_length}
+use Rattle.unit_streams.proofs.{Accepted.leads_length, Pieces.told_flat}
+use Rattle.unit_streams.proofs.Units.{between_first, Brings, short_below, units_bring}
+use Rattle.unit_streams.specs.{Front.begun, Front.whole, Grammar.Grammar}
 use Rattle.unit_streams.specs.Judging.{History, history, history_from, led_by, offence, only}
-use Rattle.unit_streams.specs.Units.{Counted, UnitsLead, events_along, size_of}
 use Rattle.unit_streams.specs.Tellers.{report, told_along}
-use Rattle.unit_streams.proofs.Accepted.{leads_length}
-use Rattle.unit_streams.proofs.Pieces.{told_flat}
-use Rattle.unit_streams.proofs.Units.{Brings, between_first, short_below, units_bring}
+use Rattle.unit_streams.specs.Units.{Counted, events_along, size_of, UnitsLead}
 use Rattle.nbfx_values.specs.declared.content.Item.{Item}
-use Rattle.nbfx_encoder.specs.Placing.{Placed}
-use Rattle.nbfx_encoder.specs.Spelling.{Unfit, encoded}
-use Rattle.line_notation.specs.Between.{IsUnrefused, is_between, next_line}
-use Rattle.line_notation.specs.Lines.{AreLinesOf, cut}
-use Rattle.line_notation.specs.LineReaderState.{Standing as LineStanding, failed, going, after}
-use Rattle.line_notation.specs.LineReaderState.{answer, answer_of, at_start, document_of}
-use Rattle.line_notation.specs.LineReaderState.{documents_from, documents_of, ending}
-use Rattle.line_notation.specs.LineReaderState.{ends as ends_document, on as leads_on, outcome}
-use Rattle.line_notation.specs.LineReaderState.{Placed as PlacedLine, standing_from, standing_of}
-use Rattle.line_notation.specs.declared.reader.LineFault.{LineFault}
-use Rattle.line_notation.specs.declared.reader.LineKind.{LineKind}
-use Rattle.line_notation.specs.declared.reader.LineKind.TheVariants.{Cut, WrongCount}
-use Rattle.line_notation.specs.declared.reader.LineStep.{LineStep}
-use Rattle.line_notation.specs.declared.reader.LineStep.TheVariants.{More, Done}
+use Rattle.nbfx_encoder.specs.{Placing.Placed, Spelling.encoded, Spelling.Unfit}
 use Rattle.line_notation.proofs.LinesAre.{read-documents}
-use Rattle.document_lines.specs.Input.{Settings, Situation, lines_of_documents, envelopes_and_end}
-use Rattle.document_lines.specs.Input.{line_at, behind_line, ending_fault, fault_of, is_full}
-use Rattle.document_lines.specs.Input.{is_singleton, refused_line, start_of}
-use Rattle.document_lines.specs.declared.InputFault.{InputFault}
+use Rattle.line_notation.specs.declared.reader.{LineFault.LineFault, LineKind.LineKind}
+use Rattle.line_notation.specs.declared.reader.LineKind.TheVariants.{Cut, WrongCount}
+use Rattle.line_notation.specs.{declared.reader.LineStep.LineStep, Lines.AreLinesOf, Lines.cut}
+use Rattle.line_notation.specs.declared.reader.LineStep.TheVariants.{Done, More}
+use Rattle.line_notation.specs.Between.{is_between, IsUnrefused, next_line}
+use Rattle.line_notation.specs.LineReaderState.{after, answer, answer_of, at_start, document_of}
+use Rattle.line_notation.specs.LineReaderState.{documents_from, documents_of, ending, standing_of}
+use Rattle.line_notation.specs.LineReaderState.{ends as ends_document, failed, going}
+use Rattle.line_notation.specs.LineReaderState.{on as leads_on, outcome, Placed as PlacedLine}
+use Rattle.line_notation.specs.LineReaderState.{Standing as LineStanding, standing_from}
+use Rattle.document_lines.{specs.declared.InputFault.InputFault, proofs.Standings.no_lone}
 use Rattle.document_lines.specs.declared.InputFault.TheVariants.{Line, TooLong}
-use Rattle.document_lines.proofs.Built.{lines_of, joined, cuts, walk as envelopes_of}
-use Rattle.document_lines.proofs.Lines.{cut_line, readable, short_enough}
-use Rattle.document_lines.proofs.Standings.{no_lone}
+use Rattle.document_lines.specs.Input.{behind_line, ending_fault, envelopes_and_end, fault_of}
+use Rattle.document_lines.specs.Input.{is_full, is_singleton, line_at, lines_of_documents}
+use Rattle.document_lines.specs.Input.{refused_line, Settings, Situation, start_of}
 use Rattle.document_lines.specs.Laws.{Explains, InputIsWritten, IsWritten}
-use Rattle.document_lines.proofs.Walking.{Stop, Walk, at_quota, at_refusal, at_the_end, fills}
-use Rattle.document_lines.proofs.Walking.{goes_out, refuses, walk}
+use Rattle.document_lines.proofs.Built.{cuts, joined, lines_of, walk as envelopes_of}
+use Rattle.document_lines.proofs.Lines.{cut_line, readable, short_enough}
+use Rattle.document_lines.proofs.Walking.{at_quota, at_refusal, at_the_end, fills, goes_out}
+use Rattle.document_lines.proofs.Walking.{refuses, Stop, Walk, walk}
 
 -- lines may end between documents
 between_ends : (s : LineStanding) → is_between s ≡ true → ending s ≡ Ok tt

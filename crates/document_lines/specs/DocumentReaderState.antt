@@ -1,30 +1,22 @@
 -- What a reader of lines of documents stands for, and what its parts answer.
-use Rattle.std.specs.Prelude.{◌≡◌, ⊤, ℕ, ◌<◌, List, ◌++◌, length, take, true, Option, Some, None}
-use Rattle.std.specs.Prelude.{Result, Ok, Err, if◌then◌else◌}
-use Rattle.unit_streams.specs.Grammar.{standing}
-use Rattle.unit_streams.specs.Judging.{event_at, refusal_at}
+use Rattle.std.specs.Prelude.{◌≡◌, ℕ, ◌<◌, true, List, ◌++◌, length, take, if◌then◌else◌, Some}
+use Rattle.std.specs.Prelude.{None, Ok, Err, Option, Result, ⊤}
 use Rattle.unit_streams.specs.Going.{IsGoing, IsQuiet, IsQuietBefore}
-use Rattle.line_notation.specs.Between.{IsUnrefused, is_between}
-use Rattle.line_notation.specs.LineReaderState.{after, answer}
-use Rattle.nbfx_values.specs.Limits.{IsGood}
-use Rattle.nbfx_values.specs.QuotasOf.{limits_of}
-use Rattle.nbfx_values.specs.declared.session.Mode.{Mode}
-use Rattle.nbfx_encoder.specs.Envelopes.{envelope}
-use Rattle.nbfx_encoder.specs.Placing.{Placed}
-use Rattle.nbfx_encoder.specs.Refusals.{told}
-use Rattle.nbfx_encoder.specs.Spelling.{Unfit}
-use Rattle.nbfx_encoder.specs.Sending.{behind_message, kind_in, limits_in, mode_in, names_in}
-use Rattle.nbfx_encoder.specs.Sending.{state_in}
-use Rattle.nbfx_encoder.specs.declared.sender.SendState.{SendState}
+use Rattle.unit_streams.specs.{Grammar.standing, Judging.event_at, Judging.refusal_at}
+use Rattle.nbfx_values.specs.{declared.session.Mode.Mode, Limits.IsGood, QuotasOf.limits_of}
+use Rattle.nbfx_encoder.specs.{declared.sender.SendState.SendState, Refusals.told}
 use Rattle.nbfx_encoder.specs.declared.sender.SendState.TheVariants.{Ready, Spent}
+use Rattle.nbfx_encoder.specs.{Envelopes.envelope, Placing.Placed, Sending.state_in, Spelling.Unfit}
+use Rattle.nbfx_encoder.specs.Sending.{behind_message, kind_in, limits_in, mode_in, names_in}
 use Rattle.stream_loop.specs.declared.reading_end.FeedFault.{FeedFault}
-use Rattle.stream_loop.specs.declared.reading_end.FeedFault.TheVariants.{Refused, Memory}
-use Rattle.document_lines.specs.Input.{Settings, Situation, behind_line, completed_line, is_full}
-use Rattle.document_lines.specs.Input.{lines_of_documents, refused_line}
-use Rattle.document_lines.specs.declared.InputFault.{InputFault}
-use Rattle.document_lines.specs.declared.InputFault.TheVariants.{Unfit as DoesNotFit}
+use Rattle.stream_loop.specs.declared.reading_end.FeedFault.TheVariants.{Memory, Refused}
+use Rattle.line_notation.specs.Between.{is_between, IsUnrefused}
+use Rattle.line_notation.specs.LineReaderState.{after, answer}
+use Rattle.document_lines.specs.declared.InputFault.{InputFault, TheVariants.Unfit as DoesNotFit}
 use Rattle.document_lines.specs.declared.line_encoder.LineEncoder.{LineEncoder}
 use Rattle.document_lines.specs.declared.reader.DocumentReader.{DocumentReader}
+use Rattle.document_lines.specs.Input.{behind_line, completed_line, is_full, lines_of_documents}
+use Rattle.document_lines.specs.Input.{refused_line, Settings, Situation}
 
 -- ---- whole lines
 

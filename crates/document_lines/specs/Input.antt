@@ -1,29 +1,21 @@
 -- Lines of documents as a stream: its units are lines, its events the envelopes of documents.
-use Rattle.std.specs.Prelude.{ℕ, ◌+◌, ◌==◌, nat_le, nat_lt, if◌then◌else◌, List, [], ◌∷◌, Bool}
-use Rattle.std.specs.Prelude.{true, false, not, ◌&&◌, ◌||◌, Option, Some, None, Result, Ok, Err}
-use Rattle.unit_streams.specs.Front.{Front, begun, whole, wrong}
-use Rattle.unit_streams.specs.Grammar.{Grammar}
-use Rattle.unit_streams.specs.Tellers.{Teller}
-use Rattle.nbfx_values.specs.Limits.{Limits}
-use Rattle.nbfx_values.specs.declared.content.Item.{Item}
-use Rattle.nbfx_values.specs.declared.session.Kind.{Kind}
-use Rattle.nbfx_values.specs.declared.session.Mode.{Mode}
-use Rattle.nbfx_values.specs.declared.session.Mode.TheVariants.{Singleton}
-use Rattle.string_tables.specs.StaticStrings.{Entry}
-use Rattle.string_tables.specs.StringTable.{StringTable}
-use Rattle.line_notation.specs.Between.{is_between, next_line}
-use Rattle.line_notation.specs.LineReaderState.{Standing, at_start, after, answer}
-use Rattle.line_notation.specs.declared.reader.LineFault.{LineFault}
+use Rattle.std.specs.Prelude.{ℕ, ◌+◌, Bool, true, false, not, ◌&&◌, ◌||◌, List, [], ◌∷◌, Result}
+use Rattle.std.specs.Prelude.{if◌then◌else◌, nat_lt, nat_le, ◌==◌, Some, None, Ok, Err, Option}
+use Rattle.unit_streams.specs.Front.{begun, Front, whole, wrong}
+use Rattle.unit_streams.specs.{Grammar.Grammar, Tellers.Teller}
+use Rattle.string_tables.specs.{StaticStrings.Entry, StringTable.StringTable}
+use Rattle.nbfx_values.specs.{declared.content.Item.Item, Limits.Limits}
+use Rattle.nbfx_values.specs.declared.session.{Kind.Kind, Mode.Mode, Mode.TheVariants.Singleton}
+use Rattle.nbfx_encoder.specs.{Envelopes.envelope, Placing.Placed, Refusals.told}
+use Rattle.nbfx_encoder.specs.Spelling.{encoded, Unfit}
+use Rattle.line_notation.specs.declared.reader.{LineFault.LineFault, LineStep.LineStep}
 use Rattle.line_notation.specs.declared.reader.LineFault.TheVariants.{Bad, Memory}
 use Rattle.line_notation.specs.declared.reader.LineKind.TheVariants.{Cut, WrongCount}
-use Rattle.line_notation.specs.declared.reader.LineStep.{LineStep}
-use Rattle.line_notation.specs.declared.reader.LineStep.TheVariants.{More, Done}
-use Rattle.nbfx_encoder.specs.Envelopes.{envelope}
-use Rattle.nbfx_encoder.specs.Placing.{Placed}
-use Rattle.nbfx_encoder.specs.Refusals.{told}
-use Rattle.nbfx_encoder.specs.Spelling.{Unfit, encoded}
+use Rattle.line_notation.specs.declared.reader.LineStep.TheVariants.{Done, More}
+use Rattle.line_notation.specs.Between.{is_between, next_line}
+use Rattle.line_notation.specs.LineReaderState.{after, answer, at_start, Standing}
 use Rattle.document_lines.specs.declared.InputFault.{InputFault}
-use Rattle.document_lines.specs.declared.InputFault.TheVariants.{Line, Unfit as DoesNotFit, TooLong}
+use Rattle.document_lines.specs.declared.InputFault.TheVariants.{Line, TooLong, Unfit as DoesNotFit}
 
 -- how the documents are written, and how long the input may be
 pub record Settings : Type 0 where

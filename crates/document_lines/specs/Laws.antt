@@ -1,23 +1,19 @@
 -- What holds of lines of documents by the definitions alone.
-use Rattle.std.specs.Prelude.{◌≡◌, ℕ, ◌+◌, ◌<◌, ◌≤◌, List, [], ◌∷◌, ◌++◌, length, true, false}
-use Rattle.std.specs.Prelude.{Option, Some, None, Ok, Err}
-use Rattle.unit_streams.specs.Going.{IsPending}
-use Rattle.unit_streams.specs.Judging.{offence, refusal_at}
+use Rattle.std.specs.Prelude.{◌≡◌, ℕ, ◌+◌, ◌<◌, ◌≤◌, true, false, List, [], ◌∷◌, ◌++◌, length, Some}
+use Rattle.std.specs.Prelude.{None, Ok, Err, Option}
+use Rattle.unit_streams.specs.{Going.IsPending, Judging.offence, Judging.refusal_at}
 use Rattle.unit_streams.specs.Tellers.{Closes, report}
-use Rattle.line_notation.specs.Lines.{AreLinesOf, cut}
-use Rattle.line_notation.specs.LineReaderState.{answer, documents_of, standing}
-use Rattle.line_notation.specs.declared.reader.LineStep.TheVariants.{Done}
-use Rattle.nbfx_values.specs.declared.content.Item.{Item}
 use Rattle.string_tables.specs.StringTable.{StringTable}
-use Rattle.nbfx_encoder.specs.declared.faults.EncodeFault.{EncodeFault}
-use Rattle.nbfx_encoder.specs.Refusals.{told}
-use Rattle.nbfx_encoder.specs.Spelling.{Unfit, encoded}
-use Rattle.nbfx_encoder.specs.Envelopes.{envelopes_from}
-use Rattle.nbfx_encoder.specs.Placing.{Placed}
-use Rattle.document_lines.specs.Input.{Settings, lines_of_documents, envelopes_and_end}
-use Rattle.document_lines.specs.Input.{is_singleton}
-use Rattle.document_lines.specs.declared.InputFault.{InputFault}
-use Rattle.document_lines.specs.declared.InputFault.TheVariants.{Line, Unfit as DoesNotFit, TooLong}
+use Rattle.nbfx_values.specs.declared.content.Item.{Item}
+use Rattle.nbfx_encoder.specs.{declared.faults.EncodeFault.EncodeFault, Refusals.told}
+use Rattle.nbfx_encoder.specs.{Envelopes.envelopes_from, Placing.Placed}
+use Rattle.nbfx_encoder.specs.Spelling.{encoded, Unfit}
+use Rattle.line_notation.specs.declared.reader.LineStep.TheVariants.{Done}
+use Rattle.line_notation.specs.LineReaderState.{answer, documents_of, standing}
+use Rattle.line_notation.specs.Lines.{AreLinesOf, cut}
+use Rattle.document_lines.specs.{declared.InputFault.InputFault, Input.Settings}
+use Rattle.document_lines.specs.declared.InputFault.TheVariants.{Line, TooLong, Unfit as DoesNotFit}
+use Rattle.document_lines.specs.Input.{envelopes_and_end, is_singleton, lines_of_documents}
 
 -- no event ends the input, and each line is known by its own bytes
 abbrev pub InputIsClosed : Type 0

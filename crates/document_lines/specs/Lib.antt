@@ -1,5 +1,15 @@
--- cited by whoever reads documents in lines to write them: the grammar (Input), where a reader
--- stands (DocumentReaderState), and what holds by the definitions alone (Laws)
+-- Cited by whoever reads documents in lines to write them: the grammar (Input), where a reader
+-- stands (DocumentReaderState), and what holds by the definitions alone (Laws).
 pub mod Input
 pub mod DocumentReaderState
 pub mod Laws
+-- Cited by whoever reads a list of documents: what bytes are read as (Documents), what a file says
+-- (Files), and what was read of a source (Taking).
+pub mod Documents
+pub mod Files
+pub mod Taking
+-- Private calls cite these: what a line is answered with (LineAnswers), what a reader of a list has
+-- read so far (ListReaderState), and what was taken for it (Taken).
+pub mod LineAnswers
+pub mod ListReaderState
+pub mod Taken

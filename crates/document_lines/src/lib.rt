@@ -1,4 +1,5 @@
-//! Lines of documents as a stream: each document that its lines complete is an envelope.
+//! Lines of documents: as a stream of which each document is an envelope, and as the list of these
+//! documents.
 //!
 //! The one idea is that such input is a stream of units like any other (`unit_streams`), whose
 //! units are lines with their line feeds. Its situation is where the reader of lines stands
@@ -6,24 +7,42 @@
 //! last line completes an event, the document's envelope in its chosen spelling (`nbfx_encoder`). A
 //! line that is refused, a document that can't be written, and too many bytes refuse the stream. So
 //! the order of refusals, what is written before one, and that pieces don't matter need no
-//! definition of their own.
+//! definition of their own. A [`DocumentReader`] reads such input in any pieces, and answers what
+//! the grammar does: the envelope of a document at its last line, or the first refusal.
 //!
-//! A [`DocumentReader`] reads such input in any pieces, and answers what the grammar does: the
-//! envelope of a document at its last line, or the first refusal. `specs/Input` has the grammar,
-//! `specs/DocumentReaderState` which bytes a reader has read, and `specs/Laws` what holds by the
-//! definitions alone, which [`laws`] carries.
+//! Where the documents themselves are wanted, what lines say is a function of all their bytes
+//! (`specs/Documents`): the lines are cut at their line feeds and read as `line_notation` reads
+//! them, and either each line and the end of the bytes are fine, and their documents are the list,
+//! or the first refusal is the answer. Bytes that are as many as a quota are too long, unless a
+//! line before that is refused. [`read_documents`] reads bytes that are in memory, and
+//! [`fetch_documents`] those of a shelf's file, into a list. [`take_documents`] reads those of a
+//! source, in the pieces in which they come, and hands each document to a [`Keeper`] as soon as it
+//! is read: of the bytes it holds those of the unfinished line alone, and of the documents what the
+//! keeper keeps.
+//!
+//! `specs/Input` has the grammar, `specs/DocumentReaderState` which bytes a reader has read, and
+//! `specs/Laws` what holds by the definitions alone, which [`laws`] carries. Contracts of private
+//! calls on lists are in `specs/LineAnswers`.
 #![tactic(auto)]
 
 mod envelope;
+mod fetching;
+mod keeper;
 pub mod laws;
 mod line_encoder;
 mod reader;
+mod reading;
 mod reading_end;
+mod taking;
 
 pub use envelope::Envelope;
+pub use fetching::{FileFault, fetch_documents};
+pub use keeper::Keeper;
 use line_notation::LineKind;
 use nbfx_encoder::EncodeFault;
 pub use reader::DocumentReader;
+pub use reading::{ListFault, read_documents};
+pub use taking::take_documents;
 
 /// Why lines of documents are refused.
 #[derive(Clone, Copy, Debug, PartialEq, Eq)]

@@ -1,16 +1,13 @@
 -- A report that isn't begun, and one that goes through a sink that gathers.
-use Rattle.std.proofs.Common.{◌≡◌, ℕ, List, [], ◌++◌, Bool, Option, refl, sym, ap, ◌∙◌, subst}
-use Rattle.std.proofs.Common.{arith, inl}
-use Rattle.std.proofs.lemmas.List.{append-nil}
-use Rattle.unit_streams.specs.Grammar.{Grammar}
-use Rattle.unit_streams.specs.Tellers.{Teller}
-use Rattle.stream_loop.specs.Answers.{EndsWithin}
-use Rattle.stream_loop.specs.Edges.{Input, Output, output_at}
-use Rattle.stream_loop.specs.Reported.{Breaks, Decides, EndsAs, Reaches}
-use Rattle.stream_loop.specs.declared.reporting.Ending.{Ending}
-use Rattle.stream_loop.specs.declared.reporting.Ending.TheVariants as endings
+use Rattle.std.proofs.Common.{◌≡◌, ℕ, Bool, List, [], ◌++◌, Option, sym, refl, ap, ◌∙◌, subst, inl}
+use Rattle.std.proofs.Common.{append-nil, arith}
+use Rattle.unit_streams.specs.{Grammar.Grammar, Tellers.Teller}
 use Rattle.stream_loop.proofs.LoopSteps.{first_pending, writes_none}
 use Rattle.stream_loop.proofs.Writing.{counted_none, known_told}
+use Rattle.stream_loop.specs.{declared.reporting.Ending.Ending, Answers.EndsWithin}
+use Rattle.stream_loop.specs.Edges.{Input, Output, output_at}
+use Rattle.stream_loop.specs.Reported.{Breaks, Decides, EndsAs, Reaches}
+use Rattle.stream_loop.specs.declared.reporting.Ending.TheVariants as endings
 
 module _ {Z U E R S : Type 0} (g : Grammar Z U E R) (t : Teller S E R) where
   module _ (i : Input) (o : Output) where

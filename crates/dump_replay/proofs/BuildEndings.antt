@@ -1,24 +1,16 @@
 -- The writing of a session: its preamble, and what its ending says.
-use Rattle.std.proofs.Common.{◌≡◌, ℕ, zero, suc, ◌+◌, ◌/◌, ◌%◌, ◌≤◌, List, [], ◌∷◌, ◌++◌, length}
-use Rattle.std.proofs.Common.{Bool, true, false, refl, arith}
-use Rattle.std.proofs.Common.{length-append}
-use Rattle.std.specs.Prelude.{nat_lt, if◌then◌else◌}
-use Rattle.nbfx_values.specs.Limits.{IsGood}
-use Rattle.nbfx_values.specs.Limits.{Limits}
-use Rattle.nbfx_values.specs.Session.{kind_number}
-use Rattle.multibyte_ints.specs.Integer.{shortest, shortest_within}
-use Rattle.multibyte_ints.specs.Text.{string_bytes_of}
+use Rattle.std.proofs.Common.{◌≡◌, ℕ, zero, suc, ◌+◌, ◌/◌, ◌%◌, ◌≤◌, Bool, true, false, List, []}
+use Rattle.std.proofs.Common.{◌∷◌, ◌++◌, length, if◌then◌else◌, nat_lt, refl, arith, length-append}
+use Rattle.{string_tables.specs.StaticStrings.Entry, command_words.specs.Tasks.Opening}
+use Rattle.multibyte_ints.specs.{Integer.shortest, Integer.shortest_within, Text.string_bytes_of}
+use Rattle.nbfx_values.specs.{Limits.IsGood, Limits.Limits, Session.kind_number}
 use Rattle.nmf_records.specs.declared.record_types.TheConstants.{KNOWN_ENCODING, PREAMBLE_END}
-use Rattle.string_tables.specs.StaticStrings.{Entry}
-use Rattle.command_words.specs.Tasks.{Opening}
-use Rattle.stream_loop.specs.Edges.{Input, Output}
-use Rattle.stream_loop.specs.Answers.{EndsWithin}
-use Rattle.stream_loop.specs.declared.reporting.Ending.TheVariants as endings
-use Rattle.document_lines.specs.Input.{Settings, envelopes_and_end, lines_of_documents}
+use Rattle.stream_loop.specs.{Answers.EndsWithin, Edges.Input, Edges.Output}
 use Rattle.document_lines.proofs.Lines.{begins, bounded, closes}
-use Rattle.dump_replay.specs.Building.{Builds, preamble_of, settings_for_building}
-use Rattle.dump_replay.specs.Building.{with_preamble}
+use Rattle.document_lines.specs.Input.{envelopes_and_end, lines_of_documents, Settings}
+use Rattle.dump_replay.specs.Building.{Builds, preamble_of, settings_for_building, with_preamble}
 use Rattle.dump_replay.proofs.Beginnings.{ends_so, not_begun}
+use Rattle.stream_loop.specs.declared.reporting.Ending.TheVariants as endings
 
 -- the loop may read lines of documents
 pub lines_end_within : (x : Settings) → IsGood x.limits

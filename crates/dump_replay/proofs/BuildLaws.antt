@@ -1,39 +1,29 @@
 -- What is written of documents is a session of them, and when it is written (specs/Laws, Building).
-use Rattle.std.proofs.Common.{◌≡◌, ℕ, ◌≤◌, ◌⊎◌, inl, inr, List, [], ◌∷◌, ◌++◌, length, map, true}
-use Rattle.std.proofs.Common.{IsUtf8, Option, Some, None, refl, sym, ap, ◌∙◌, subst}
-use Rattle.std.proofs.lemmas.List.{append_assoc, append-nil}
-use Rattle.std.specs.List.{flat_map}
-use Rattle.io_edges.specs.Faults.{Rose}
-use Rattle.unit_streams.specs.Tellers.{report as report_by}
-use Rattle.nbfx_values.specs.Limits.{IsGood, Limits}
-use Rattle.nbfx_values.specs.declared.content.Item.{Item}
-use Rattle.nbfx_values.specs.declared.session.Mode.{Mode}
-use Rattle.nbfx_values.specs.declared.session.Mode.TheVariants.{Duplex, Simplex, Singleton}
+use Rattle.std.proofs.Common.{◌≡◌, ℕ, ◌≤◌, true, ◌⊎◌, List, [], ◌∷◌, ◌++◌, map, length, Some, None}
+use Rattle.std.proofs.Common.{IsUtf8, Option, flat_map, sym, refl, ap, ◌∙◌, subst, inl, inr}
+use Rattle.std.proofs.Common.{append_assoc, append-nil}
+use Rattle.{io_edges.specs.Faults.Rose, unit_streams.specs.Tellers.report as report_by}
 use Rattle.string_tables.specs.StaticStrings.{Entry, IsStaticMap}
+use Rattle.nbfx_values.specs.declared.{content.Item.Item, session.Mode.Mode}
+use Rattle.nbfx_values.specs.declared.session.Mode.TheVariants.{Duplex, Simplex, Singleton}
+use Rattle.nbfx_values.specs.Limits.{IsGood, Limits}
+use Rattle.stream_reader.specs.Sessions.{Carried, conversation, IsPreamble, IsSession}
+use Rattle.stream_reader.specs.{Sessions.session_events, Stream.Settings}
+use Rattle.stream_loop.specs.{declared.reporting.Ending.Ending, Edges.Input, Edges.Output}
 use Rattle.initiator_machine.proofs.Openings.{openings_are_preambles}
-use Rattle.line_notation.specs.Lines.{AreLinesOf, cut}
-use Rattle.line_notation.specs.LineReaderState.{documents_of}
-use Rattle.document_lines.specs.Input.{Settings as LineSettings, envelopes_and_end, is_singleton}
-use Rattle.document_lines.specs.Input.{lines_of_documents}
-use Rattle.document_lines.specs.Laws.{Explains, IsWritten}
-use Rattle.document_lines.specs.declared.InputFault.{InputFault}
-use Rattle.document_lines.proofs.Written.{written}
-use Rattle.session_ends.specs.Sent.{AreDocuments, AreSent, MayBeSent, session_bytes}
-use Rattle.session_ends.proofs.Sent.{sent_are_sessions}
-use Rattle.stream_loop.specs.Edges.{Input, Output}
-use Rattle.stream_loop.specs.declared.reporting.Ending.{Ending}
-use Rattle.stream_loop.specs.declared.reporting.Ending.TheVariants as endings
-use Rattle.stream_reader.specs.Sessions.{Carried, IsPreamble, IsSession, conversation}
-use Rattle.stream_reader.specs.Sessions.{session_events}
-use Rattle.stream_reader.specs.Stream.{Settings}
-use Rattle.command_words.specs.Tasks.{Opening}
-use Rattle.dump_replay.specs.Laws.{BuildsAreComplete, BuiltAreSessions, IsBuiltOf, IsBuiltWell}
-use Rattle.dump_replay.specs.Laws.{IsSessionOf, ReadsAsMuch, input_offence, session_of}
-use Rattle.dump_replay.specs.Laws.{status_of_input}
-use Rattle.dump_replay.specs.Building.{Builds, preamble_of, settings_for_building}
-use Rattle.dump_replay.specs.Building.{status_of_building}
+use Rattle.{session_report.proofs.Sessions.reports_sessions, command_words.specs.Tasks.Opening}
 use Rattle.session_report.specs.Report.{report, told_of}
-use Rattle.session_report.proofs.Sessions.{reports_sessions}
+use Rattle.line_notation.specs.{LineReaderState.documents_of, Lines.AreLinesOf, Lines.cut}
+use Rattle.document_lines.{proofs.Written.written, specs.Input.Settings as LineSettings}
+use Rattle.document_lines.specs.{declared.InputFault.InputFault, Laws.Explains, Laws.IsWritten}
+use Rattle.document_lines.specs.Input.{envelopes_and_end, is_singleton, lines_of_documents}
+use Rattle.session_ends.proofs.Sent.{sent_are_sessions}
+use Rattle.session_ends.specs.Sent.{AreDocuments, AreSent, MayBeSent, session_bytes}
+use Rattle.dump_replay.specs.Building.{Builds, preamble_of, settings_for_building}
+use Rattle.dump_replay.specs.{Building.status_of_building, Laws.status_of_input}
+use Rattle.dump_replay.specs.Laws.{BuildsAreComplete, BuiltAreSessions, input_offence, IsBuiltOf}
+use Rattle.dump_replay.specs.Laws.{IsBuiltWell, IsSessionOf, ReadsAsMuch, session_of}
+use Rattle.stream_loop.specs.declared.reporting.Ending.TheVariants as endings
 
 -- ---- sessions
 

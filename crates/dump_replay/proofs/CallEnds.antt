@@ -1,38 +1,28 @@
 -- What a call leaves, by what became of it, and files of documents that aren't read.
-use Rattle.std.proofs.Common.{◌≡◌, ℕ, ◌≤◌, ◌⊎◌, inl, inr, List, Bool, true, false}
-use Rattle.std.proofs.Common.{refl, sym, ap, subst, arith}
-use Rattle.std.specs.Prelude.{◌||◌, if◌then◌else◌}
-use Rattle.io_edges.specs.Faults.{Rose}
-use Rattle.nbfx_values.specs.declared.refusals.Reason.{Reason}
-use Rattle.nbfx_values.specs.declared.refusals.Reason.TheVariants.{SessionTooLong}
-use Rattle.stream_loop.specs.Edges.{Input, Output}
-use Rattle.stream_follower.specs.declared.writing.Outbound.{Outbound}
-use Rattle.stream_follower.specs.declared.writing.Outbound.TheVariants as outbounds
-use Rattle.document_lines.specs.declared.InputFault.TheVariants as faults
-use Rattle.document_lists.specs.declared.fetching.FileFault.{FileFault}
-use Rattle.document_lists.specs.declared.fetching.FileFault.TheVariants as files
-use Rattle.document_lists.specs.declared.reading.ListFault.{ListFault}
-use Rattle.document_lists.specs.declared.reading.ListFault.TheVariants as lists
-use Rattle.connection_server.proofs.Meeting.{rose_by_reads, rose_by_writes}
-use Rattle.client.specs.Sent.{Sending}
-use Rattle.client.specs.declared.outcome.CallOutcome.{CallOutcome}
-use Rattle.client.specs.declared.outcome.ClientIn.{ClientIn}
-use Rattle.client.specs.declared.outcome.ClientIn.TheVariants as heard
-use Rattle.client.specs.declared.outcome.ClientOut.{ClientOut}
-use Rattle.client.specs.declared.outcome.ClientOut.TheVariants as out
-use Rattle.io_edges.specs.Wires.{Network}
-use Rattle.session_calls.specs.Places.{CallsOne, CallsPlace}
-use Rattle.session_calls.specs.Statuses.{fails, fails_in, fails_out, fails_report, inbound_status}
-use Rattle.session_calls.specs.Statuses.{is_unfit, reason_status, status_of}
-use Rattle.session_calls.specs.Statuses.{wants_memory}
-use Rattle.session_calls.specs.declared.called.Called.{Called}
-use Rattle.session_calls.specs.declared.called.Called.TheVariants.{WrongCount, Starved, Unconnected}
-use Rattle.session_calls.specs.declared.called.Called.TheVariants.{Closed}
-use Rattle.dump_replay.specs.Building.{status_of_building}
+use Rattle.std.proofs.Common.{◌≡◌, ℕ, ◌≤◌, Bool, true, false, ◌||◌, ◌⊎◌, List, if◌then◌else◌, sym}
+use Rattle.std.proofs.Common.{refl, ap, subst, inl, inr, arith}
+use Rattle.io_edges.specs.{Faults.Rose, Wires.Network}
+use Rattle.nbfx_values.specs.declared.refusals.Reason.{Reason, TheVariants.SessionTooLong}
+use Rattle.stream_loop.specs.{declared.outbound.Outbound.Outbound, Edges.Input, Edges.Output}
+use Rattle.document_lines.specs.declared.{fetching.FileFault.FileFault, reading.ListFault.ListFault}
+use Rattle.duplex_server.proofs.Meeting.{rose_by_reads, rose_by_writes}
+use Rattle.client.specs.declared.called.Called.{Called, TheVariants.WrongCount}
+use Rattle.client.specs.declared.called.Called.TheVariants.{Closed, Starved, Unconnected}
+use Rattle.client.specs.declared.outcome.{CallOutcome.CallOutcome, ClientIn.ClientIn}
+use Rattle.client.specs.{declared.outcome.ClientOut.ClientOut, Sent.Sending}
+use Rattle.client.specs.Places.{CallsOne, CallsPlace}
+use Rattle.client.specs.Statuses.{fails, fails_in, fails_out, fails_report, inbound_status}
+use Rattle.client.specs.Statuses.{is_unfit, reason_status, status_of, wants_memory}
+use Rattle.dump_replay.specs.{Building.status_of_building, Running.CountsWire, Running.IsJudged}
 use Rattle.dump_replay.specs.Calling.{ending_of_list, status_of_documents}
-use Rattle.dump_replay.specs.Running.{CountsWire, IsJudged}
 use Rattle.dump_replay.proofs.Causes.{Cause, judged, refused, starved, unfit, unread, unwired}
 use Rattle.dump_replay.proofs.Causes.{unwritten, wires_by}
+use Rattle.stream_loop.specs.declared.outbound.Outbound.TheVariants as outbounds
+use Rattle.document_lines.specs.declared.InputFault.TheVariants as faults
+use Rattle.document_lines.specs.declared.fetching.FileFault.TheVariants as files
+use Rattle.document_lines.specs.declared.reading.ListFault.TheVariants as lists
+use Rattle.client.specs.declared.outcome.ClientIn.TheVariants as heard
+use Rattle.client.specs.declared.outcome.ClientOut.TheVariants as out
 
 -- ---- the status of a call
 

@@ -1,21 +1,14 @@
 -- What the command that calls a peer leaves, whatever it did.
-use Rattle.std.proofs.Common.{◌≡◌, ℕ, inl, inr, List, Err, refl, sym, ap, subst, arith}
-use Rattle.std.specs.Prelude.{◌++◌, length}
-use Rattle.nbfx_values.specs.Limits.{Limits}
-use Rattle.nbfx_values.specs.declared.content.Item.{Item}
-use Rattle.string_tables.specs.StaticStrings.{Entry}
+use Rattle.std.proofs.Common.{◌≡◌, ℕ, List, ◌++◌, length, Err, sym, refl, ap, subst, inl, inr}
+use Rattle.{std.proofs.Common.arith, io_edges.specs.Wires.Network}
+use Rattle.{string_tables.specs.StaticStrings.Entry, command_words.specs.Tasks.Opening}
+use Rattle.nbfx_values.specs.{declared.content.Item.Item, Limits.Limits}
 use Rattle.stream_loop.specs.Edges.{Input, Output}
-use Rattle.io_edges.specs.Wires.{Network}
-use Rattle.client.specs.Sent.{Sending, sending}
-use Rattle.session_calls.specs.Statuses.{status_of}
-use Rattle.session_calls.specs.Tags.{sent_line}
-use Rattle.command_words.specs.Tasks.{Opening}
-use Rattle.dump_replay.specs.Calling.{CalledOrNot, CalledPlace, TookNone, UnreadSecond}
-use Rattle.dump_replay.specs.Calling.{ending_of_list, status_of_documents}
-use Rattle.dump_replay.specs.Building.{status_of_building}
-use Rattle.dump_replay.specs.Outside.{SeenShelf, seen}
-use Rattle.dump_replay.specs.Running.{CountsWire}
-use Rattle.dump_replay.specs.Working.{Leaves}
+use Rattle.client.specs.{Sent.Sending, Sent.sending, Statuses.status_of, Tags.sent_line}
+use Rattle.dump_replay.specs.{Building.status_of_building, Running.CountsWire, Working.Leaves}
+use Rattle.dump_replay.specs.Calling.{CalledOrNot, CalledPlace, ending_of_list, status_of_documents}
+use Rattle.dump_replay.specs.Calling.{TookNone, UnreadSecond}
+use Rattle.dump_replay.specs.Outside.{seen, SeenShelf}
 use Rattle.dump_replay.proofs.CallEnds.{called_cause, called_out, called_wire, called_writes}
 use Rattle.dump_replay.proofs.CallEnds.{list_cause, report_rose, second_cause}
 use Rattle.dump_replay.proofs.Causes.{leaves_by, wires_by}

@@ -1,10 +1,8 @@
 -- The statuses of a run by what causes them: each outcome has one lemma that says so, and what a
 -- run leaves whatever it did follows.
-use Rattle.std.proofs.Common.{◌≡◌, ℕ, ◌≤◌, ◌⊎◌, inl, inr, refl, sym, ◌∙◌, arith}
-use Rattle.io_edges.specs.Faults.{Rose, one_more}
-use Rattle.dump_replay.specs.Outside.{Outside}
-use Rattle.dump_replay.specs.Running.{IsJudged, IsStatus}
-use Rattle.dump_replay.specs.Working.{Leaves}
+use Rattle.std.proofs.Common.{◌≡◌, ℕ, ◌≤◌, ◌⊎◌, sym, refl, ◌∙◌, inl, inr, arith}
+use Rattle.io_edges.specs.Faults.{one_more, Rose}
+use Rattle.dump_replay.specs.{Outside.Outside, Running.IsJudged, Running.IsStatus, Working.Leaves}
 
 -- the status of a stream that is judged, or of the first that failed: `reads`, `writes` and `wires`
 -- say that a read, a write, or a connection did

@@ -1,64 +1,42 @@
 -- The status of a run in which nothing of the outside fails (specs/Complete).
-use Rattle.std.proofs.Common.{◌≡◌, ℕ, ◌⊎◌, inl, inr, List, length}
-use Rattle.std.proofs.Common.{Option, Some, Result, Ok, Err, refl, sym, ap, ◌∙◌, subst}
-use Rattle.std.specs.Prelude.{if◌then◌else◌}
-use Rattle.io_edges.specs.Faults.{Rose}
-use Rattle.io_edges.specs.Store.{Store}
-use Rattle.nbfx_values.specs.Limits.{Limits}
-use Rattle.nbfx_values.specs.declared.content.Item.{Item}
-use Rattle.nbfx_values.specs.declared.refusals.Offence.{Offence}
-use Rattle.nbfx_values.specs.declared.refusals.Reason.{Reason}
-use Rattle.nbfx_values.specs.declared.refusals.Reason.TheVariants.{SessionTooLong}
-use Rattle.string_tables.specs.StaticStrings.{Entry}
-use Rattle.shelf_files.specs.Files.{Has, whole}
-use Rattle.stream_loop.specs.Edges.{Input, Output}
-use Rattle.stream_follower.specs.declared.writing.Outbound.{Outbound}
-use Rattle.stream_follower.specs.declared.writing.Outbound.TheVariants as outbounds
-use Rattle.stream_reader.specs.Judging.{offence}
-use Rattle.stream_reader.specs.Stream.{Settings, any_initiators}
-use Rattle.document_lists.specs.Documents.{documents_within}
-use Rattle.document_lists.specs.Files.{Answers}
-use Rattle.document_lists.specs.Taking.{Says}
-use Rattle.action_dispatch.specs.Answers.{Serves}
-use Rattle.duplex_server.specs.declared.outcome.Inbound.{Inbound}
-use Rattle.duplex_server.specs.declared.outcome.Inbound.TheVariants as inbounds
-use Rattle.duplex_server.specs.Owed.{answering}
-use Rattle.duplex_server.specs.Serving.{Judges}
-use Rattle.session_generator.specs.Generated.{session_of}
-use Rattle.session_generator.specs.Documents.{documents}
+use Rattle.std.proofs.Common.{◌≡◌, ℕ, ◌⊎◌, List, length, if◌then◌else◌, Some, Ok, Err, Option}
+use Rattle.std.proofs.Common.{Result, sym, refl, ap, ◌∙◌, subst, inl, inr}
+use Rattle.io_edges.specs.{Faults.Rose, Files.Has, Files.whole, Store.Store}
+use Rattle.{string_tables.specs.StaticStrings.Entry, nbfx_values.specs.Limits.Limits}
+use Rattle.nbfx_values.specs.declared.{content.Item.Item, refusals.Offence.Offence}
+use Rattle.nbfx_values.specs.declared.refusals.Reason.{Reason, TheVariants.SessionTooLong}
+use Rattle.stream_reader.specs.{Judging.offence, Stream.any_initiators, Stream.Settings}
+use Rattle.stream_loop.specs.{declared.outbound.Outbound.Outbound, Edges.Input, Edges.Output}
 use Rattle.session_report.specs.declared.reporter.Outcome.TheVariants.{Ended}
-use Rattle.session_replay.specs.Responding.{reading_actions, served_by}
-use Rattle.session_summary.specs.Summary.{Writes, status_of as status_of_summary}
-use Rattle.session_summary.specs.declared.summary.Summary.{Summary}
-use Rattle.session_summary.specs.declared.summary.Summary.TheVariants as summaries
-use Rattle.client.specs.Sent.{Sending}
-use Rattle.connection_server.specs.declared.stopping.ServeFault.{ServeFault}
-use Rattle.connection_server.specs.declared.stopping.ServeFault.TheVariants as stops
-use Rattle.session_calls.specs.Statuses.{status_of as status_of_called}
-use Rattle.session_calls.specs.Tags.{sent_line}
-use Rattle.command_words.specs.Requests.{Asked, IsRequest}
-use Rattle.command_words.specs.Tasks.{Opening, Serving, Task, report, build, replay, serve, call}
-use Rattle.command_words.specs.Tasks.{generate}
-use Rattle.command_words.proofs.RequestFacts.{request-one}
-use Rattle.dump_replay.specs.Answering.{IsAskedFor, action_kind_name, status_of_replay}
-use Rattle.dump_replay.specs.Building.{status_of_building}
-use Rattle.dump_replay.specs.Calling.{CalledPlace, IsSecond, TookNone}
-use Rattle.dump_replay.specs.Calling.{ending_of_list, status_of_documents}
-use Rattle.dump_replay.specs.Complete.{GoesWell, IsComplete, sending_with}
-use Rattle.dump_replay.specs.Complete.{settings_to_answer, status_for, status_of_call}
-use Rattle.dump_replay.specs.Complete.{status_of_made, status_of_stream}
-use Rattle.dump_replay.specs.Complete.{status_of_task, with_actions}
-use Rattle.dump_replay.specs.Complete.{with_lines, with_second}
-use Rattle.dump_replay.specs.Outside.{Outside}
-use Rattle.dump_replay.specs.Running.{WhereAsked, is_session_too_long, offence_status, status_of}
-use Rattle.dump_replay.specs.Serving.{status_of_stop}
+use Rattle.document_lines.specs.{Documents.documents_within, Files.Answers, Taking.Says}
+use Rattle.{command_words.proofs.RequestFacts.request-one, action_dispatch.specs.Answers.Serves}
+use Rattle.command_words.specs.{Requests.Asked, Requests.IsRequest, Tasks.Serving, Tasks.Task}
+use Rattle.command_words.specs.Tasks.{build, call, generate, Opening, replay, report, serve}
+use Rattle.session_generator.specs.{declared.summary.Summary.Summary, Documents.documents}
+use Rattle.session_generator.specs.Generated.{session_of}
+use Rattle.session_generator.specs.Summary.{status_of as status_of_summary, Writes}
+use Rattle.duplex_server.specs.declared.{outcome.Inbound.Inbound, stopping.ServeFault.ServeFault}
+use Rattle.duplex_server.specs.{Owed.answering, Serving.Judges}
+use Rattle.duplex_server.specs.Responding.{reading_actions, served_by}
+use Rattle.client.specs.{Sent.Sending, Statuses.status_of as status_of_called, Tags.sent_line}
+use Rattle.dump_replay.specs.Answering.{action_kind_name, IsAskedFor, status_of_replay}
+use Rattle.dump_replay.specs.{Building.status_of_building, Outside.Outside}
+use Rattle.dump_replay.specs.Calling.{CalledPlace, ending_of_list, IsSecond, status_of_documents}
+use Rattle.dump_replay.specs.{Calling.TookNone, Serving.status_of_stop}
+use Rattle.dump_replay.specs.Complete.{GoesWell, IsComplete, sending_with, settings_to_answer}
+use Rattle.dump_replay.specs.Complete.{status_for, status_of_call, status_of_made, status_of_stream}
+use Rattle.dump_replay.specs.Complete.{status_of_task, with_actions, with_lines, with_second}
 use Rattle.dump_replay.specs.Laws.{input_offence, status_of_input}
+use Rattle.dump_replay.specs.Running.{is_session_too_long, offence_status, status_of, WhereAsked}
 use Rattle.dump_replay.specs.Statics.{reading_statics, table_kind_name}
 use Rattle.dump_replay.specs.Working.{Does, HasNoActions, Runs, Works}
-use Rattle.dump_replay.proofs.BuildLaws.{builds_are_complete}
-use Rattle.dump_replay.proofs.CompleteFiles.{IsOr, actions_read, as_other, by_status, file_read}
+use Rattle.dump_replay.proofs.{BuildLaws.builds_are_complete, CompleteCalls.call_placed}
+use Rattle.dump_replay.proofs.CompleteFiles.{actions_read, as_other, by_status, file_read, IsOr}
 use Rattle.dump_replay.proofs.CompleteFiles.{lines_unread, second_read, second_unread, unread}
-use Rattle.dump_replay.proofs.CompleteCalls.{call_placed}
+use Rattle.stream_loop.specs.declared.outbound.Outbound.TheVariants as outbounds
+use Rattle.duplex_server.specs.declared.outcome.Inbound.TheVariants as inbounds
+use Rattle.session_generator.specs.declared.summary.Summary.TheVariants as summaries
+use Rattle.duplex_server.specs.declared.stopping.ServeFault.TheVariants as stops
 
 -- ---- streams
 

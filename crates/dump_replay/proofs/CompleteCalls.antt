@@ -1,51 +1,33 @@
 -- The status of a call in which nothing of the outside fails, by what the peer sends
 -- (specs/Complete).
-use Rattle.std.proofs.Common.{◌≡◌, ℕ, ◌⊎◌, inl, inr, List, [], ◌∷◌, length, Bool, true, false}
-use Rattle.std.proofs.Common.{Option, Some, None, refl, sym, ap, ◌∙◌}
-use Rattle.std.proofs.lemmas.Bool.{eqb-true}
-use Rattle.std.specs.Prelude.{◌==◌, ◌||◌, if◌then◌else◌}
-use Rattle.io_edges.specs.Faults.{Rose}
-use Rattle.io_edges.specs.Flow.{Told}
-use Rattle.io_edges.specs.Wires.{Fresh, Network}
-use Rattle.nbfx_values.specs.declared.content.Item.{Item}
-use Rattle.nbfx_values.specs.declared.refusals.Reason.{Reason}
-use Rattle.nbfx_values.specs.declared.refusals.Reason.TheVariants.{SessionTooLong}
-use Rattle.nbfx_values.specs.declared.session.Mode.{Mode}
+use Rattle.std.proofs.Common.{◌≡◌, ℕ, Bool, true, false, ◌||◌, ◌⊎◌, List, [], ◌∷◌, length, eqb-true}
+use Rattle.std.proofs.Common.{if◌then◌else◌, ◌==◌, Some, None, Option, sym, refl, ap, ◌∙◌, inl, inr}
+use Rattle.io_edges.specs.{Faults.Rose, Flow.Told, Wires.Fresh, Wires.Network}
+use Rattle.nbfx_values.specs.declared.{content.Item.Item, session.Mode.Mode}
+use Rattle.nbfx_values.specs.declared.refusals.Reason.{Reason, TheVariants.SessionTooLong}
 use Rattle.nbfx_values.specs.declared.session.Mode.TheVariants.{Duplex, Simplex, Singleton}
-use Rattle.stream_loop.specs.Edges.{Input, Output}
-use Rattle.stream_follower.specs.declared.writing.Outbound.{Outbound}
-use Rattle.stream_follower.specs.declared.writing.Outbound.TheVariants as outbounds
-use Rattle.session_ends.specs.Sent.{MayBeSent}
-use Rattle.session_report.specs.declared.reporter.Outcome.{Outcome}
-use Rattle.session_report.specs.declared.reporter.Outcome.TheVariants.{Open, Ended, Faulted}
-use Rattle.session_report.specs.Report.{outcome}
-use Rattle.client.specs.declared.caller.Ack.{Ack}
-use Rattle.client.specs.declared.caller.Ack.TheVariants.{Awaited, Read}
-use Rattle.client.specs.declared.outcome.CallOutcome.{CallOutcome}
-use Rattle.client.specs.declared.outcome.ClientIn.{ClientIn}
-use Rattle.client.specs.declared.outcome.ClientIn.TheVariants as heard
-use Rattle.client.specs.declared.outcome.ClientOut.{ClientOut}
-use Rattle.client.specs.declared.outcome.ClientOut.TheVariants as out
-use Rattle.client.specs.Called.{IsAckOf, Judges as JudgesPeer, WritesCall, ack_along, answers_to}
-use Rattle.client.specs.Called.{heard_of}
-use Rattle.client.specs.Sent.{Sending, envelopes}
-use Rattle.session_calls.specs.Peers.{HoldNothing}
-use Rattle.session_calls.specs.Places.{CallsOne, CallsPlace}
-use Rattle.session_calls.specs.Statuses.{fails, fails_in, fails_out, fails_report, inbound_status}
-use Rattle.session_calls.specs.Statuses.{is_starved_in, is_starved_out, is_starved_report}
-use Rattle.session_calls.specs.Statuses.{is_unfit, outcome_status, reason_status, wants_memory}
-use Rattle.session_calls.specs.Statuses.{status_of as status_of_called}
-use Rattle.session_calls.specs.declared.called.Called.{Called}
-use Rattle.session_calls.specs.declared.called.Called.TheVariants.{WrongCount, Starved, Unconnected}
-use Rattle.session_calls.specs.declared.called.Called.TheVariants.{Closed}
+use Rattle.stream_loop.specs.{declared.outbound.Outbound.Outbound, Edges.Input, Edges.Output}
+use Rattle.session_report.specs.{declared.reporter.Outcome.Outcome, Report.outcome}
+use Rattle.session_report.specs.declared.reporter.Outcome.TheVariants.{Ended, Faulted, Open}
 use Rattle.command_words.specs.declared.task.Detail.TheVariants.{Whole}
-use Rattle.dump_replay.specs.Complete.{AnswersCall}
-use Rattle.dump_replay.specs.Complete.{status_of_call}
-use Rattle.dump_replay.specs.Complete.{status_of_report}
-use Rattle.dump_replay.specs.Complete.{unless_unfit, with_count}
-use Rattle.dump_replay.specs.Running.{is_session_too_long, status_of}
-use Rattle.dump_replay.proofs.CallEnds.{one_rose}
-use Rattle.dump_replay.proofs.CompleteFiles.{IsOr, as_other}
+use Rattle.session_ends.specs.Sent.{MayBeSent}
+use Rattle.client.specs.declared.called.Called.{Called, TheVariants.WrongCount}
+use Rattle.client.specs.declared.called.Called.TheVariants.{Closed, Starved, Unconnected}
+use Rattle.client.specs.declared.caller.Ack.{Ack, TheVariants.Awaited, TheVariants.Read}
+use Rattle.client.specs.declared.outcome.{CallOutcome.CallOutcome, ClientIn.ClientIn}
+use Rattle.client.specs.{declared.outcome.ClientOut.ClientOut, Called.WritesCall}
+use Rattle.client.specs.Called.{ack_along, answers_to, heard_of, IsAckOf, Judges as JudgesPeer}
+use Rattle.client.specs.{Peers.HoldNothing, Sent.envelopes, Sent.Sending, Statuses.wants_memory}
+use Rattle.client.specs.Places.{CallsOne, CallsPlace}
+use Rattle.client.specs.Statuses.{fails, fails_in, fails_out, fails_report, inbound_status}
+use Rattle.client.specs.Statuses.{is_starved_in, is_starved_out, is_starved_report, is_unfit}
+use Rattle.client.specs.Statuses.{outcome_status, reason_status, status_of as status_of_called}
+use Rattle.dump_replay.specs.Complete.{AnswersCall, status_of_call, status_of_report, unless_unfit}
+use Rattle.dump_replay.specs.{Complete.with_count, Running.is_session_too_long, Running.status_of}
+use Rattle.dump_replay.proofs.{CallEnds.one_rose, CompleteFiles.as_other, CompleteFiles.IsOr}
+use Rattle.stream_loop.specs.declared.outbound.Outbound.TheVariants as outbounds
+use Rattle.client.specs.declared.outcome.ClientIn.TheVariants as heard
+use Rattle.client.specs.declared.outcome.ClientOut.TheVariants as out
 
 -- ---- a call
 

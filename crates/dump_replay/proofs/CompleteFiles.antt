@@ -1,32 +1,24 @@
 -- The status of a run in which nothing of the outside fails, by the files and lines that are read
 -- (specs/Complete).
-use Rattle.std.proofs.Common.{◌≡◌, ℕ, ◌⊎◌, inl, inr, List, []}
-use Rattle.std.proofs.Common.{Option, Some, None, Result, Err, refl, sym, ap, subst}
-use Rattle.io_edges.specs.Faults.{Rose}
-use Rattle.io_edges.specs.Store.{Store}
+use Rattle.std.proofs.Common.{◌≡◌, ℕ, ◌⊎◌, List, [], Some, None, Err, Option, Result, sym, refl, ap}
+use Rattle.std.proofs.Common.{subst, inl, inr}
+use Rattle.io_edges.specs.{declared.fault.FileFault.FileFault, Faults.Rose, Store.Store}
+use Rattle.io_edges.specs.Files.{file_in, Reading, Tells, whole}
 use Rattle.nbfx_values.specs.declared.content.Item.{Item}
-use Rattle.shelf_files.specs.Files.{Reading, Tells, file_in, whole}
-use Rattle.shelf_files.specs.declared.fault.FileFault.{FileFault}
-use Rattle.shelf_files.specs.declared.fault.FileFault.TheVariants as faults
-use Rattle.document_lines.specs.declared.InputFault.{InputFault}
-use Rattle.document_lists.specs.Files.{Answers}
-use Rattle.document_lists.specs.Taking.{Says}
-use Rattle.document_lists.specs.declared.fetching.FileFault.{FileFault as DocumentsFault}
-use Rattle.document_lists.specs.declared.fetching.FileFault.TheVariants as lists
-use Rattle.document_lists.specs.declared.reading.ListFault.{ListFault}
-use Rattle.document_lists.specs.declared.reading.ListFault.TheVariants as reads
-use Rattle.session_replay.specs.Responding.{GivesTexts, reading_actions}
-use Rattle.session_replay.specs.declared.responding.Responder.{Responder}
-use Rattle.session_replay.specs.declared.responding.Responder.TheVariants.{Echo, Texts}
-use Rattle.dump_replay.specs.Answering.{IsAskedFor}
-use Rattle.dump_replay.specs.Building.{status_of_building}
-use Rattle.dump_replay.specs.Calling.{IsSecond}
-use Rattle.dump_replay.specs.Calling.{ending_of_list, status_of_documents}
-use Rattle.dump_replay.specs.Complete.{with_actions}
-use Rattle.dump_replay.specs.Complete.{with_documents, with_file, with_lines, with_second}
-use Rattle.dump_replay.specs.Outside.{SeenShelf}
-use Rattle.dump_replay.specs.Running.{status_of_file}
-use Rattle.dump_replay.specs.Working.{Unread}
+use Rattle.document_lines.specs.declared.{InputFault.InputFault, reading.ListFault.ListFault}
+use Rattle.document_lines.specs.declared.fetching.FileFault.{FileFault as DocumentsFault}
+use Rattle.document_lines.specs.{Files.Answers, Taking.Says}
+use Rattle.duplex_server.specs.declared.responding.Responder.{Responder}
+use Rattle.duplex_server.specs.declared.responding.Responder.TheVariants.{Echo, Texts}
+use Rattle.duplex_server.specs.Responding.{GivesTexts, reading_actions}
+use Rattle.dump_replay.specs.{Answering.IsAskedFor, Working.Unread}
+use Rattle.dump_replay.specs.{Building.status_of_building, Outside.SeenShelf}
+use Rattle.dump_replay.specs.Calling.{ending_of_list, IsSecond, status_of_documents}
+use Rattle.dump_replay.specs.Complete.{with_actions, with_documents, with_file, with_lines}
+use Rattle.dump_replay.specs.{Complete.with_second, Running.status_of_file}
+use Rattle.io_edges.specs.declared.fault.FileFault.TheVariants as faults
+use Rattle.document_lines.specs.declared.fetching.FileFault.TheVariants as lists
+use Rattle.document_lines.specs.declared.reading.ListFault.TheVariants as reads
 
 -- a status is this one, or 5
 abbrev pub IsOr : (expected status : ℕ) → Type 0

@@ -1,26 +1,20 @@
 -- What a put of a note leaves.
-use Rattle.std.proofs.Common.{◌≡◌, ℕ, inl, inr, ◌⊎◌, List, [], ◌∷◌, ◌++◌, Bool, true, false, Option}
-use Rattle.std.proofs.Common.{Some, None, Result, Ok, Err, OnErr, OnOk, IsErrOf, refl, sym, ap, ◌∙◌}
-use Rattle.std.proofs.Common.{arith, append_assoc}
-use Rattle.std.specs.Prelude.{⊤, codes}
-use Rattle.std.proofs.lemmas.List.{append-nil}
-use Rattle.io_edges.specs.Faults.{CountsFaults, Rose}
-use Rattle.io_edges.specs.Flow.{Told, GrowsByPrefix, Passes}
-use Rattle.io_edges.specs.Puts.{PutsAll}
-use Rattle.io_edges.specs.declared.SinkFault.{SinkFault}
-use Rattle.io_edges.specs.declared.SinkFault.TheVariants as faults
-use Rattle.nbfx_values.specs.declared.refusals.Offence.{Offence}
-use Rattle.shelf_files.specs.declared.fault.FileFault.{FileFault}
-use Rattle.shelf_files.specs.declared.fault.FileFault.TheVariants as files
+use Rattle.std.proofs.Common.{◌≡◌, ℕ, Bool, true, false, ◌⊎◌, List, [], ◌∷◌, ◌++◌, OnOk, OnErr}
+use Rattle.std.proofs.Common.{Some, None, Ok, Err, codes, Option, Result, IsErrOf, sym, refl, ap}
+use Rattle.std.proofs.Common.{◌∙◌, inl, inr, append_assoc, append-nil, arith}
+use Rattle.{std.specs.Prelude.⊤, nbfx_values.specs.declared.refusals.Offence.Offence}
+use Rattle.io_edges.specs.declared.{SinkFault.SinkFault, fault.FileFault.FileFault}
+use Rattle.io_edges.specs.{Faults.CountsFaults, Faults.Rose, Puts.PutsAll}
+use Rattle.io_edges.specs.Flow.{GrowsByPrefix, Passes, Told}
+use Rattle.stream_loop.proofs.Writing.{after_flush, put_either, told_as}
 use Rattle.session_report.specs.Report.{offence_line}
+use Rattle.document_lines.specs.declared.fetching.FileFault.{FileFault as DocumentsFault}
+use Rattle.dump_replay.specs.{Calling.note_of_documents, Noting.NotesText, Running.note_of_file}
+use Rattle.io_edges.specs.declared.SinkFault.TheVariants as faults
+use Rattle.io_edges.specs.declared.fault.FileFault.TheVariants as files
 use Rattle.nbfx_encoder.specs.declared.faults.EncodeFault.TheVariants as unfit
 use Rattle.document_lines.specs.declared.InputFault.TheVariants as inputs
-use Rattle.document_lists.specs.declared.fetching.FileFault.{FileFault as DocumentsFault}
-use Rattle.document_lists.specs.declared.fetching.FileFault.TheVariants as lists
-use Rattle.dump_replay.specs.Calling.{note_of_documents}
-use Rattle.dump_replay.specs.Noting.{NotesText}
-use Rattle.dump_replay.specs.Running.{note_of_file}
-use Rattle.stream_loop.proofs.Writing.{after_flush, put_either, told_as}
+use Rattle.document_lines.specs.declared.fetching.FileFault.TheVariants as lists
 
 -- a put that failed
 pub note_cut : {text : List ℕ} (fault : SinkFault) {w w' : Option (List ℕ)} {h h' : List ℕ}

@@ -1,76 +1,52 @@
 -- A run ends with 0 exactly where all is in order (specs/Order).
-use Rattle.std.proofs.Common.{◌≡◌, ℕ, ◌+◌, ◌<◌, List, [], ◌∷◌, ◌++◌, length, map}
-use Rattle.std.proofs.Common.{Bool, true, false, Option, Some, None, Result, Ok, Err, refl, sym, ap}
-use Rattle.std.proofs.Common.{◌∙◌, subst, arith}
-use Rattle.std.proofs.lemmas.Bool.{eqb-true, leb-false}
-use Rattle.std.proofs.lemmas.List.{append-nil}
-use Rattle.std.specs.Prelude.{◌==◌, if◌then◌else◌, nat_le}
-use Rattle.std.specs.FinMap as finite
-use Rattle.io_edges.specs.Store.{Store}
-use Rattle.unit_streams.specs.Judging.{History, events, offence as offence_by}
-use Rattle.unit_streams.specs.Units.{IsAccepted}
+use Rattle.std.proofs.Common.{◌≡◌, ℕ, ◌+◌, ◌<◌, Bool, true, false, List, [], ◌∷◌, ◌++◌, map, length}
+use Rattle.std.proofs.Common.{if◌then◌else◌, nat_le, ◌==◌, Some, None, Ok, Err, Option, Result, sym}
+use Rattle.std.proofs.Common.{refl, ap, ◌∙◌, subst, append-nil, arith, eqb-true, leb-false}
+use Rattle.io_edges.specs.Files.{bad, file_in, missing, ShelfFile, whole}
+use Rattle.{io_edges.specs.Store.Store, unit_streams.specs.Units.IsAccepted}
 use Rattle.unit_streams.proofs.Accepted.{accepted_or_offended, leads_length}
-use Rattle.nbfx_values.specs.Limits.{IsGood, Limits}
-use Rattle.nbfx_values.specs.declared.content.Item.{Item}
-use Rattle.nbfx_values.specs.declared.refusals.Offence.{Offence}
-use Rattle.nbfx_values.specs.declared.session.Kind.{Kind}
-use Rattle.nbfx_values.specs.declared.session.Mode.{Mode}
+use Rattle.unit_streams.specs.Judging.{events, History, offence as offence_by}
+use Rattle.{string_tables.specs.StaticStrings.Entry, session_ends.specs.Sent.MayBeSent}
+use Rattle.nbfx_values.specs.declared.{content.Item.Item, refusals.Offence.Offence}
+use Rattle.nbfx_values.specs.declared.session.{Kind.Kind, Mode.Mode}
 use Rattle.nbfx_values.specs.declared.session.Mode.TheVariants.{Duplex, Simplex, Singleton}
-use Rattle.nbfx_encoder.specs.Envelopes.{UnfitAt}
-use Rattle.nbfx_encoder.specs.Placing.{Placed}
-use Rattle.string_tables.specs.StaticStrings.{Entry}
-use Rattle.shelf_files.specs.Files.{ShelfFile, bad, file_in, missing, whole}
-use Rattle.line_notation.specs.Lines.{cut}
-use Rattle.line_notation.specs.LineReaderState.{documents_of}
-use Rattle.document_lines.specs.Input.{Settings as LineSettings, lines_of_documents}
-use Rattle.document_lines.specs.Laws.{Explains, FittingIsAccepted, IsWritten, MayBeBuilt}
-use Rattle.document_lines.specs.declared.InputFault.{InputFault}
-use Rattle.document_lines.specs.declared.InputFault.TheVariants.{Line, Unfit, TooLong}
-use Rattle.document_lines.proofs.Lines.{readable}
-use Rattle.document_lines.proofs.Written.{written}
-use Rattle.document_lists.specs.Documents.{documents_within}
-use Rattle.document_lists.specs.Files.{read_of}
-use Rattle.stream_reader.specs.Judging.{offence}
-use Rattle.stream_reader.specs.Sessions.{HasParts, IsClosed, Parts, conversation, answer}
-use Rattle.stream_reader.specs.Sessions.{lone_ack, broken_off, turned_down, message_events}
-use Rattle.stream_reader.specs.Sessions.{session_events}
-use Rattle.stream_reader.specs.Stream.{Settings, StreamEvent, any_initiators, receivers}
-use Rattle.stream_reader.specs.Stream.{ended}
-use Rattle.stream_reader.proofs.Closed.{closed_or_refused}
-use Rattle.stream_reader.proofs.SessionEnds.{sessions_are_told}
-use Rattle.session_ends.specs.Sent.{MayBeSent}
-use Rattle.session_generator.specs.Documents.{documents}
-use Rattle.session_generator.specs.Generated.{session_of}
-use Rattle.session_report.specs.declared.reading.Event.{Event}
-use Rattle.session_report.specs.declared.reading.Event.TheVariants as said
-use Rattle.session_report.specs.declared.reporter.Outcome.TheVariants.{Ended}
-use Rattle.session_report.specs.Report.{outcome}
-use Rattle.session_report.specs.Saying.{event_for}
+use Rattle.nbfx_values.specs.Limits.{IsGood, Limits}
+use Rattle.nbfx_encoder.specs.{Envelopes.UnfitAt, Placing.Placed}
+use Rattle.stream_reader.proofs.{Closed.closed_or_refused, SessionEnds.sessions_are_told}
+use Rattle.stream_reader.specs.{Judging.offence, Sessions.turned_down}
+use Rattle.stream_reader.specs.Sessions.{answer, broken_off, conversation, HasParts, IsClosed}
+use Rattle.stream_reader.specs.Sessions.{lone_ack, message_events, Parts, session_events}
+use Rattle.stream_reader.specs.Stream.{any_initiators, ended, receivers, Settings, StreamEvent}
 use Rattle.session_report.proofs.Sessions.{closed_outcome, unoffended}
-use Rattle.session_replay.specs.Responding.{reading_actions}
-use Rattle.session_summary.specs.Summary.{IsWithinQuota}
-use Rattle.client.specs.declared.caller.Ack.{Ack}
-use Rattle.client.specs.declared.caller.Ack.TheVariants.{Awaited, Read}
+use Rattle.session_report.specs.declared.{reading.Event.Event, reporter.Outcome.TheVariants.Ended}
+use Rattle.session_report.specs.{Report.outcome, Saying.event_for}
+use Rattle.line_notation.specs.{LineReaderState.documents_of, Lines.cut}
+use Rattle.document_lines.proofs.{Lines.readable, Written.written}
+use Rattle.document_lines.specs.{declared.InputFault.InputFault, Files.read_of}
+use Rattle.document_lines.specs.declared.InputFault.TheVariants.{Line, TooLong, Unfit}
+use Rattle.document_lines.specs.Documents.{documents_within}
+use Rattle.document_lines.specs.Input.{lines_of_documents, Settings as LineSettings}
+use Rattle.document_lines.specs.Laws.{Explains, FittingIsAccepted, IsWritten, MayBeBuilt}
+use Rattle.command_words.specs.declared.task.Detail.{Detail, TheVariants.Whole}
+use Rattle.command_words.specs.Tasks.{build, call, generate, Opening, replay, report, serve, Task}
+use Rattle.session_generator.specs.{Documents.documents, Generated.session_of}
+use Rattle.session_generator.specs.Summary.{IsWithinQuota}
+use Rattle.duplex_server.specs.Responding.{reading_actions}
+use Rattle.client.specs.declared.caller.Ack.{Ack, TheVariants.Awaited, TheVariants.Read}
 use Rattle.client.specs.Called.{ack_after, ack_along, answers_to, heard_of}
-use Rattle.client.specs.Sent.{Sending, envelopes}
-use Rattle.command_words.specs.Tasks.{Opening, Task, report, build, replay, serve, call}
-use Rattle.command_words.specs.Tasks.{generate}
-use Rattle.command_words.specs.declared.task.Detail.{Detail}
-use Rattle.command_words.specs.declared.task.Detail.TheVariants.{Whole}
-use Rattle.dump_replay.specs.Building.{settings_for_building}
-use Rattle.dump_replay.specs.Calling.{IsSecond}
-use Rattle.dump_replay.specs.Complete.{sending_with, settings_to_answer}
-use Rattle.dump_replay.specs.Complete.{status_of_call, status_of_made, status_of_report}
-use Rattle.dump_replay.specs.Complete.{status_of_stream, status_of_task, unless_unfit, with_actions}
-use Rattle.dump_replay.specs.Complete.{with_count, with_documents, with_file, with_lines}
-use Rattle.dump_replay.specs.Complete.{with_second}
+use Rattle.client.specs.Sent.{envelopes, Sending}
+use Rattle.dump_replay.specs.{Building.settings_for_building, Calling.IsSecond, Running.status_of}
+use Rattle.dump_replay.specs.Complete.{sending_with, settings_to_answer, status_of_call}
+use Rattle.dump_replay.specs.Complete.{status_of_made, status_of_report, status_of_stream}
+use Rattle.dump_replay.specs.Complete.{status_of_task, unless_unfit, with_actions, with_count}
+use Rattle.dump_replay.specs.Complete.{with_documents, with_file, with_lines, with_second}
 use Rattle.dump_replay.specs.Laws.{input_offence, status_of_input}
-use Rattle.dump_replay.specs.Order.{HasActions, IsCallInOrder, IsTaskInOrder}
-use Rattle.dump_replay.specs.Order.{ZeroInOrder}
-use Rattle.dump_replay.specs.Reporting.{IsEnded, ends_by_fault}
-use Rattle.dump_replay.specs.Running.{status_of}
+use Rattle.dump_replay.specs.Order.{HasActions, IsCallInOrder, IsTaskInOrder, ZeroInOrder}
+use Rattle.dump_replay.specs.Reporting.{ends_by_fault, IsEnded}
 use Rattle.dump_replay.specs.Statics.{reading_statics, settings_for}
 use Rattle.dump_replay.proofs.Statuses.{no_offence, status_closing, zero_parts}
+use Rattle.std.specs.FinMap as finite
+use Rattle.session_report.specs.declared.reading.Event.TheVariants as said
 
 -- ---- files and lists
 

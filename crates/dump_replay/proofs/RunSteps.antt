@@ -1,24 +1,19 @@
 -- The words of a run, the files that it fetches, the shelf, and a file that isn't read.
-use Rattle.std.proofs.Common.{◌≡◌, ℕ, ◌⊎◌, inl, inr, List, [], ◌∷◌, Option, refl, sym, ap, ◌∙◌}
-use Rattle.std.proofs.Common.{subst}
-use Rattle.io_edges.specs.Faults.{one_more}
-use Rattle.io_edges.specs.Store.{Store}
+use Rattle.std.proofs.Common.{◌≡◌, ℕ, ◌⊎◌, List, [], ◌∷◌, Option, sym, refl, ap, ◌∙◌, subst, inl}
+use Rattle.{std.proofs.Common.inr, string_tables.specs.StaticStrings.Entry}
+use Rattle.io_edges.specs.{Faults.one_more, Store.Store}
 use Rattle.nbfx_values.specs.Limits.{Limits}
-use Rattle.string_tables.specs.StaticStrings.{Entry}
 use Rattle.stream_loop.specs.Edges.{Input, Output}
-use Rattle.command_words.specs.Options.{given_for}
-use Rattle.command_words.specs.Requests.{AskForTask, Asked, IsRequest, Values}
-use Rattle.command_words.specs.Tasks.{Serving, Task, serve}
-use Rattle.command_words.specs.declared.action.Action.{Action}
-use Rattle.command_words.specs.declared.action.Action.TheVariants.{Check, Dump, Build, Replay}
-use Rattle.command_words.specs.declared.action.Action.TheVariants.{Serve, Call, Gen}
-use Rattle.command_words.specs.declared.words.WordsFault.{WordsFault}
-use Rattle.command_words.specs.declared.words.WordsFault.TheVariants as words
+use Rattle.command_words.specs.declared.{action.Action.Action, words.WordsFault.WordsFault}
+use Rattle.command_words.specs.declared.action.Action.TheVariants.{Build, Call, Check, Dump, Gen}
+use Rattle.command_words.specs.declared.action.Action.TheVariants.{Replay, Serve}
+use Rattle.command_words.specs.{Options.given_for, Tasks.serve, Tasks.Serving, Tasks.Task}
+use Rattle.command_words.specs.Requests.{Asked, AskForTask, IsRequest, Values}
 use Rattle.dump_replay.specs.Outside.{Outside, SeenShelf, shelf_at}
-use Rattle.dump_replay.specs.Statuses.{status_of_words}
 use Rattle.dump_replay.specs.Running.{HasFetched, WhereAsked}
-use Rattle.dump_replay.specs.Serving.{AnsweredAll}
+use Rattle.dump_replay.specs.{Serving.AnsweredAll, Statuses.status_of_words}
 use Rattle.dump_replay.specs.Working.{AreNotRead, HasNoActions, IsPossible, Works}
+use Rattle.command_words.specs.declared.words.WordsFault.TheVariants as words
 
 -- what words ask for can be done
 possible_so : (a : Action) (value : Values) (t : Task) → AskForTask a value t → IsPossible t

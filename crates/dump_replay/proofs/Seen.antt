@@ -1,14 +1,12 @@
 -- What is seen of the ends that a function is handed, by the members of their traits, and what is
 -- known of the note.
-use Rattle.std.proofs.Common.{◌≡◌, List, [], ℕ}
-use Rattle.io_edges.specs.declared.Shelf.{Ghosts as ShelfMembers}
-use Rattle.io_edges.specs.declared.Source.{Ghosts as SourceMembers}
-use Rattle.io_edges.specs.declared.Sink.{Ghosts as SinkMembers}
-use Rattle.io_edges.specs.declared.wire.Wire.{Ghosts as WireMembers}
+use Rattle.std.proofs.Common.{◌≡◌, ℕ, List, []}
+use Rattle.io_edges.specs.declared.{Shelf.Ghosts as ShelfMembers, Sink.Ghosts as SinkMembers}
+use Rattle.io_edges.specs.declared.{Source.Ghosts as SourceMembers, wire.Wire.Ghosts as WireMembers}
 use Rattle.io_edges.specs.Wires.{Network, network_at}
-use Rattle.stream_loop.specs.Edges.{Input, Output, input_at, output_at}
+use Rattle.stream_loop.specs.Edges.{Input, input_at, Output, output_at}
 use Rattle.dump_replay.specs.Noting.{Notes}
-use Rattle.dump_replay.specs.Outside.{Outside, SeenShelf, seen, shelf_at}
+use Rattle.dump_replay.specs.Outside.{Outside, seen, SeenShelf, shelf_at}
 
 abbrev pub shelf_by : {F : Type 0} → ShelfMembers F → F → SeenShelf
 shelf_by given shelf = shelf_at given.files given.faults shelf

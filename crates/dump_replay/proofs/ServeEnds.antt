@@ -1,10 +1,8 @@
 -- Connections that were answered, by what is known of the output where none came.
 use Rattle.std.proofs.Common.{ℕ, List, Option, Result}
-use Rattle.stream_loop.specs.Edges.{Output}
-use Rattle.duplex_server.specs.Owed.{Answering}
-use Rattle.connection_server.specs.declared.stopping.ServeFault.{ServeFault}
-use Rattle.io_edges.specs.Wires.{Network}
-use Rattle.connection_server.specs.Served.{Ends, ServesAll}
+use Rattle.{io_edges.specs.Wires.Network, stream_loop.specs.Edges.Output}
+use Rattle.duplex_server.specs.{declared.stopping.ServeFault.ServeFault, Owed.Answering}
+use Rattle.duplex_server.specs.Served.{Ends, ServesAll}
 
 pub served_less : (x : Answering) (endpoint : Option (List ℕ)) {R K : Type 0} (ends : R × K → Ends)
     (most : ℕ) (n n' : Network R K) (o o' : Output) (stop : Result (Unit {0}) ServeFault)

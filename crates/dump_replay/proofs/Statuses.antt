@@ -1,31 +1,24 @@
 -- What a status says of how the reporting of a stream ended.
-use Rattle.std.proofs.Common.{◌≡◌, ℕ, ◌⊎◌, inl, inr, List, ◌++◌, length, true, false, Option, Some}
-use Rattle.std.proofs.Common.{None, refl, sym, ap, ◌∙◌, subst, arith, append_assoc}
-use Rattle.std.proofs.lemmas.Bool.{cases_Bool}
-use Rattle.std.proofs.lemmas.List.{take_all}
-use Rattle.io_edges.specs.Faults.{one_more}
-use Rattle.io_edges.specs.Flow.{GrowsByPrefix}
-use Rattle.nbfx_values.specs.Limits.{IsGood}
-use Rattle.nbfx_values.specs.declared.refusals.Offence.{Offence}
-use Rattle.stream_loop.specs.Edges.{Input, Output}
+use Rattle.std.proofs.Common.{◌≡◌, ℕ, true, false, ◌⊎◌, List, ◌++◌, length, Some, None, Option, sym}
+use Rattle.std.proofs.Common.{refl, ap, ◌∙◌, subst, inl, inr, append_assoc, arith, take_all}
+use Rattle.{std.proofs.lemmas.Bool.cases_Bool, stream_reader.proofs.Closed.closed_or_refused}
+use Rattle.io_edges.specs.{Faults.one_more, Flow.GrowsByPrefix}
+use Rattle.nbfx_values.specs.{declared.refusals.Offence.Offence, Limits.IsGood}
+use Rattle.stream_reader.specs.{Judging.offence, Stream.Settings, Stream.stream}
+use Rattle.stream_reader.specs.Sessions.{answer, broken_off, conversation, IsClosed, lone_ack}
+use Rattle.stream_reader.specs.Sessions.{Parts, turned_down}
+use Rattle.{stream_loop.proofs.Writing.counted_with, dump_replay.specs.Statuses.status_at}
+use Rattle.stream_loop.specs.{declared.reporting.Ending.Ending, Edges.Input, Edges.Output}
 use Rattle.stream_loop.specs.Reported.{AsksOnce, EndsAs, Judges, Reports as WritesReport}
-use Rattle.stream_loop.specs.declared.reporting.Ending.{Ending}
-use Rattle.stream_loop.specs.declared.reporting.Ending.TheVariants as endings
-use Rattle.stream_loop.proofs.Writing.{counted_with}
-use Rattle.stream_reader.specs.Judging.{offence}
-use Rattle.stream_reader.specs.Sessions.{IsClosed, Parts, conversation, answer, lone_ack}
-use Rattle.stream_reader.specs.Sessions.{broken_off, turned_down}
-use Rattle.stream_reader.specs.Stream.{Settings, stream}
-use Rattle.stream_reader.proofs.Closed.{closed_or_refused}
-use Rattle.command_words.specs.declared.task.Detail.{Detail}
-use Rattle.session_report.specs.declared.reporter.Outcome.{Outcome}
-use Rattle.session_report.specs.declared.reporter.Outcome.TheVariants.{Open, Ended, Faulted}
-use Rattle.dump_replay.specs.Statuses.{status_at}
-use Rattle.session_report.specs.Report.{lines_of, outcome, report}
-use Rattle.dump_replay.specs.Reporting.{IsEnded, IsFaulted, IsOffended, IsReportStatus, Reports}
-use Rattle.dump_replay.specs.Reporting.{closing_status, ends_by_fault}
-use Rattle.dump_replay.specs.Running.{IsJudged, is_session_too_long, status_of}
 use Rattle.session_report.proofs.Sessions.{closed_outcome, outcome_of, unoffended}
+use Rattle.session_report.specs.declared.reporter.Outcome.{Outcome}
+use Rattle.session_report.specs.declared.reporter.Outcome.TheVariants.{Ended, Faulted, Open}
+use Rattle.session_report.specs.Report.{lines_of, outcome, report}
+use Rattle.command_words.specs.declared.task.Detail.{Detail}
+use Rattle.dump_replay.specs.Reporting.{closing_status, ends_by_fault, IsEnded, IsFaulted}
+use Rattle.dump_replay.specs.Reporting.{IsOffended, IsReportStatus, Reports}
+use Rattle.dump_replay.specs.Running.{is_session_too_long, IsJudged, status_of}
+use Rattle.stream_loop.specs.declared.reporting.Ending.TheVariants as endings
 
 -- how a session has ended gives the status
 pub status_closing : (parts : Parts) → status_of None (outcome_of parts) ≡ closing_status parts

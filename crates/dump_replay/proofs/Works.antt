@@ -1,44 +1,34 @@
 -- What any task leaves, by what it does.
-use Rattle.std.proofs.Common.{◌≡◌, ℕ, ◌⊎◌, inl, inr, List, Option, Some, None, Result, Ok, Err}
-use Rattle.std.proofs.Common.{refl, sym, ap, subst, arith}
-use Rattle.std.proofs.lemmas.Bool.{cases_Bool}
-use Rattle.io_edges.specs.Faults.{CountsFaults, Rose, one_more}
-use Rattle.nbfx_values.specs.Limits.{Limits}
-use Rattle.nbfx_values.specs.declared.content.Item.{Item}
-use Rattle.nbfx_values.specs.declared.refusals.Offence.{Offence}
-use Rattle.string_tables.specs.StaticStrings.{Entry}
-use Rattle.shelf_files.specs.declared.fault.FileFault.{FileFault}
-use Rattle.shelf_files.specs.declared.fault.FileFault.TheVariants as faults
-use Rattle.command_words.specs.Tasks.{Opening, Serving}
-use Rattle.command_words.specs.declared.task.Detail.{Detail}
-use Rattle.stream_loop.specs.Edges.{Input, Output}
-use Rattle.stream_loop.specs.declared.reporting.Ending.{Ending}
-use Rattle.stream_loop.specs.declared.reporting.Ending.TheVariants as endings
-use Rattle.document_lines.specs.declared.InputFault.{InputFault}
-use Rattle.document_lines.specs.declared.InputFault.TheVariants.{Line, Unfit, TooLong}
-use Rattle.stream_follower.specs.declared.writing.Outbound.{Outbound}
-use Rattle.stream_follower.specs.declared.writing.Outbound.TheVariants as outbounds
+use Rattle.std.proofs.Common.{◌≡◌, ℕ, ◌⊎◌, List, Some, None, Ok, Err, Option, Result, sym, refl, ap}
+use Rattle.std.proofs.{Common.subst, Common.inl, Common.inr, Common.arith, lemmas.Bool.cases_Bool}
+use Rattle.io_edges.specs.{declared.fault.FileFault.FileFault, Wires.Network}
+use Rattle.io_edges.specs.Faults.{CountsFaults, one_more, Rose}
+use Rattle.{string_tables.specs.StaticStrings.Entry, nbfx_values.specs.Limits.Limits}
+use Rattle.nbfx_values.specs.declared.{content.Item.Item, refusals.Offence.Offence}
 use Rattle.stream_reader.specs.Stream.{Settings}
-use Rattle.duplex_server.specs.declared.outcome.Inbound.{Inbound}
-use Rattle.duplex_server.specs.declared.outcome.Inbound.TheVariants as inbounds
-use Rattle.duplex_server.specs.Owed.{Answering}
-use Rattle.session_replay.specs.Replaying.{Replays}
-use Rattle.session_summary.specs.Summary.{Summarizes, status_of}
-use Rattle.session_summary.specs.declared.summary.Summary.{Summary}
-use Rattle.session_summary.specs.declared.summary.Summary.TheVariants as summaries
-use Rattle.connection_server.specs.declared.stopping.ServeFault.{ServeFault}
-use Rattle.connection_server.specs.declared.stopping.ServeFault.TheVariants as stops
-use Rattle.io_edges.specs.Wires.{Network}
-use Rattle.dump_replay.specs.Answering.{status_of_replay}
+use Rattle.stream_loop.specs.declared.{outbound.Outbound.Outbound, reporting.Ending.Ending}
+use Rattle.stream_loop.specs.Edges.{Input, Output}
+use Rattle.document_lines.specs.declared.InputFault.{InputFault}
+use Rattle.document_lines.specs.declared.InputFault.TheVariants.{Line, TooLong, Unfit}
+use Rattle.command_words.specs.{declared.task.Detail.Detail, Tasks.Opening, Tasks.Serving}
+use Rattle.session_generator.specs.declared.summary.Summary.{Summary}
+use Rattle.session_generator.specs.Summary.{status_of, Summarizes}
+use Rattle.duplex_server.specs.declared.{outcome.Inbound.Inbound, stopping.ServeFault.ServeFault}
+use Rattle.duplex_server.specs.{Owed.Answering, Replaying.Replays}
+use Rattle.dump_replay.specs.{Answering.status_of_replay, Working.Leaves}
 use Rattle.dump_replay.specs.Building.{Builds, status_of_building}
-use Rattle.dump_replay.specs.Outside.{Outside, SeenShelf, seen}
+use Rattle.dump_replay.specs.Outside.{Outside, seen, SeenShelf}
 use Rattle.dump_replay.specs.Reporting.{IsReportStatus, Reports}
-use Rattle.dump_replay.specs.Running.{IsJudged, is_session_too_long, offence_status}
-use Rattle.dump_replay.specs.Running.{status_of_file}
+use Rattle.dump_replay.specs.Running.{is_session_too_long, IsJudged, offence_status, status_of_file}
 use Rattle.dump_replay.specs.Serving.{AnsweredAll, status_of_stop}
-use Rattle.dump_replay.specs.Working.{Leaves}
-use Rattle.dump_replay.proofs.Causes.{Cause, judged, leaves_by, refused, starved, unfit}
-use Rattle.dump_replay.proofs.Causes.{unread, unwritten, unwired}
+use Rattle.dump_replay.proofs.Causes.{Cause, judged, leaves_by, refused, starved, unfit, unread}
+use Rattle.dump_replay.proofs.Causes.{unwired, unwritten}
+use Rattle.io_edges.specs.declared.fault.FileFault.TheVariants as faults
+use Rattle.stream_loop.specs.declared.reporting.Ending.TheVariants as endings
+use Rattle.stream_loop.specs.declared.outbound.Outbound.TheVariants as outbounds
+use Rattle.duplex_server.specs.declared.outcome.Inbound.TheVariants as inbounds
+use Rattle.session_generator.specs.declared.summary.Summary.TheVariants as summaries
+use Rattle.duplex_server.specs.declared.stopping.ServeFault.TheVariants as stops
 
 -- ---- what causes a status
 

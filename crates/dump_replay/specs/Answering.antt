@@ -1,24 +1,17 @@
 -- What the command that answers an initiator's stream leaves, by how that ended.
-use Rattle.std.specs.Prelude.{◌≡◌, ℕ, List, [], Option, Some, None, codes}
-use Rattle.io_edges.specs.Store.{Store}
-use Rattle.nbfx_values.specs.Limits.{Limits}
-use Rattle.string_tables.specs.StaticStrings.{Entry}
-use Rattle.stream_loop.specs.Edges.{Input, Output}
-use Rattle.stream_follower.specs.declared.writing.Outbound.{Outbound}
-use Rattle.stream_follower.specs.declared.writing.Outbound.TheVariants as outbounds
-use Rattle.action_dispatch.specs.declared.fault.ActionKind.{ActionKind}
-use Rattle.action_dispatch.specs.declared.fault.ActionKind.TheVariants.{Header, Fields, NotUtf8}
-use Rattle.action_dispatch.specs.declared.fault.ActionKind.TheVariants.{Repeated}
-use Rattle.duplex_server.specs.declared.outcome.Inbound.{Inbound}
-use Rattle.duplex_server.specs.declared.outcome.Inbound.TheVariants as inbounds
-use Rattle.duplex_server.specs.Owed.{answering}
-use Rattle.session_replay.specs.declared.responding.Responder.{Responder}
-use Rattle.session_replay.specs.declared.responding.Responder.TheVariants.{Echo}
-use Rattle.session_replay.specs.Replaying.{Replays}
-use Rattle.session_replay.specs.Responding.{GivesTexts, served_by}
-use Rattle.session_report.specs.Report.{offence_line}
+use Rattle.std.specs.Prelude.{◌≡◌, ℕ, List, [], Some, None, codes, Option}
+use Rattle.{io_edges.specs.Store.Store, string_tables.specs.StaticStrings.Entry}
+use Rattle.{nbfx_values.specs.Limits.Limits, session_report.specs.Report.offence_line}
+use Rattle.stream_loop.specs.{declared.outbound.Outbound.Outbound, Edges.Input, Edges.Output}
 use Rattle.command_words.specs.Tasks.{Serving}
+use Rattle.action_dispatch.specs.declared.fault.ActionKind.{ActionKind, TheVariants.Repeated}
+use Rattle.action_dispatch.specs.declared.fault.ActionKind.TheVariants.{Fields, Header, NotUtf8}
+use Rattle.duplex_server.specs.{declared.outcome.Inbound.Inbound, Owed.answering, Replaying.Replays}
+use Rattle.duplex_server.specs.declared.responding.Responder.{Responder, TheVariants.Echo}
+use Rattle.duplex_server.specs.Responding.{GivesTexts, served_by}
 use Rattle.dump_replay.specs.Running.{note_of, offence_status}
+use Rattle.stream_loop.specs.declared.outbound.Outbound.TheVariants as outbounds
+use Rattle.duplex_server.specs.declared.outcome.Inbound.TheVariants as inbounds
 
 -- ---- statuses and notes
 

@@ -1,25 +1,18 @@
 -- What the command that writes documents as an initiator's session leaves, by how it ended.
-use Rattle.std.specs.Prelude.{ℕ, List, [], ◌∷◌, ◌++◌, Some, None, codes}
-use Rattle.std.specs.Fmt.{decimal}
-use Rattle.std.specs.List.{flat_map}
-use Rattle.nbfx_values.specs.Limits.{Limits}
-use Rattle.string_tables.specs.StaticStrings.{Entry}
+use Rattle.std.specs.Prelude.{ℕ, List, [], ◌∷◌, ◌++◌, Some, None, codes, decimal, flat_map}
+use Rattle.{string_tables.specs.StaticStrings.Entry, nbfx_values.specs.Limits.Limits}
 use Rattle.nbfx_encoder.specs.declared.faults.EncodeFault.{EncodeFault}
+use Rattle.stream_loop.specs.declared.reporting.Ending.{Ending, TheVariants.WriteFault}
+use Rattle.stream_loop.specs.declared.reporting.Ending.TheVariants.{Judged, Memory, ReadFault}
+use Rattle.stream_loop.specs.{Edges.Input, Edges.Output, Reported.EndsAs}
+use Rattle.{initiator_machine.specs.Opening.opening_bytes, command_words.specs.Tasks.Opening}
+use Rattle.line_notation.specs.declared.reader.LineKind.{LineKind, TheVariants.WrongCount}
+use Rattle.line_notation.specs.declared.reader.LineKind.TheVariants.{BadText, Cut, NotALine}
+use Rattle.line_notation.specs.declared.reader.LineKind.TheVariants.{OutOfPlace, OutOfRange}
+use Rattle.{document_lines.specs.declared.InputFault.InputFault, dump_replay.specs.Running.note_of}
+use Rattle.document_lines.specs.declared.InputFault.TheVariants.{Line, TooLong, Unfit}
+use Rattle.document_lines.specs.Input.{envelopes_and_end, lines_of_documents, Settings}
 use Rattle.nbfx_encoder.specs.declared.faults.EncodeFault.TheVariants as unfit
-use Rattle.line_notation.specs.declared.reader.LineKind.{LineKind}
-use Rattle.line_notation.specs.declared.reader.LineKind.TheVariants.{NotALine, BadText, OutOfRange}
-use Rattle.line_notation.specs.declared.reader.LineKind.TheVariants.{OutOfPlace, Cut, WrongCount}
-use Rattle.stream_loop.specs.Edges.{Input, Output}
-use Rattle.stream_loop.specs.Reported.{EndsAs}
-use Rattle.stream_loop.specs.declared.reporting.Ending.{Ending}
-use Rattle.stream_loop.specs.declared.reporting.Ending.TheVariants.{Judged, ReadFault, WriteFault}
-use Rattle.stream_loop.specs.declared.reporting.Ending.TheVariants.{Memory}
-use Rattle.document_lines.specs.Input.{Settings, lines_of_documents, envelopes_and_end}
-use Rattle.document_lines.specs.declared.InputFault.{InputFault}
-use Rattle.document_lines.specs.declared.InputFault.TheVariants.{Line, Unfit, TooLong}
-use Rattle.initiator_machine.specs.Opening.{opening_bytes}
-use Rattle.command_words.specs.Tasks.{Opening}
-use Rattle.dump_replay.specs.Running.{note_of}
 
 -- how documents are written, with these static strings and within these quotas
 abbrev pub settings_for_building : Opening → List Entry → Limits → Settings

@@ -1,33 +1,21 @@
 -- What the command that calls a peer leaves, by how that ended.
-use Rattle.std.specs.Prelude.{◌≡◌, ℕ, ◌⊎◌, List, [], ◌++◌, length, Option, Some, None, Result, Ok}
-use Rattle.std.specs.Prelude.{Err, codes}
-use Rattle.io_edges.specs.Faults.{Rose}
-use Rattle.io_edges.specs.Store.{Store}
-use Rattle.nbfx_values.specs.Limits.{Limits}
-use Rattle.nbfx_values.specs.declared.content.Item.{Item}
-use Rattle.string_tables.specs.StaticStrings.{Entry}
-use Rattle.stream_loop.specs.Edges.{Input, Output}
-use Rattle.stream_loop.specs.declared.reporting.Ending.{Ending}
-use Rattle.stream_loop.specs.declared.reporting.Ending.TheVariants.{Judged, ReadFault, Memory}
-use Rattle.document_lines.specs.declared.InputFault.{InputFault}
-use Rattle.document_lines.specs.declared.InputFault.TheVariants.{Line}
-use Rattle.document_lists.specs.Files.{Answers}
-use Rattle.document_lists.specs.Taking.{TakesDocuments}
-use Rattle.document_lists.specs.declared.fetching.FileFault.{FileFault}
-use Rattle.document_lists.specs.declared.fetching.FileFault.TheVariants as files
-use Rattle.document_lists.specs.declared.reading.ListFault.{ListFault}
-use Rattle.document_lists.specs.declared.reading.ListFault.TheVariants as lists
-use Rattle.io_edges.specs.Wires.{Network}
-use Rattle.client.specs.Sent.{sending}
-use Rattle.session_calls.specs.Places.{CallsPlace}
-use Rattle.session_calls.specs.Statuses.{fault_of, status_of}
-use Rattle.session_calls.specs.Tags.{sent_line}
-use Rattle.session_calls.specs.declared.called.Called.{Called}
-use Rattle.command_words.specs.Tasks.{Opening}
+use Rattle.std.specs.Prelude.{◌≡◌, ℕ, ◌⊎◌, List, [], ◌++◌, length, Some, None, Ok, Err, codes}
+use Rattle.std.specs.Prelude.{Option, Result}
+use Rattle.io_edges.specs.{Faults.Rose, Store.Store, Wires.Network}
+use Rattle.{string_tables.specs.StaticStrings.Entry, command_words.specs.Tasks.Opening}
+use Rattle.nbfx_values.specs.{declared.content.Item.Item, Limits.Limits}
+use Rattle.stream_loop.specs.{declared.reporting.Ending.Ending, Edges.Input, Edges.Output}
+use Rattle.stream_loop.specs.declared.reporting.Ending.TheVariants.{Judged, Memory, ReadFault}
+use Rattle.document_lines.specs.declared.InputFault.{InputFault, TheVariants.Line}
+use Rattle.document_lines.specs.declared.{fetching.FileFault.FileFault, reading.ListFault.ListFault}
+use Rattle.document_lines.specs.{Files.Answers, Taking.TakesDocuments}
+use Rattle.client.specs.{declared.called.Called.Called, Sent.sending}
+use Rattle.client.specs.{Places.CallsPlace, Statuses.fault_of, Statuses.status_of, Tags.sent_line}
+use Rattle.dump_replay.specs.{declared.calling.UnreadDocuments.UnreadDocuments, Running.note_of}
 use Rattle.dump_replay.specs.Building.{input_note, line_note, note_of_building, status_of_building}
 use Rattle.dump_replay.specs.Outside.{Outside, SeenShelf}
-use Rattle.dump_replay.specs.declared.calling.UnreadDocuments.{UnreadDocuments}
-use Rattle.dump_replay.specs.Running.{note_of}
+use Rattle.document_lines.specs.declared.fetching.FileFault.TheVariants as files
+use Rattle.document_lines.specs.declared.reading.ListFault.TheVariants as lists
 
 -- ---- statuses and notes
 

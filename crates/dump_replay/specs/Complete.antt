@@ -1,44 +1,30 @@
 -- The status of a run in which no I/O error occurs and memory suffices: it is determined by what
 -- the words ask for, the files on the shelf, the input, and what the peer of a call sends.
-use Rattle.std.specs.Prelude.{◌≡◌, ⊤, ℕ, ◌⊎◌, List, [], ◌∷◌, ◌++◌, length, ◌==◌, if◌then◌else◌}
-use Rattle.std.specs.Prelude.{Option, Some, None, Result, Ok, Err}
-use Rattle.std.specs.FinMap as finite
-use Rattle.io_edges.specs.Faults.{Rose}
-use Rattle.io_edges.specs.Store.{Store}
-use Rattle.io_edges.specs.Wires.{Network}
-use Rattle.shelf_files.specs.Files.{ShelfFile, bad, file_in, missing, whole}
-use Rattle.nbfx_values.specs.Limits.{Limits}
-use Rattle.nbfx_values.specs.declared.content.Item.{Item}
-use Rattle.nbfx_values.specs.declared.session.Mode.{Mode}
-use Rattle.nbfx_values.specs.declared.session.Mode.TheVariants.{Singleton}
-use Rattle.string_tables.specs.StaticStrings.{Entry}
-use Rattle.nbfx_encoder.specs.Envelopes.{UnfitAt}
-use Rattle.nbfx_encoder.specs.Placing.{Placed}
-use Rattle.stream_loop.specs.Edges.{Input}
-use Rattle.document_lines.specs.declared.InputFault.{InputFault}
-use Rattle.document_lists.specs.Documents.{documents_within}
-use Rattle.document_lists.specs.Files.{read_of}
-use Rattle.stream_reader.specs.Judging.{offence}
-use Rattle.stream_reader.specs.Stream.{Settings, any_initiators, initiators}
-use Rattle.session_report.specs.declared.reporter.Outcome.TheVariants.{Ended}
-use Rattle.session_report.specs.Report.{outcome}
-use Rattle.session_replay.specs.Responding.{reading_actions}
-use Rattle.session_generator.specs.Documents.{documents}
-use Rattle.session_generator.specs.Generated.{session_of}
-use Rattle.client.specs.declared.caller.Ack.{Ack}
-use Rattle.client.specs.declared.caller.Ack.TheVariants.{Awaited, Read}
+use Rattle.std.specs.Prelude.{◌≡◌, ℕ, ◌⊎◌, List, [], ◌∷◌, ◌++◌, length, if◌then◌else◌, ◌==◌, Some}
+use Rattle.std.specs.Prelude.{None, Ok, Err, Option, Result, ⊤}
+use Rattle.io_edges.specs.{Faults.Rose, Store.Store, Wires.Network}
+use Rattle.io_edges.specs.Files.{bad, file_in, missing, ShelfFile, whole}
+use Rattle.{string_tables.specs.StaticStrings.Entry, stream_loop.specs.Edges.Input}
+use Rattle.nbfx_values.specs.{declared.content.Item.Item, Limits.Limits}
+use Rattle.nbfx_values.specs.declared.session.Mode.{Mode, TheVariants.Singleton}
+use Rattle.nbfx_encoder.specs.{Envelopes.UnfitAt, Placing.Placed}
+use Rattle.{stream_reader.specs.Judging.offence, document_lines.specs.Documents.documents_within}
+use Rattle.stream_reader.specs.Stream.{any_initiators, initiators, Settings}
+use Rattle.session_report.specs.{declared.reporter.Outcome.TheVariants.Ended, Report.outcome}
+use Rattle.document_lines.specs.{declared.InputFault.InputFault, Files.read_of}
+use Rattle.command_words.specs.declared.task.Detail.{Detail, TheVariants.Whole}
+use Rattle.command_words.specs.{Requests.Asked, Requests.IsRequest, Tasks.Serving, Tasks.Task}
+use Rattle.command_words.specs.Tasks.{build, call, generate, Opening, replay, report, serve}
+use Rattle.session_generator.specs.{Documents.documents, Generated.session_of}
+use Rattle.duplex_server.specs.Responding.{reading_actions}
+use Rattle.client.specs.declared.caller.Ack.{Ack, TheVariants.Awaited, TheVariants.Read}
 use Rattle.client.specs.Called.{ack_along, answers_to, heard_of}
-use Rattle.client.specs.Sent.{Sending, envelopes, sending}
-use Rattle.command_words.specs.Requests.{Asked, IsRequest}
-use Rattle.command_words.specs.Tasks.{Opening, Serving, Task, report, build, replay, serve, call}
-use Rattle.command_words.specs.Tasks.{generate}
-use Rattle.command_words.specs.declared.task.Detail.{Detail}
-use Rattle.command_words.specs.declared.task.Detail.TheVariants.{Whole}
-use Rattle.dump_replay.specs.Building.{status_of_input_fault}
+use Rattle.client.specs.Sent.{envelopes, Sending, sending}
+use Rattle.dump_replay.specs.{Building.status_of_input_fault, Outside.Outside}
 use Rattle.dump_replay.specs.Laws.{input_offence, status_of_input}
-use Rattle.dump_replay.specs.Outside.{Outside}
-use Rattle.dump_replay.specs.Running.{WhereAsked, status_of}
+use Rattle.dump_replay.specs.Running.{status_of, WhereAsked}
 use Rattle.dump_replay.specs.Statics.{reading_statics, settings_for}
+use Rattle.std.specs.FinMap as finite
 
 -- ---- files and lines
 

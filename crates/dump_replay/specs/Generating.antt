@@ -1,14 +1,11 @@
 -- What the command that makes a session and measures it leaves, by how that ended.
 use Rattle.std.specs.Prelude.{◌≡◌, ℕ, List, []}
-use Rattle.nbfx_values.specs.Limits.{Limits}
-use Rattle.string_tables.specs.StaticStrings.{Entry}
-use Rattle.stream_loop.specs.Edges.{Output}
-use Rattle.session_generator.specs.Documents.{documents}
-use Rattle.session_summary.specs.Summary.{Summarizes, status_of}
-use Rattle.session_summary.specs.declared.summary.Summary.{Summary}
-use Rattle.session_summary.specs.declared.summary.Summary.TheVariants.{Written, TooLong, WriteFault}
-use Rattle.session_summary.specs.declared.summary.Summary.TheVariants.{Memory}
-use Rattle.session_report.specs.Report.{offence_line}
+use Rattle.{string_tables.specs.StaticStrings.Entry, stream_loop.specs.Edges.Output}
+use Rattle.{nbfx_values.specs.Limits.Limits, session_report.specs.Report.offence_line}
+use Rattle.session_generator.specs.{declared.summary.Summary.Summary, Documents.documents}
+use Rattle.session_generator.specs.declared.summary.Summary.TheVariants.{Memory, TooLong}
+use Rattle.session_generator.specs.declared.summary.Summary.TheVariants.{WriteFault, Written}
+use Rattle.session_generator.specs.Summary.{status_of, Summarizes}
 use Rattle.dump_replay.specs.Running.{note_of}
 
 -- the note of a run that ends so

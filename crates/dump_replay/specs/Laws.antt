@@ -1,26 +1,20 @@
 -- What holds of sessions that are written of documents, by the definitions alone.
-use Rattle.std.specs.Prelude.{◌≡◌, ℕ, ◌≤◌, ◌⊎◌, List, [], ◌++◌, length, map, true, IsUtf8, Option}
-use Rattle.std.specs.Prelude.{Some, None}
-use Rattle.std.specs.List.{flat_map}
-use Rattle.io_edges.specs.Faults.{Rose}
-use Rattle.unit_streams.specs.Judging.{offence}
-use Rattle.unit_streams.specs.Tellers.{report as report_by}
-use Rattle.nbfx_values.specs.Limits.{IsGood, Limits}
-use Rattle.nbfx_values.specs.declared.content.Item.{Item}
+use Rattle.std.specs.Prelude.{◌≡◌, ℕ, ◌≤◌, true, ◌⊎◌, List, [], ◌++◌, map, length, Some, None}
+use Rattle.std.specs.Prelude.{IsUtf8, Option, flat_map}
+use Rattle.{io_edges.specs.Faults.Rose, nbfx_encoder.specs.ReadBack.AdmitsAsMuch}
+use Rattle.unit_streams.specs.{Judging.offence, Tellers.report as report_by}
 use Rattle.string_tables.specs.StaticStrings.{Entry, IsStaticMap}
-use Rattle.nbfx_encoder.specs.ReadBack.{AdmitsAsMuch}
+use Rattle.nbfx_values.specs.{declared.content.Item.Item, Limits.IsGood, Limits.Limits}
+use Rattle.stream_reader.specs.Sessions.{Carried, conversation, IsSession, session_events}
+use Rattle.stream_reader.specs.Stream.{initiators, serves, Settings}
+use Rattle.stream_loop.specs.{declared.reporting.Ending.Ending, Edges.Input, Edges.Output}
+use Rattle.session_report.specs.Report.{report, told_of}
 use Rattle.line_notation.specs.Lines.{AreLinesOf, cut}
-use Rattle.document_lines.specs.Input.{envelopes_and_end, lines_of_documents}
 use Rattle.document_lines.specs.declared.InputFault.{InputFault}
-use Rattle.stream_loop.specs.Edges.{Input, Output}
-use Rattle.stream_loop.specs.declared.reporting.Ending.{Ending}
-use Rattle.stream_reader.specs.Sessions.{Carried, IsSession, conversation, session_events}
-use Rattle.stream_reader.specs.Stream.{Settings, initiators, serves}
-use Rattle.command_words.specs.Tasks.{Opening}
-use Rattle.command_words.specs.declared.task.Detail.{Detail}
+use Rattle.document_lines.specs.Input.{envelopes_and_end, lines_of_documents}
+use Rattle.command_words.specs.{declared.task.Detail.Detail, Tasks.Opening}
 use Rattle.dump_replay.specs.Building.{Builds, preamble_of, settings_for_building}
 use Rattle.dump_replay.specs.Building.{status_of_building, status_of_input_fault}
-use Rattle.session_report.specs.Report.{report, told_of}
 
 module _ (opening : Opening) (statics : List Entry) (limits : Limits) where
   -- why the input is refused, if it is

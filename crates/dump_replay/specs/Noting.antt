@@ -1,7 +1,6 @@
 -- What is written of a note.
-use Rattle.std.specs.Prelude.{◌≡◌, ◌≤◌, ℕ, ◌⊎◌, List, [], ◌++◌, Bool, false, Option}
-use Rattle.io_edges.specs.Faults.{Rose}
-use Rattle.io_edges.specs.Flow.{GrowsByPrefix, Told}
+use Rattle.std.specs.Prelude.{◌≡◌, ℕ, ◌≤◌, Bool, false, ◌⊎◌, List, [], ◌++◌, Option}
+use Rattle.io_edges.specs.{Faults.Rose, Flow.GrowsByPrefix, Flow.Told}
 
 -- a note of this text was put, where it has any, of which the first bytes are written, or all where
 -- the notes met no fault and want no memory

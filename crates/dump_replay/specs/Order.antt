@@ -1,28 +1,18 @@
 -- What has to be in order for a run to end with 0: the files on the shelf, the input, and what the
 -- peer of a call sends.
-use Rattle.std.specs.Prelude.{◌≡◌, ◌↔◌, ⊤, ℕ, List, ◌++◌, Option, Some, None, Ok}
-use Rattle.io_edges.specs.Store.{Store}
-use Rattle.shelf_files.specs.Files.{file_in, whole}
-use Rattle.nbfx_values.specs.Limits.{IsGood, Limits}
-use Rattle.nbfx_values.specs.declared.content.Item.{Item}
-use Rattle.string_tables.specs.StaticStrings.{Entry}
-use Rattle.nbfx_encoder.specs.Placing.{Placed}
-use Rattle.action_dispatch.specs.Actions.{Texts}
-use Rattle.document_lines.specs.Laws.{MayBeBuilt}
-use Rattle.document_lists.specs.Documents.{documents_within}
-use Rattle.stream_reader.specs.Sessions.{IsClosed}
-use Rattle.session_ends.specs.Sent.{MayBeSent}
-use Rattle.session_replay.specs.Responding.{reading_actions}
-use Rattle.session_generator.specs.Documents.{documents}
-use Rattle.session_summary.specs.Summary.{IsWithinQuota}
-use Rattle.client.specs.Called.{answers_to}
-use Rattle.client.specs.Sent.{envelopes}
-use Rattle.command_words.specs.Requests.{Asked}
-use Rattle.command_words.specs.Tasks.{Opening, Task, report, build, replay, serve, call, generate}
-use Rattle.dump_replay.specs.Building.{settings_for_building}
-use Rattle.dump_replay.specs.Calling.{IsSecond}
+use Rattle.std.specs.Prelude.{◌≡◌, ℕ, ◌↔◌, List, ◌++◌, Some, None, Ok, Option, ⊤}
+use Rattle.io_edges.specs.{Files.file_in, Files.whole, Store.Store}
+use Rattle.{string_tables.specs.StaticStrings.Entry, nbfx_encoder.specs.Placing.Placed}
+use Rattle.nbfx_values.specs.{declared.content.Item.Item, Limits.IsGood, Limits.Limits}
+use Rattle.{stream_reader.specs.Sessions.IsClosed, session_ends.specs.Sent.MayBeSent}
+use Rattle.document_lines.specs.{Documents.documents_within, Laws.MayBeBuilt}
+use Rattle.{command_words.specs.Requests.Asked, action_dispatch.specs.Actions.Texts}
+use Rattle.command_words.specs.Tasks.{build, call, generate, Opening, replay, report, serve, Task}
+use Rattle.session_generator.specs.{Documents.documents, Summary.IsWithinQuota}
+use Rattle.duplex_server.specs.Responding.{reading_actions}
+use Rattle.client.specs.{Called.answers_to, Sent.envelopes}
+use Rattle.dump_replay.specs.{Building.settings_for_building, Calling.IsSecond, Reporting.IsEnded}
 use Rattle.dump_replay.specs.Complete.{sending_with, settings_to_answer, status_for}
-use Rattle.dump_replay.specs.Reporting.{IsEnded}
 use Rattle.dump_replay.specs.Statics.{reading_statics, settings_for}
 
 module _ (store : Store) where

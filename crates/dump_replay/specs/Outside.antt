@@ -1,9 +1,7 @@
 -- What is seen of the outside at one moment.
-use Rattle.std.specs.Prelude.{ℕ, Option}
-use Rattle.io_edges.specs.Store.{Store}
+use Rattle.{std.specs.Prelude.ℕ, std.specs.Prelude.Option, duplex_server.specs.Served.Ends}
+use Rattle.io_edges.specs.{Store.Store, Wires.Network}
 use Rattle.stream_loop.specs.Edges.{Input, Output}
-use Rattle.io_edges.specs.Wires.{Network}
-use Rattle.connection_server.specs.Served.{Ends}
 
 -- of a shelf: its files, where it tells them, and how many calls met a fault
 pub record SeenShelf : Type 0 where

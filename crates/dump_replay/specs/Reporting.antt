@@ -1,19 +1,16 @@
 -- What a command that reports a stream leaves, by its status. The output may have held bytes
 -- before, which are written before what is put.
-use Rattle.std.specs.Prelude.{◌≡◌, ℕ, ◌⊎◌, List, ◌++◌, Bool, true, false, Option, Some}
-use Rattle.std.specs.Prelude.{if◌then◌else◌}
-use Rattle.io_edges.specs.Faults.{CountsFaults, Rose, one_more}
-use Rattle.io_edges.specs.Flow.{GrowsByPrefix}
-use Rattle.nbfx_values.specs.declared.refusals.Offence.{Offence}
-use Rattle.command_words.specs.declared.task.Detail.{Detail}
+use Rattle.std.specs.Prelude.{◌≡◌, ℕ, Bool, true, false, ◌⊎◌, List, ◌++◌, if◌then◌else◌, Some}
+use Rattle.{std.specs.Prelude.Option, nbfx_values.specs.declared.refusals.Offence.Offence}
+use Rattle.io_edges.specs.{Faults.CountsFaults, Faults.one_more, Faults.Rose, Flow.GrowsByPrefix}
+use Rattle.stream_reader.specs.{Judging.offence, Stream.Settings, Stream.stream}
+use Rattle.stream_reader.specs.Sessions.{broken_off, IsClosed, Parts, turned_down}
 use Rattle.stream_loop.specs.Edges.{Input, Output}
 use Rattle.stream_loop.specs.Reported.{Breaks, Decides, Reaches}
-use Rattle.stream_reader.specs.Judging.{offence}
-use Rattle.stream_reader.specs.Sessions.{IsClosed, Parts, broken_off, turned_down}
-use Rattle.stream_reader.specs.Stream.{Settings, stream}
 use Rattle.session_report.specs.declared.reporter.Outcome.{Outcome}
 use Rattle.session_report.specs.Report.{lines_of, outcome, report}
-use Rattle.dump_replay.specs.Running.{IsJudged, is_session_too_long, status_of}
+use Rattle.command_words.specs.declared.task.Detail.{Detail}
+use Rattle.dump_replay.specs.Running.{is_session_too_long, IsJudged, status_of}
 
 -- a session of these parts ends with a receiver's Fault
 abbrev pub ends_by_fault : Parts → Bool

@@ -1,17 +1,13 @@
 -- The statuses and notes of a run.
-use Rattle.std.specs.Prelude.{◌≡◌, ◌≤◌, ℕ, ◌⊎◌, List, [], ◌∷◌, ◌++◌, Bool, true, false, Option}
-use Rattle.std.specs.Prelude.{Some, None, ◌==◌, if◌then◌else◌, codes}
-use Rattle.std.specs.Fmt.{decimal}
-use Rattle.io_edges.specs.Faults.{Rose, one_more}
+use Rattle.std.specs.Prelude.{◌≡◌, ℕ, ◌≤◌, Bool, true, false, ◌⊎◌, List, [], ◌∷◌, ◌++◌}
+use Rattle.std.specs.Prelude.{if◌then◌else◌, ◌==◌, Some, None, codes, decimal, Option}
+use Rattle.io_edges.specs.{declared.fault.FileFault.FileFault, Faults.one_more, Faults.Rose}
 use Rattle.nbfx_values.specs.declared.refusals.Offence.{Offence}
-use Rattle.nbfx_values.specs.declared.refusals.Reason.{Reason}
-use Rattle.nbfx_values.specs.declared.refusals.Reason.TheVariants.{SessionTooLong}
-use Rattle.shelf_files.specs.declared.fault.FileFault.{FileFault}
-use Rattle.shelf_files.specs.declared.fault.FileFault.TheVariants as faults
+use Rattle.nbfx_values.specs.declared.refusals.Reason.{Reason, TheVariants.SessionTooLong}
+use Rattle.session_report.specs.declared.reporter.Outcome.{Outcome, TheVariants.Faulted}
 use Rattle.command_words.specs.Requests.{Asked, IsRequest}
-use Rattle.command_words.specs.Tasks.{Task, report, build, replay, serve, call, generate}
-use Rattle.session_report.specs.declared.reporter.Outcome.{Outcome}
-use Rattle.session_report.specs.declared.reporter.Outcome.TheVariants.{Faulted}
+use Rattle.command_words.specs.Tasks.{build, call, generate, replay, report, serve, Task}
+use Rattle.io_edges.specs.declared.fault.FileFault.TheVariants as faults
 
 -- this holds of what the words ask for, if they are a request
 abbrev pub WhereAsked : List (List ℕ) → (Asked → Type 0) → Type 0

@@ -1,18 +1,13 @@
 -- What the command that answers connections leaves, by why it stopped.
-use Rattle.std.specs.Prelude.{◌≡◌, ⊤, ℕ, List, Result, Ok, Err}
-use Rattle.nbfx_values.specs.Limits.{Limits}
-use Rattle.string_tables.specs.StaticStrings.{Entry}
+use Rattle.std.specs.Prelude.{◌≡◌, ℕ, List, Ok, Err, Result, ⊤}
+use Rattle.{string_tables.specs.StaticStrings.Entry, nbfx_values.specs.Limits.Limits}
 use Rattle.stream_loop.specs.Edges.{Input, Output}
-use Rattle.duplex_server.specs.Owed.{answering}
-use Rattle.session_replay.specs.declared.responding.Responder.{Responder}
-use Rattle.session_replay.specs.Responding.{served_by}
-use Rattle.connection_server.specs.declared.stopping.ServeFault.{ServeFault}
-use Rattle.connection_server.specs.declared.stopping.ServeFault.TheVariants as stops
-use Rattle.connection_server.specs.Served.{ServesAll}
-use Rattle.command_words.specs.Tasks.{Serving}
-use Rattle.dump_replay.specs.Answering.{IsAskedFor}
-use Rattle.dump_replay.specs.Outside.{Outside, ends_seen}
-use Rattle.dump_replay.specs.Running.{note_of}
+use Rattle.{command_words.specs.Tasks.Serving, duplex_server.specs.Responding.served_by}
+use Rattle.duplex_server.specs.{declared.responding.Responder.Responder, Owed.answering}
+use Rattle.duplex_server.specs.{declared.stopping.ServeFault.ServeFault, Served.ServesAll}
+use Rattle.dump_replay.specs.{Answering.IsAskedFor, Running.note_of}
+use Rattle.dump_replay.specs.Outside.{ends_seen, Outside}
+use Rattle.duplex_server.specs.declared.stopping.ServeFault.TheVariants as stops
 
 -- the status of a server that stopped so
 abbrev pub status_of_stop : Result ⊤ ServeFault → ℕ

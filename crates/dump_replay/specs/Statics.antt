@@ -1,20 +1,16 @@
 -- The static strings that a file on the shelf gives.
-use Rattle.std.specs.Prelude.{ℕ, List, Option, Some, None, codes}
-use Rattle.io_edges.specs.Store.{Store}
-use Rattle.shelf_files.specs.Files.{Has, Reading, ShelfFile, whole, bad}
-use Rattle.shelf_files.specs.declared.fault.FileFault.{FileFault}
-use Rattle.shelf_files.specs.declared.fault.FileFault.TheVariants as faults
-use Rattle.command_words.specs.Requests.{Asked}
-use Rattle.command_words.specs.declared.task.Origin.{Origin}
-use Rattle.command_words.specs.declared.task.Origin.TheVariants.{Initiator, Receiver}
-use Rattle.nbfx_values.specs.Limits.{Limits}
+use Rattle.std.specs.Prelude.{ℕ, List, Some, None, codes, Option}
+use Rattle.io_edges.specs.{declared.fault.FileFault.FileFault, Store.Store}
+use Rattle.io_edges.specs.Files.{bad, Has, Reading, ShelfFile, whole}
+use Rattle.{string_tables.specs.StaticStrings.Entry, nbfx_values.specs.Limits.Limits}
+use Rattle.static_dictionary.specs.declared.fault.{TableFault.TableFault, TableKind.TableKind}
 use Rattle.static_dictionary.specs.Rows.{Fault, fault_of, rows_of, table_of}
-use Rattle.static_dictionary.specs.declared.fault.TableFault.{TableFault}
+use Rattle.stream_reader.specs.Stream.{initiators, receivers, Settings, Side}
+use Rattle.command_words.specs.{declared.task.Origin.Origin, Requests.Asked}
+use Rattle.command_words.specs.declared.task.Origin.TheVariants.{Initiator, Receiver}
+use Rattle.io_edges.specs.declared.fault.FileFault.TheVariants as faults
 use Rattle.static_dictionary.specs.declared.fault.TableFault.TheVariants as tables
-use Rattle.static_dictionary.specs.declared.fault.TableKind.{TableKind}
 use Rattle.static_dictionary.specs.declared.fault.TableKind.TheVariants as kinds
-use Rattle.stream_reader.specs.Stream.{Settings, Side, initiators, receivers}
-use Rattle.string_tables.specs.StaticStrings.{Entry}
 
 -- what the rows of a file of static strings say: these entries, unless one of the rows fails
 abbrev pub file_unless : List Entry → Option Fault → ShelfFile (List Entry) TableKind

@@ -1,12 +1,10 @@
 -- What the parts of a run answer. Public contracts cite none of this.
-use Rattle.std.specs.Prelude.{ℕ}
-use Rattle.nbfx_values.specs.declared.refusals.Offence.{Offence}
-use Rattle.stream_loop.specs.declared.reporting.Ending.{Ending}
-use Rattle.stream_loop.specs.declared.reporting.Ending.TheVariants as endings
-use Rattle.command_words.specs.declared.words.WordsFault.{WordsFault}
-use Rattle.command_words.specs.declared.words.WordsFault.TheVariants as words
+use Rattle.{std.specs.Prelude.ℕ, nbfx_values.specs.declared.refusals.Offence.Offence}
+use Rattle.{stream_loop.specs.declared.reporting.Ending.Ending, dump_replay.specs.Running.status_of}
 use Rattle.session_report.specs.declared.reporter.Outcome.{Outcome}
-use Rattle.dump_replay.specs.Running.{status_of}
+use Rattle.command_words.specs.declared.words.WordsFault.{WordsFault}
+use Rattle.stream_loop.specs.declared.reporting.Ending.TheVariants as endings
+use Rattle.command_words.specs.declared.words.WordsFault.TheVariants as words
 
 -- the status of an ending, by how the session has ended
 abbrev pub status_at : Ending Offence → Outcome → ℕ

@@ -1,29 +1,22 @@
 -- What a run leaves, by what its words ask for. `Says` is what is known of the note with a text,
 -- `Untouched` that input, output and wire are as before, `Unasked` that the shelf is, and `Offline`
 -- that the wire is. `reader` and `writer` are what is seen of the ends of a connection.
-use Rattle.std.specs.Prelude.{◌≡◌, ◌≤◌, ◌⊎◌, ⊤, ℕ, List, Some, length}
-use Rattle.io_edges.specs.Faults.{Rose, one_more}
-use Rattle.nbfx_values.specs.Limits.{Limits}
-use Rattle.string_tables.specs.StaticStrings.{Entry}
-use Rattle.shelf_files.specs.Files.{Reading, Tells}
-use Rattle.shelf_files.specs.declared.fault.FileFault.{FileFault}
-use Rattle.shelf_files.specs.declared.fault.FileFault.TheVariants.{Failed}
-use Rattle.stream_loop.specs.Edges.{Input, Output}
-use Rattle.stream_loop.specs.declared.reporting.Ending.{Ending}
+use Rattle.std.specs.Prelude.{◌≡◌, ℕ, ◌≤◌, ◌⊎◌, List, length, Some, ⊤}
+use Rattle.io_edges.specs.declared.fault.FileFault.{FileFault, TheVariants.Failed}
+use Rattle.io_edges.specs.{Faults.one_more, Faults.Rose, Files.Reading, Files.Tells}
+use Rattle.{string_tables.specs.StaticStrings.Entry, nbfx_values.specs.Limits.Limits}
+use Rattle.stream_loop.specs.{declared.reporting.Ending.Ending, Edges.Input, Edges.Output}
 use Rattle.document_lines.specs.declared.InputFault.{InputFault}
-use Rattle.session_replay.specs.Responding.{reading_actions}
-use Rattle.command_words.specs.Requests.{Asked, IsRequest}
-use Rattle.command_words.specs.Tasks.{Opening, Serving, Task, report, build, replay, serve, call}
-use Rattle.command_words.specs.Tasks.{generate}
-use Rattle.dump_replay.specs.Answering.{Answered, action_kind_name}
+use Rattle.command_words.specs.{Requests.Asked, Requests.IsRequest, Tasks.Serving, Tasks.Task}
+use Rattle.command_words.specs.Tasks.{build, call, generate, Opening, replay, report, serve}
+use Rattle.duplex_server.specs.Responding.{reading_actions}
+use Rattle.dump_replay.specs.Answering.{action_kind_name, Answered}
 use Rattle.dump_replay.specs.Building.{Builds, note_of_building, status_of_building}
 use Rattle.dump_replay.specs.Calling.{CalledWith, HasNoSecond}
-use Rattle.dump_replay.specs.Generating.{Generated}
+use Rattle.dump_replay.specs.{Generating.Generated, Reporting.Reports, Serving.AnsweredAll}
 use Rattle.dump_replay.specs.Outside.{Outside, SeenShelf}
-use Rattle.dump_replay.specs.Reporting.{Reports}
-use Rattle.dump_replay.specs.Running.{IsStatus, WhereAsked, note_of, note_of_file, status_of_file}
-use Rattle.dump_replay.specs.Serving.{AnsweredAll}
-use Rattle.dump_replay.specs.Statics.{UnderFile, reading_statics, settings_for, table_kind_name}
+use Rattle.dump_replay.specs.Running.{IsStatus, note_of, note_of_file, status_of_file, WhereAsked}
+use Rattle.dump_replay.specs.Statics.{reading_statics, settings_for, table_kind_name, UnderFile}
 
 -- a Via that a session is opened with is within its quota
 abbrev pub IsPossible : Task → Type 0

@@ -4,7 +4,7 @@ ghost use Rattle.std.specs.Prelude.{◌≡◌, ◌≤◌, ◌<◌, ◌⊎◌, �
 ghost use Rattle.io_edges.specs.Faults.{CountsFaults, Rose};
 ghost use Rattle.nbfx_values.specs.QuotasOf.{limits_of};
 ghost use Rattle.stream_loop.specs.Edges.{input_at, output_at};
-ghost use Rattle.document_lists.specs.Files.{Answers};
+ghost use Rattle.document_lines.specs.Files.{Answers};
 ghost use Rattle.io_edges.specs.Wires.{network_at};
 ghost use Rattle.command_words.specs.Asking.{opening_of};
 ghost use Rattle.command_words.specs.Values.{text_behind};
@@ -15,13 +15,11 @@ ghost use Rattle.dump_replay.specs.Running.{CountsWire, HasFetched, if_named};
 
 use crate::building::build_status;
 use crate::notes::{note_building, note_called, note_documents};
-use client::CallSettings;
+use client::{CallSettings, EnvelopeKeeper, call_place};
 use command_words::Opening;
-use document_lines::InputFault;
-use document_lists::{FileFault, ListFault, fetch_documents, take_documents};
+use document_lines::{FileFault, InputFault, ListFault, fetch_documents, take_documents};
 use io_edges::{Shelf, Sink, Source, Wire};
 use nbfx_values::{Docs, Quotas};
-use session_calls::{EnvelopeKeeper, call_place};
 use static_dictionary::StaticTable;
 use std::alloc::Global;
 use stream_loop::Ending;

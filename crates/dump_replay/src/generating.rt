@@ -9,7 +9,7 @@ ghost use Rattle.dump_replay.specs.Noting.{Notes};
 use crate::notes::note_summary;
 use io_edges::Sink;
 use nbfx_values::Quotas;
-use session_summary::summarize;
+use session_generator::summarize;
 use static_dictionary::StaticTable;
 use std::alloc::Global;
 

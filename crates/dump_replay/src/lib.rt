@@ -11,13 +11,13 @@
 //! The one idea: a command reads a stream by a reading end and writes about it by a reporter, and
 //! the loop over both is `stream_loop`'s, so that what is written is a function of the bytes. The
 //! report of a stream is `session_report`'s, the reader of documents in lines is `document_lines`',
-//! the answers to an initiator's stream are `session_replay`'s, those on connections
-//! `connection_server`'s, the call of a server is `session_calls`' and its documents are
-//! `document_lists`', the line of a session that is made is `session_summary`'s, and the words are
-//! read by `command_words`. Here are the writer of envelopes (`building`), the service that is
-//! asked for (`responding`), the file of static strings, the statuses and the notes of a run, and
-//! what goes by the task that the words ask for (`working`). The main contract is the one of `run`:
-//! what each status means, when it comes, and what the output holds then.
+//! the answers to an initiator's stream and on connections are `duplex_server`'s, the call of a
+//! server is `client`'s and its documents are `document_lines`', the line of a session that is made
+//! is `session_generator`'s, and the words are read by `command_words`. Here are the writer of
+//! envelopes (`building`), the service that is asked for (`responding`), the file of static
+//! strings, the statuses and the notes of a run, and what goes by the task that the words ask for
+//! (`working`). The main contract is the one of `run`: what each status means, when it comes, and
+//! what the output holds then.
 //!
 //! The definitions are in `specs/`: `Outside` has what is seen of the outside at one moment,
 //! `Statics` what a file of static strings gives, `Running` the statuses, `Noting` the notes,

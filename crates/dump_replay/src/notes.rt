@@ -13,18 +13,15 @@ ghost use Rattle.dump_replay.specs.Running.{note_of, note_of_file, status_of_fil
 
 use crate::files::RowKind;
 use crate::replaying::write_fault_status;
-use document_lines::InputFault;
-use document_lists::FileFault as DocumentsFault;
-use duplex_server::{Inbound, Outbound};
-use io_edges::{Sink, SinkFault};
+use client::Called;
+use document_lines::{FileFault as DocumentsFault, InputFault};
+use duplex_server::{Inbound, Outbound, Replayed};
+use io_edges::{FileFault, Sink, SinkFault};
 use line_notation::{LineKind, Word, put_joined};
 use nbfx_encoder::EncodeFault;
 use nbfx_values::Offence;
-use session_calls::Called;
-use session_replay::Replayed;
+use session_generator::Summary;
 use session_report::put_offence;
-use session_summary::Summary;
-use shelf_files::FileFault;
 use stream_loop::Ending;
 
 // The text of the note that goes with a status by itself.

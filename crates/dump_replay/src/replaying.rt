@@ -15,10 +15,9 @@ use crate::notes::{note_file, note_replay, note_status};
 use crate::reporting::offence_status;
 use crate::responding::{endpoint_in, responder_in};
 use command_words::Serving;
-use duplex_server::{Inbound, Outbound};
+use duplex_server::{Inbound, Outbound, Replayed, Responder, replay_stream};
 use io_edges::{Shelf, Sink, Source};
 use nbfx_values::Quotas;
-use session_replay::{Replayed, Responder, replay_stream};
 use static_dictionary::StaticTable;
 use std::alloc::Global;
 

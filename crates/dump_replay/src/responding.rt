@@ -2,9 +2,9 @@
 
 ghost use Rattle.std.specs.Prelude.{◌≡◌, Some, IfErr, IfOk};
 ghost use Rattle.io_edges.specs.Faults.{CountsFaults};
-ghost use Rattle.shelf_files.specs.Files.{Tells};
+ghost use Rattle.io_edges.specs.Files.{Tells};
 ghost use Rattle.stream_reader.specs.Sides.{endpoint_of};
-ghost use Rattle.session_replay.specs.Responding.{reading_actions};
+ghost use Rattle.duplex_server.specs.Responding.{reading_actions};
 ghost use Rattle.command_words.specs.Asking.{serving_of};
 ghost use Rattle.dump_replay.specs.Answering.{IsAskedFor};
 ghost use Rattle.dump_replay.specs.Responding.{HasFailed};
@@ -12,11 +12,10 @@ ghost use Rattle.dump_replay.specs.Running.{HasFetched, if_named};
 
 use action_dispatch::ActionKind;
 use command_words::Serving;
-use io_edges::Shelf;
+use duplex_server::{Responder, read_actions};
+use io_edges::{FileFault, Shelf};
 use nbfx_values::Txt;
 use receiver_machine::Endpoint;
-use session_replay::{Responder, read_actions};
-use shelf_files::FileFault;
 use std::alloc::Global;
 use unit_streams::Memory;
 

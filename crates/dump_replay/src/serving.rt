@@ -15,7 +15,7 @@ ghost use Rattle.dump_replay.specs.Working.{HasNoActions};
 use crate::notes::{note_file, note_status};
 use crate::responding::{endpoint_in, responder_in};
 use command_words::Serving;
-use connection_server::{ServeFault, Server, serve_connections};
+use duplex_server::{ServeFault, Server, serve_connections};
 use io_edges::{Shelf, Sink, Wire};
 use nbfx_values::Quotas;
 use static_dictionary::StaticTable;

@@ -2,11 +2,10 @@
 
 ghost use Rattle.std.specs.Prelude.{◌≡◌, ℕ, ◌≤◌, IfOk, IfErr, IsErrOf};
 ghost use Rattle.io_edges.specs.Faults.{CountsFaults, one_more};
-ghost use Rattle.shelf_files.specs.Files.{Has, Tells, whole};
+ghost use Rattle.io_edges.specs.Files.{Has, Tells, whole};
 ghost use Rattle.dump_replay.specs.Statics.{file_fault, reading_statics};
 
-use io_edges::Shelf;
-use shelf_files::{FileFault, fetch_file};
+use io_edges::{FileFault, Shelf, fetch_file};
 use static_dictionary::{StaticTable, TableFault, TableKind};
 use std::alloc::Global;
 

@@ -1,33 +1,26 @@
 -- What is heard when a request more is answered, and what is written when the session is over.
-use Rattle.std.proofs.Common.{◌≡◌, ℕ, ◌<◌, ◌≤◌, leb, ◌⊎◌, inl, inr, List, [], ◌∷◌, ◌++◌, length}
-use Rattle.std.proofs.Common.{take, Bool, true, false, Option, Result, Ok, Err, refl, sym}
-use Rattle.std.proofs.Common.{ap, ◌∙◌, subst, arith}
-use Rattle.std.proofs.Common.{length-append}
-use Rattle.std.proofs.Math.Seq.{take-append_seam}
-use Rattle.std.proofs.lemmas.List.{append-nil}
-use Rattle.std.proofs.lemmas.Bool.{le-leb, lt-leb}
-use Rattle.std.specs.Prelude.{⊤}
-use Rattle.io_edges.specs.Faults.{one_more}
-use Rattle.io_edges.specs.declared.SinkFault.{SinkFault}
-use Rattle.io_edges.specs.declared.SinkFault.TheVariants as sinks
-use Rattle.nbfx_encoder.specs.declared.sender.Sender.{Sender}
-use Rattle.unit_streams.specs.Tellers.{Teller}
-use Rattle.stream_follower.specs.declared.writing.Outbound.{Outbound}
-use Rattle.stream_follower.specs.declared.writing.Outbound.TheVariants.{Done, WriteFault, Memory}
-use Rattle.stream_follower.specs.Gathering.{Gathers, IsGathering}
-use Rattle.stream_follower.specs.Writing.{Goes, IsCut, IsWriting, PutsParts, PutsTo, Writes, Wrote}
-use Rattle.stream_follower.specs.Writing.{outbound_by}
-use Rattle.stream_follower.proofs.Gathered.{gathered_cut, gathered_put, gathers_more, gathers_none}
-use Rattle.stream_follower.proofs.Gathered.{none_gathered}
-use Rattle.stream_follower.proofs.Written.{begins, closes, goes_by, pauses, stays, stays_closed}
-use Rattle.stream_follower.proofs.Written.{stops, stops_last, wanted_by}
-use Rattle.duplex_server.specs.declared.requests.Request.{Request}
-use Rattle.duplex_server.specs.declared.requests.Request.TheVariants.{Ended, Acknowledged}
-use Rattle.duplex_server.specs.declared.replier.Replier.{Replier}
-use Rattle.duplex_server.specs.Owed.{Answering, Replying, behind, messages_along, messages_behind}
-use Rattle.duplex_server.specs.Owed.{owed_for, replies, start}
-use Rattle.duplex_server.specs.Replying.{GathersOne, HasAnswered, answers_within, replying}
+use Rattle.std.proofs.Common.{◌≡◌, ℕ, ◌<◌, ◌≤◌, Bool, true, false, leb, ◌⊎◌, List, [], ◌∷◌, ◌++◌}
+use Rattle.std.proofs.Common.{length, take, Ok, Err, Option, Result, sym, refl, ap, ◌∙◌, subst, inl}
+use Rattle.std.proofs.Common.{inr, append-nil, arith, length-append, le-leb}
+use Rattle.std.{specs.Prelude.⊤, proofs.Math.Seq.take-append_seam, proofs.lemmas.Bool.lt-leb}
+use Rattle.io_edges.specs.{declared.SinkFault.SinkFault, Faults.one_more}
+use Rattle.{unit_streams.specs.Tellers.Teller, nbfx_encoder.specs.declared.sender.Sender.Sender}
+use Rattle.stream_loop.proofs.{Ended.gathers_still, Gathered.none_gathered}
+use Rattle.stream_loop.proofs.Gathered.{gathered_cut, gathered_put, gathers_more, gathers_none}
+use Rattle.stream_loop.proofs.Written.{begins, closes, goes_by, pauses, stays, stays_closed, stops}
+use Rattle.stream_loop.proofs.Written.{stops_last, wanted_by}
+use Rattle.stream_loop.specs.declared.outbound.Outbound.{Outbound}
+use Rattle.stream_loop.specs.declared.outbound.Outbound.TheVariants.{Done, Memory, WriteFault}
+use Rattle.stream_loop.specs.Gathering.{Gathers, IsGathering}
+use Rattle.stream_loop.specs.Writing.{Goes, IsCut, IsWriting, outbound_by, PutsParts, PutsTo}
+use Rattle.stream_loop.specs.Writing.{TellsAlike, Writes, Wrote}
+use Rattle.duplex_server.specs.declared.{replier.Replier.Replier, requests.Request.Request}
+use Rattle.duplex_server.specs.declared.requests.Request.TheVariants.{Acknowledged, Ended}
+use Rattle.duplex_server.specs.Owed.{Answering, behind, messages_along, messages_behind, owed_for}
+use Rattle.duplex_server.specs.Owed.{replies, Replying, start}
+use Rattle.duplex_server.specs.Replying.{answers_within, GathersOne, HasAnswered, MayWait, replying}
 use Rattle.duplex_server.proofs.Within.{within_in, within_out}
+use Rattle.io_edges.specs.declared.SinkFault.TheVariants as sinks
 
 -- one request more
 pub messages_more : (n : ℕ) (requests : List Request) (request : Request)
@@ -336,3 +329,31 @@ module _ {K : Type 0} (written : K → Option (List ℕ)) (held : K → List ℕ
       (λ s. answers ≡ s.answers) never
       (stopped_writes requests s (λ n s. answers_within n ends answers ≡ s.answers)
       (λ s. answers ≡ s.answers) outbound gathered now never h.gathers)
+
+-- what was answered stays so when the direction of a sink is ended, once the writing has stopped
+pub answered_still : {K : Type 0} (written : K → Option (List ℕ)) (held : K → List ℕ)
+    (faults : K → ℕ) (may_want : K → Bool) (x : Answering) (first : K) (requests : List Request)
+    (o : Outbound) → (o ≡ Done → ⊥) → (sender : Sender) (answers : ℕ) (gathered ends : List ℕ)
+    (now now' : K) → TellsAlike written held faults may_want now now'
+    → HasAnswered written held faults may_want x first requests o sender answers gathered ends now
+    → HasAnswered written held faults may_want x first requests o sender answers gathered ends now'
+answered_still written held faults may_want x first requests o stopped sender answers gathered ends
+    now now' alike h = record {
+      gathers = gathers_still written held faults may_want (replies x) first o stopped requests _ _
+          _
+          gathered now now' alike h.gathers;
+      all_end = λ going. absurd (stopped going);
+    }
+
+-- a request may be waited for, by what has become of the writing
+pub waits_ended : {K : Type 0} (held : K → List ℕ) (ended : K → Type 0) (o : Outbound)
+    → (o ≡ Done → ⊥) → (gathered : List ℕ) (now : K) → ended now
+    → MayWait held ended o gathered now
+waits_ended held ended Done stopped gathered now is = absurd (stopped refl)
+waits_ended held ended WriteFault stopped gathered now is = is
+waits_ended held ended Memory stopped gathered now is = is
+
+pub waits_going : {K : Type 0} (held : K → List ℕ) (ended : K → Type 0) (o : Outbound)
+    → o ≡ Done → (gathered : List ℕ) (now : K) → gathered ≡ [] → held now ≡ []
+    → MayWait held ended o gathered now
+waits_going held ended o going gathered now none emptied = rw going (none, emptied)

@@ -1,29 +1,22 @@
 -- What is known of a connection whose bytes are known.
-use Rattle.std.proofs.Common.{◌≡◌, ℕ, ◌⊎◌, inl, inr, List, [], ◌++◌, Bool, Option, Some, None, map}
-use Rattle.std.proofs.Common.{refl, sym, ap, ◌∙◌, subst}
-use Rattle.std.proofs.lemmas.List.{append-nil}
-use Rattle.unit_streams.specs.Judging.{History, events_of, offence}
-use Rattle.unit_streams.specs.Tellers.{told_along}
-use Rattle.unit_streams.proofs.Pending.{pending_open}
+use Rattle.std.proofs.Common.{◌≡◌, ℕ, Bool, ◌⊎◌, List, [], ◌++◌, map, Some, None, Option, sym, refl}
+use Rattle.std.proofs.Common.{ap, ◌∙◌, subst, inl, inr, append-nil}
+use Rattle.unit_streams.{proofs.Pending.pending_open, specs.Tellers.told_along}
+use Rattle.unit_streams.specs.Judging.{events_of, History, offence}
 use Rattle.nbfx_values.specs.declared.refusals.Offence.{Offence}
-use Rattle.stream_loop.specs.Edges.{Input}
-use Rattle.stream_loop.proofs.Writing.{told_some}
-use Rattle.stream_reader.specs.Stream.{StreamEvent, stream}
-use Rattle.stream_follower.specs.declared.writing.Outbound.{Outbound}
-use Rattle.stream_follower.specs.declared.writing.Outbound.TheVariants as outbounds
-use Rattle.stream_follower.specs.Followed.{AreFirst, Breaks, Decides, Follows, IsWhole, Starves}
-use Rattle.stream_follower.specs.Writing.{Wrote}
-use Rattle.stream_follower.proofs.Amounts.{first_told, whole_told, wrote_grew}
-use Rattle.stream_follower.proofs.Bringing.{first_of_open}
-use Rattle.stream_follower.proofs.Grown.{AllWritten, Grew, all_written, grew_more}
+use Rattle.stream_reader.specs.Stream.{stream, StreamEvent}
+use Rattle.stream_loop.proofs.Amounts.{first_told, whole_told, wrote_grew}
+use Rattle.stream_loop.proofs.{Bringing.first_of_open, Writing.told_some}
+use Rattle.stream_loop.proofs.Grown.{all_written, AllWritten, Grew, grew_more}
+use Rattle.stream_loop.specs.{declared.outbound.Outbound.Outbound, Edges.Input, Writing.Wrote}
+use Rattle.stream_loop.specs.Followed.{AreFirst, Breaks, Decides, Follows, IsWhole, Starves}
 use Rattle.receiver_machine.specs.Owed.{closing_bytes}
-use Rattle.duplex_server.specs.declared.outcome.Inbound.{Inbound}
-use Rattle.duplex_server.specs.declared.outcome.Inbound.TheVariants.{Ended, Offended, ReadFault}
-use Rattle.duplex_server.specs.declared.outcome.Inbound.TheVariants.{Memory}
-use Rattle.duplex_server.specs.declared.outcome.Outcome.{Outcome}
+use Rattle.duplex_server.specs.declared.outcome.Inbound.{Inbound, TheVariants.ReadFault}
+use Rattle.duplex_server.specs.declared.outcome.Inbound.TheVariants.{Ended, Memory, Offended}
+use Rattle.duplex_server.specs.{declared.outcome.Outcome.Outcome, Requests.request_for}
 use Rattle.duplex_server.specs.Owed.{Answering, owed, replies, requests_to, start}
-use Rattle.duplex_server.specs.Requests.{request_for}
-use Rattle.duplex_server.specs.Serving.{HasServed, Judges, Serves, WritesOwed, ending_of}
+use Rattle.duplex_server.specs.Serving.{ending_of, HasServed, Judges, Serves, WritesOwed}
+use Rattle.stream_loop.specs.declared.outbound.Outbound.TheVariants as outbounds
 
 module _ {K : Type 0} (written : K → Option (List ℕ)) (held : K → List ℕ) (faults : K → ℕ)
     (may_want : K → Bool) (x : Answering) (endpoint : Option (List ℕ)) (i i' : Input)

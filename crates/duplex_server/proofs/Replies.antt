@@ -1,28 +1,18 @@
 -- What is left of the outgoing direction, by its sending half.
-use Rattle.std.proofs.Common.{◌≡◌, ℕ, List, [], ◌++◌, true, false, Option, None, Ok}
-use Rattle.std.proofs.Common.{refl, sym, ap, ◌∙◌}
-use Rattle.io_edges.specs.Faults.{one_more}
-use Rattle.nbfx_values.specs.Limits.{Limits}
-use Rattle.nbfx_values.specs.declared.content.Item.{Item}
-use Rattle.nbfx_values.specs.declared.session.Kind.{Kind}
-use Rattle.nbfx_values.specs.declared.session.Mode.{Mode}
-use Rattle.string_tables.specs.StaticStrings.{Entry}
-use Rattle.string_tables.specs.StringTable.{StringTable}
-use Rattle.nbfx_encoder.specs.declared.sender.SendState.{SendState}
-use Rattle.nbfx_encoder.specs.declared.sender.Sender.{Sender}
-use Rattle.nbfx_encoder.specs.declared.sender.Side.TheVariants.{Receiver}
-use Rattle.nbfx_encoder.specs.Envelopes.{envelope}
-use Rattle.nbfx_encoder.specs.Placing.{Placed}
+use Rattle.std.proofs.Common.{◌≡◌, ℕ, true, false, List, [], ◌++◌, None, Ok, Option, sym, refl, ap}
+use Rattle.{std.proofs.Common.◌∙◌, io_edges.specs.Faults.one_more, nbfx_values.specs.Limits.Limits}
+use Rattle.string_tables.specs.{StaticStrings.Entry, StringTable.StringTable}
+use Rattle.nbfx_values.specs.declared.{content.Item.Item, session.Kind.Kind, session.Mode.Mode}
+use Rattle.nbfx_encoder.specs.declared.sender.{SendState.SendState, Sender.Sender}
+use Rattle.nbfx_encoder.specs.{declared.sender.Side.TheVariants.Receiver, Placing.Placed}
+use Rattle.nbfx_encoder.specs.{Envelopes.envelope, Spelling.encoded}
 use Rattle.nbfx_encoder.specs.Sending.{behind_message, first_state, kind_in, limits_in, mode_in}
 use Rattle.nbfx_encoder.specs.Sending.{names_in, state_in}
-use Rattle.nbfx_encoder.specs.Spelling.{encoded}
-use Rattle.action_dispatch.specs.declared.answers.Answer.{Answer}
-use Rattle.action_dispatch.specs.declared.answers.Answer.TheVariants.{Reply, Nothing}
-use Rattle.action_dispatch.specs.Refusals.{unfit_fault}
-use Rattle.duplex_server.specs.Owed.{Replying, behind_reply, first_fitting, no_strings, opened}
-use Rattle.duplex_server.specs.Owed.{payload_of, told_reply, when_ready}
-use Rattle.duplex_server.specs.Replying.{replying}
-use Rattle.duplex_server.specs.Spelling.{Spells}
+use Rattle.action_dispatch.specs.{declared.answers.Answer.Answer, Refusals.unfit_fault}
+use Rattle.action_dispatch.specs.declared.answers.Answer.TheVariants.{Nothing, Reply}
+use Rattle.duplex_server.specs.Owed.{behind_reply, first_fitting, no_strings, opened, payload_of}
+use Rattle.duplex_server.specs.Owed.{Replying, told_reply, when_ready}
+use Rattle.duplex_server.specs.{Replying.replying, Spelling.Spells}
 
 -- by its parts
 pub replying_is : (sender : Sender) (mode : Mode) (kind : Kind) (moment : SendState)

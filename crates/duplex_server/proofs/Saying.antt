@@ -1,18 +1,16 @@
 -- What a receiver answers is what a reader of requests says.
-use Rattle.std.proofs.Common.{◌≡◌, ℕ, Option, Some, None, Result, Ok, Err, refl, ap, ◌∙◌}
-use Rattle.unit_streams.specs.Judging.{Answer, goes_on, completes, offends}
+use Rattle.std.proofs.Common.{◌≡◌, ℕ, Some, None, Ok, Err, Option, Result, refl, ap, ◌∙◌}
+use Rattle.unit_streams.specs.Judging.{Answer, completes, goes_on, offends}
 use Rattle.nbfx_values.specs.declared.refusals.Offence.{Offence}
-use Rattle.stream_loop.specs.Answers.{said as said_by_loop, said_at_end as ends_by_loop}
+use Rattle.stream_reader.specs.declared.reader.{ReadRefusal.ReadRefusal, StreamStep.StreamStep}
+use Rattle.stream_reader.specs.{Calls.told_at_end, Saying.said, Saying.step_for}
+use Rattle.stream_reader.specs.Stream.{accepted, ended, message, opened, peer_fault, StreamEvent}
 use Rattle.stream_loop.specs.declared.reading_end.FeedFault.{FeedFault}
-use Rattle.stream_loop.specs.declared.reading_end.FeedFault.TheVariants as faults
-use Rattle.stream_reader.specs.Saying.{said, step_for}
-use Rattle.stream_reader.specs.declared.reader.ReadRefusal.{ReadRefusal}
-use Rattle.stream_reader.specs.declared.reader.ReadRefusal.TheVariants as refusals
-use Rattle.stream_reader.specs.declared.reader.StreamStep.{StreamStep}
-use Rattle.stream_reader.specs.Stream.{StreamEvent, opened, accepted, message, ended, peer_fault}
-use Rattle.stream_reader.specs.Calls.{told_at_end}
+use Rattle.stream_loop.specs.Answers.{said as said_by_loop, said_at_end as ends_by_loop}
 use Rattle.duplex_server.specs.declared.requests.Request.{Request}
 use Rattle.duplex_server.specs.Requests.{request_for, request_in}
+use Rattle.stream_loop.specs.declared.reading_end.FeedFault.TheVariants as faults
+use Rattle.stream_reader.specs.declared.reader.ReadRefusal.TheVariants as refusals
 
 -- an event's step brings its request
 brings : (e : StreamEvent) → request_in (step_for e) ≡ Some (request_for e)

@@ -1,22 +1,16 @@
 -- What is known of a connection when its stream is over and what is owed last is written.
-use Rattle.std.proofs.Common.{◌≡◌, ℕ, List, Bool, Option, Some, None, map, refl, sym, ap, ◌∙◌}
-use Rattle.std.proofs.Common.{subst}
-use Rattle.io_edges.specs.Faults.{CountsFaults}
+use Rattle.std.proofs.Common.{◌≡◌, ℕ, Bool, List, map, Some, None, Option, sym, refl, ap, ◌∙◌}
+use Rattle.{std.proofs.Common.subst, io_edges.specs.Faults.CountsFaults}
 use Rattle.nbfx_values.specs.declared.refusals.Offence.{Offence}
-use Rattle.stream_loop.specs.Edges.{Input}
-use Rattle.stream_reader.specs.Stream.{Settings, StreamEvent, stream}
-use Rattle.stream_follower.specs.declared.following.Ending.{Ending}
-use Rattle.stream_follower.specs.declared.following.Ending.TheVariants as endings
-use Rattle.stream_follower.specs.Followed.{Follows}
-use Rattle.stream_follower.specs.Writing.{Wrote}
-use Rattle.stream_follower.proofs.Counts.{heard_some, writes_counted}
-use Rattle.stream_follower.proofs.Taking.{follows_as}
-use Rattle.duplex_server.specs.declared.outcome.Inbound.{Inbound}
-use Rattle.duplex_server.specs.declared.outcome.Inbound.TheVariants.{ReadFault}
-use Rattle.duplex_server.specs.declared.outcome.Outcome.{Outcome}
+use Rattle.stream_reader.specs.Stream.{Settings, stream, StreamEvent}
+use Rattle.stream_loop.proofs.{Counts.heard_some, Counts.writes_counted, Taking.follows_as}
+use Rattle.stream_loop.specs.{declared.following.Ending.Ending, Edges.Input}
+use Rattle.stream_loop.specs.{Followed.Follows, Writing.Wrote}
+use Rattle.duplex_server.specs.declared.outcome.Inbound.{Inbound, TheVariants.ReadFault}
+use Rattle.duplex_server.specs.{declared.outcome.Outcome.Outcome, Requests.request_for}
 use Rattle.duplex_server.specs.Owed.{Answering, messages_along, replies, requests_to}
-use Rattle.duplex_server.specs.Requests.{request_for}
-use Rattle.duplex_server.specs.Serving.{HasServed, Serves, closing_of, ending_of, inbound_of}
+use Rattle.duplex_server.specs.Serving.{closing_of, ending_of, HasServed, inbound_of, Serves}
+use Rattle.stream_loop.specs.declared.following.Ending.TheVariants as endings
 
 pub ending_again : (ending : Ending Offence) → ending_of (inbound_of ending) ≡ ending
 ending_again (endings.Judged None) = refl

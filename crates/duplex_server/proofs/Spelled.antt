@@ -1,15 +1,11 @@
 -- What two tries of an envelope leave.
-use Rattle.std.proofs.Common.{◌≡◌, ℕ, List, ◌++◌, Bool, true, false, Result, Ok}
-use Rattle.std.proofs.Common.{Err, sym, ap, ◌∙◌}
+use Rattle.std.proofs.Common.{◌≡◌, ℕ, Bool, true, false, List, ◌++◌, Ok, Err, Result, sym, ap, ◌∙◌}
 use Rattle.unit_streams.specs.declared.memory.Memory.{Memory}
-use Rattle.nbfx_values.specs.declared.session.Mode.{Mode}
 use Rattle.string_tables.specs.StringTable.{StringTable}
-use Rattle.nbfx_encoder.specs.declared.sender.SendState.{SendState}
-use Rattle.nbfx_encoder.specs.declared.sender.SendState.TheVariants.{Ready}
-use Rattle.nbfx_encoder.specs.Envelopes.{envelope}
-use Rattle.nbfx_encoder.specs.Placing.{Placed}
-use Rattle.nbfx_encoder.specs.Sending.{behind_message}
-use Rattle.nbfx_encoder.specs.Spelling.{Unfit}
+use Rattle.nbfx_values.specs.declared.session.Mode.{Mode}
+use Rattle.nbfx_encoder.specs.declared.sender.SendState.{SendState, TheVariants.Ready}
+use Rattle.nbfx_encoder.specs.{Envelopes.envelope, Placing.Placed}
+use Rattle.nbfx_encoder.specs.{Sending.behind_message, Spelling.Unfit}
 use Rattle.duplex_server.specs.Owed.{first_fitting, when_ready}
 use Rattle.duplex_server.specs.Spelling.{Spells, Tries}
 

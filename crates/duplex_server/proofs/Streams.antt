@@ -1,10 +1,8 @@
 -- An initiator's stream can be followed to its end.
-use Rattle.std.proofs.Common.{arith}
-use Rattle.nbfx_values.specs.Limits.{IsGood}
+use Rattle.{std.proofs.Common.arith, nbfx_values.specs.Limits.IsGood}
+use Rattle.stream_reader.proofs.{Closing.closes, Readings.few_bytes, Readings.first_unrefused}
+use Rattle.stream_reader.specs.Stream.{ends, Settings, stream}
 use Rattle.stream_loop.specs.Answers.{EndsWithin}
-use Rattle.stream_reader.specs.Stream.{Settings, ends, stream}
-use Rattle.stream_reader.proofs.Closing.{closes}
-use Rattle.stream_reader.proofs.Readings.{few_bytes, first_unrefused}
 
 pub ends_within : (x : Settings) → IsGood x.limits → EndsWithin (stream x) ends x.limits.session
 ends_within x good = record {

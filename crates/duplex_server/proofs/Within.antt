@@ -1,8 +1,6 @@
 -- How many answers end within the first bytes of some.
-use Rattle.std.proofs.Common.{◌≡◌, ℕ, leb, List, [], ◌∷◌, ◌++◌, true, false, refl}
-use Rattle.std.proofs.Common.{if◌then◌else◌}
-use Rattle.io_edges.specs.Faults.{one_more}
-use Rattle.duplex_server.specs.Replying.{answers_within}
+use Rattle.std.proofs.Common.{◌≡◌, ℕ, true, false, leb, List, [], ◌∷◌, ◌++◌, if◌then◌else◌, refl}
+use Rattle.{io_edges.specs.Faults.one_more, duplex_server.specs.Replying.answers_within}
 
 -- with one end more
 pub within_more : (n : ℕ) (ends : List ℕ) (end answers : ℕ)

@@ -1,15 +1,12 @@
 -- What is owed for literal streams, by computation alone.
-use Rattle.std.proofs.Common.{◌≡◌, ℕ, List, [], ◌∷◌, ◌++◌, map, Option, Some, None, refl}
-use Rattle.std.specs.Prelude.{⊤, codes}
-use Rattle.std.specs.Char.{encode_utf8}
-use Rattle.unit_streams.specs.Tellers.{report, told_along, state_behind}
+use Rattle.std.proofs.Common.{◌≡◌, ℕ, List, [], ◌∷◌, ◌++◌, map, Some, None, codes, Option, refl}
+use Rattle.std.specs.{Prelude.⊤, Char.encode_utf8}
+use Rattle.unit_streams.specs.Tellers.{report, state_behind, told_along}
+use Rattle.multibyte_ints.specs.{Integer.shortest, Integer.shortest_within, Text.string_bytes_of}
 use Rattle.nbfx_values.specs.Limits.{Limits, usual_limits}
-use Rattle.multibyte_ints.specs.Integer.{shortest, shortest_within}
-use Rattle.multibyte_ints.specs.Text.{string_bytes_of}
-use Rattle.soap_envelope.proofs.OnLiterals.{envelopes_on_literals}
 use Rattle.stream_reader.proofs.OnLiterals.{streams_on_literals}
-use Rattle.action_dispatch.specs.Answers.{Serves}
-use Rattle.action_dispatch.specs.Services.{echoed}
+use Rattle.soap_envelope.proofs.OnLiterals.{envelopes_on_literals}
+use Rattle.action_dispatch.specs.{Answers.Serves, Services.echoed}
 use Rattle.duplex_server.specs.Owed.{answering, owed}
 
 unfoldable owed_on_literals : ⊤

@@ -1,8 +1,16 @@
 -- Public contracts cite these: what is owed for an initiator's stream (Owed), by its events as a
--- server sees them (Requests); what serving a connection leaves (Serving).
+-- server sees them (Requests); what serving a connection leaves (Serving), and answering a session
+-- of an input (Replaying); what a file of actions gives (Responding); the lines of connections
+-- (Lines), and what was read and written where they are served one after the other (Served).
 pub mod Requests
 pub mod Owed
 pub mod Serving
--- Private calls cite these: how an answer is spelled, and what a replier keeps and has written.
+pub mod Replaying
+pub mod Responding
+pub mod Lines
+pub mod Served
+-- Private calls cite these: how an answer is spelled, what a replier keeps and has written, and
+-- which connections have been served so far (Along).
 pub mod Spelling
 pub mod Replying
+pub mod Along

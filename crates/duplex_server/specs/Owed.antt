@@ -1,37 +1,25 @@
 -- What a server owes for the bytes of an initiator's stream: a fold over the stream's history,
 -- which
 -- carries the strings of the outgoing direction on.
-use Rattle.std.specs.Prelude.{ℕ, List, [], ◌∷◌, Option, Some, None, Result, Ok, Err}
-use Rattle.io_edges.specs.Faults.{one_more}
-use Rattle.unit_streams.specs.Tellers.{Teller, report}
-use Rattle.nbfx_values.specs.Limits.{Limits}
-use Rattle.nbfx_values.specs.declared.content.Item.{Item}
-use Rattle.nbfx_values.specs.declared.refusals.Offence.{Offence}
-use Rattle.nbfx_values.specs.declared.session.Kind.{Kind}
-use Rattle.nbfx_values.specs.declared.session.Kind.TheVariants.{Session}
-use Rattle.nbfx_values.specs.declared.session.Mode.{Mode}
-use Rattle.nbfx_values.specs.declared.session.Mode.TheVariants.{Simplex}
-use Rattle.string_tables.specs.StaticStrings.{Entry}
-use Rattle.string_tables.specs.StringTable.{StringTable}
-use Rattle.nmf_records.specs.declared.frame.Frame.TheVariants.{PreambleAck}
-use Rattle.nmf_records.specs.Writing.{frame_bytes_of}
-use Rattle.nbfx_encoder.specs.declared.sender.SendState.{SendState}
+use Rattle.std.specs.Prelude.{ℕ, List, [], ◌∷◌, Some, None, Ok, Err, Option, Result}
+use Rattle.{io_edges.specs.Faults.one_more, nbfx_values.specs.Limits.Limits}
+use Rattle.unit_streams.specs.Tellers.{report, Teller}
+use Rattle.string_tables.specs.{StaticStrings.Entry, StringTable.StringTable}
+use Rattle.nbfx_values.specs.declared.{content.Item.Item, refusals.Offence.Offence}
+use Rattle.nbfx_values.specs.declared.session.Kind.{Kind, TheVariants.Session}
+use Rattle.nbfx_values.specs.declared.session.Mode.{Mode, TheVariants.Simplex}
+use Rattle.nmf_records.specs.{declared.frame.Frame.TheVariants.PreambleAck, Writing.frame_bytes_of}
+use Rattle.nbfx_encoder.specs.declared.sender.{SendState.SendState, Side.TheVariants.Receiver}
 use Rattle.nbfx_encoder.specs.declared.sender.SendState.TheVariants.{Ready, Spent}
-use Rattle.nbfx_encoder.specs.declared.sender.Side.TheVariants.{Receiver}
-use Rattle.nbfx_encoder.specs.Envelopes.{envelope}
-use Rattle.nbfx_encoder.specs.Placing.{Placed}
+use Rattle.nbfx_encoder.specs.{Envelopes.envelope, Placing.Placed, Spelling.encoded, Spelling.Unfit}
 use Rattle.nbfx_encoder.specs.Sending.{behind_message, first_state}
-use Rattle.nbfx_encoder.specs.Spelling.{Unfit, encoded}
-use Rattle.stream_loop.specs.Answers.{written_by}
-use Rattle.stream_reader.specs.Stream.{Settings, StreamEvent, initiators, stream}
-use Rattle.receiver_machine.specs.Owed.{closing_bytes}
-use Rattle.action_dispatch.specs.declared.answers.Answer.{Answer}
-use Rattle.action_dispatch.specs.declared.answers.Answer.TheVariants.{Reply, Nothing}
-use Rattle.action_dispatch.specs.Answers.{Serves, answered}
-use Rattle.action_dispatch.specs.Refusals.{unfit_fault}
-use Rattle.duplex_server.specs.declared.requests.Request.{Request}
-use Rattle.duplex_server.specs.declared.requests.Request.TheVariants.{Opened, Received, Ended}
-use Rattle.duplex_server.specs.declared.requests.Request.TheVariants.{Acknowledged}
+use Rattle.stream_reader.specs.Stream.{initiators, Settings, stream, StreamEvent}
+use Rattle.{stream_loop.specs.Answers.written_by, receiver_machine.specs.Owed.closing_bytes}
+use Rattle.action_dispatch.specs.{declared.answers.Answer.Answer, Refusals.unfit_fault}
+use Rattle.action_dispatch.specs.declared.answers.Answer.TheVariants.{Nothing, Reply}
+use Rattle.action_dispatch.specs.Answers.{answered, Serves}
+use Rattle.duplex_server.specs.declared.requests.Request.{Request, TheVariants.Received}
+use Rattle.duplex_server.specs.declared.requests.Request.TheVariants.{Acknowledged, Ended, Opened}
 use Rattle.duplex_server.specs.Requests.{request_for}
 
 -- how requests are answered: what the service says, the strings that both ends have, and the quotas

@@ -1,18 +1,14 @@
 -- What a replier keeps, and what it has written and gathered of the requests so far.
-use Rattle.std.specs.Prelude.{◌≡◌, ℕ, ◌≤◌, leb, List, [], ◌∷◌, ◌++◌, length, Bool, Option}
-use Rattle.std.specs.Prelude.{if◌then◌else◌}
-use Rattle.io_edges.specs.Faults.{one_more}
-use Rattle.nbfx_values.specs.QuotasOf.{limits_of}
-use Rattle.nbfx_encoder.specs.declared.sender.Sender.{Sender}
+use Rattle.std.specs.Prelude.{◌≡◌, ℕ, ◌≤◌, Bool, leb, List, [], ◌∷◌, ◌++◌, length, if◌then◌else◌}
+use Rattle.{std.specs.Prelude.Option, io_edges.specs.Faults.one_more}
+use Rattle.{nbfx_values.specs.QuotasOf.limits_of, nbfx_encoder.specs.declared.sender.Sender.Sender}
 use Rattle.nbfx_encoder.specs.Sending.{kind_in, mode_in, names_in, state_in}
+use Rattle.stream_loop.specs.{declared.outbound.Outbound.Outbound, Gathering.Gathers}
+use Rattle.stream_loop.specs.declared.outbound.Outbound.TheVariants.{Done, Memory, WriteFault}
 use Rattle.action_dispatch.specs.Answers.{Serves}
-use Rattle.stream_follower.specs.declared.writing.Outbound.{Outbound}
-use Rattle.stream_follower.specs.declared.writing.Outbound.TheVariants.{Done}
-use Rattle.stream_follower.specs.Gathering.{Gathers}
-use Rattle.duplex_server.specs.declared.replier.Replier.{Replier}
-use Rattle.duplex_server.specs.declared.requests.Request.{Request}
-use Rattle.duplex_server.specs.Owed.{Answering, Replying, answering, behind, messages_along}
-use Rattle.duplex_server.specs.Owed.{owed_for, replies}
+use Rattle.duplex_server.specs.declared.{replier.Replier.Replier, requests.Request.Request}
+use Rattle.duplex_server.specs.Owed.{Answering, answering, behind, messages_along, owed_for}
+use Rattle.duplex_server.specs.Owed.{replies, Replying}
 
 -- what is left of the outgoing direction, by its sending half and the number of its answers
 unfoldable pub replying : Sender → ℕ → Replying
@@ -73,3 +69,11 @@ module _ {K : Type 0} (written : K → Option (List ℕ)) (held : K → List ℕ
         (one_more (answers_within (length earlier) replier.ends.items replier.answers))
         ≡ behind x (replying sender
         (answers_within (length earlier) replier.ends.items replier.answers)) request
+
+-- A request may be waited for: all that is due has left, or the writing has stopped, and the
+-- direction was ended.
+abbrev pub MayWait : {K : Type 0} → (held : K → List ℕ) → (ended : K → Type 0) → Outbound
+    → (gathered : List ℕ) → K → Type 0
+MayWait held ended Done gathered now = (gathered ≡ []) × (held now ≡ [])
+MayWait held ended WriteFault gathered now = ended now
+MayWait held ended Memory gathered now = ended now

@@ -1,11 +1,10 @@
 -- The events of an initiator's stream, as far as a server answers them.
-use Rattle.std.specs.Prelude.{Option, Some, None}
+use Rattle.std.specs.Prelude.{Some, None, Option}
 use Rattle.stream_reader.specs.declared.reader.StreamStep.{StreamStep}
+use Rattle.stream_reader.specs.Stream.{accepted, ended, message, opened, peer_fault, StreamEvent}
+use Rattle.duplex_server.specs.declared.requests.Request.{Request, TheVariants.Received}
+use Rattle.duplex_server.specs.declared.requests.Request.TheVariants.{Acknowledged, Ended, Opened}
 use Rattle.stream_reader.specs.declared.reader.StreamStep.TheVariants as steps
-use Rattle.stream_reader.specs.Stream.{StreamEvent, opened, accepted, message, ended, peer_fault}
-use Rattle.duplex_server.specs.declared.requests.Request.{Request}
-use Rattle.duplex_server.specs.declared.requests.Request.TheVariants.{Opened, Received, Ended}
-use Rattle.duplex_server.specs.declared.requests.Request.TheVariants.{Acknowledged}
 
 abbrev pub request_for : StreamEvent → Request
 request_for (opened mode kind via) = Opened mode kind

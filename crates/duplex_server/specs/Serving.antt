@@ -1,24 +1,17 @@
 -- What was read and written where a connection is served, however that ends.
-use Rattle.std.specs.Prelude.{◌≡◌, ⊤, ℕ, List, [], ◌++◌, Bool, Option, Some, None, map}
-use Rattle.io_edges.specs.Faults.{CountsFaults}
-use Rattle.io_edges.specs.Flow.{GrowsByPrefix}
-use Rattle.unit_streams.specs.Judging.{offence}
-use Rattle.nbfx_values.specs.declared.refusals.Offence.{Offence}
-use Rattle.stream_loop.specs.Edges.{Input}
-use Rattle.stream_reader.specs.Stream.{StreamEvent, stream}
-use Rattle.stream_follower.specs.declared.following.Ending.{Ending}
-use Rattle.stream_follower.specs.declared.following.Ending.TheVariants as endings
-use Rattle.stream_follower.specs.declared.writing.Outbound.{Outbound}
-use Rattle.stream_follower.specs.declared.writing.Outbound.TheVariants as outbounds
-use Rattle.stream_follower.specs.Followed.{Follows}
-use Rattle.stream_follower.specs.Writing.{Wrote}
+use Rattle.std.specs.Prelude.{◌≡◌, ℕ, Bool, List, [], ◌++◌, map, Some, None, Option, ⊤}
+use Rattle.io_edges.specs.{Faults.CountsFaults, Flow.GrowsByPrefix}
+use Rattle.{unit_streams.specs.Judging.offence, nbfx_values.specs.declared.refusals.Offence.Offence}
+use Rattle.stream_reader.specs.Stream.{stream, StreamEvent}
+use Rattle.stream_loop.specs.declared.{following.Ending.Ending, outbound.Outbound.Outbound}
+use Rattle.stream_loop.specs.{Edges.Input, Followed.Follows, Writing.Wrote}
 use Rattle.receiver_machine.specs.Owed.{closing_bytes}
-use Rattle.duplex_server.specs.declared.outcome.Inbound.{Inbound}
-use Rattle.duplex_server.specs.declared.outcome.Inbound.TheVariants.{Ended, Offended, ReadFault}
-use Rattle.duplex_server.specs.declared.outcome.Inbound.TheVariants.{Memory}
-use Rattle.duplex_server.specs.declared.outcome.Outcome.{Outcome}
-use Rattle.duplex_server.specs.Requests.{request_for}
+use Rattle.duplex_server.specs.declared.outcome.Inbound.{Inbound, TheVariants.ReadFault}
+use Rattle.duplex_server.specs.declared.outcome.Inbound.TheVariants.{Ended, Memory, Offended}
+use Rattle.duplex_server.specs.{declared.outcome.Outcome.Outcome, Requests.request_for}
 use Rattle.duplex_server.specs.Owed.{Answering, messages_along, replies, requests_to}
+use Rattle.stream_loop.specs.declared.following.Ending.TheVariants as endings
+use Rattle.stream_loop.specs.declared.outbound.Outbound.TheVariants as outbounds
 
 -- how the reading of a connection ended
 abbrev pub inbound_of : Ending Offence → Inbound

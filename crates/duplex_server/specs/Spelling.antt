@@ -1,14 +1,11 @@
 -- What the spelling of an answer appends, and what it leaves of the sending half.
-use Rattle.std.specs.Prelude.{◌≡◌, ⊤, ℕ, List, ◌++◌, Bool, true, false, Option, Some, None, Result}
-use Rattle.std.specs.Prelude.{Ok, Err}
+use Rattle.std.specs.Prelude.{◌≡◌, ℕ, Bool, true, false, List, ◌++◌, Some, None, Ok, Err, Option}
+use Rattle.std.specs.Prelude.{Result, ⊤}
 use Rattle.unit_streams.specs.declared.memory.Memory.{Memory}
-use Rattle.nbfx_values.specs.declared.session.Mode.{Mode}
 use Rattle.string_tables.specs.StringTable.{StringTable}
-use Rattle.nbfx_encoder.specs.declared.sender.SendState.{SendState}
-use Rattle.nbfx_encoder.specs.Envelopes.{envelope}
-use Rattle.nbfx_encoder.specs.Placing.{Placed}
-use Rattle.nbfx_encoder.specs.Sending.{behind_message}
-use Rattle.nbfx_encoder.specs.Spelling.{Unfit}
+use Rattle.nbfx_values.specs.declared.session.Mode.{Mode}
+use Rattle.nbfx_encoder.specs.{declared.sender.SendState.SendState, Placing.Placed}
+use Rattle.nbfx_encoder.specs.{Envelopes.envelope, Sending.behind_message, Spelling.Unfit}
 
 module _ (mode : Mode) (old new : List ℕ) (before behind : StringTable) (was moment : SendState)
   where

@@ -1,7 +1,7 @@
 //! What became of a connection.
 
 use nbfx_values::Offence;
-use stream_follower::Outbound;
+use stream_loop::Outbound;
 
 /// How the reading of a connection ended.
 #[derive(Clone, Copy, Debug, PartialEq, Eq)]

@@ -7,7 +7,7 @@ ghost use Rattle.nbfx_encoder.specs.declared.sender.Sender.{Sender as Sending};
 ghost use Rattle.nbfx_encoder.specs.Sending.{limits_in};
 ghost use Rattle.soap_envelope.specs.Making.{AreTexts};
 ghost use Rattle.action_dispatch.specs.Answers.{RelatesToTexts, answered};
-ghost use Rattle.stream_follower.specs.Writing.{Goes, Wrote};
+ghost use Rattle.stream_loop.specs.Writing.{Goes, Wrote};
 ghost use Rattle.duplex_server.specs.declared.requests.Request.{Request as Heard};
 ghost use Rattle.duplex_server.specs.Owed.{replies, start};
 ghost use Rattle.duplex_server.specs.Serving.{closing_of};
@@ -23,7 +23,9 @@ use nmf_records::record_types::PREAMBLE_ACK;
 use receiver_machine::closing_record;
 use static_dictionary::StaticTable;
 use std::alloc::Global;
-use stream_follower::{Ending, Listener, Outbound, flush, put_bytes, put_parts, starve};
+use stream_loop::{
+    FollowEnding as Ending, Listener, Outbound, flush, put_bytes, put_parts, starve,
+};
 use unit_streams::Memory;
 
 /// From so many bytes on what is gathered is written at once.
@@ -120,6 +122,8 @@ impl<'s, 'v, V: Service> Replier<'s, 'v, V> {
             (answering_of V.served self.old) first requests sender self.old sink.old
             → Answered K.written K.held K.faults K.may_want
             (answering_of V.served self.old) first requests sender self.new sink.new }
+        ensures emptied { self.new.gathered.items ≡ [] }
+        ensures written { self.new.outbound ≡ Outbound.Done → K.held sink.new ≡ [] }
         ensures sender { self.new.sender ≡ self.old.sender }
         ensures messages { self.new.messages ≡ self.old.messages }
         ensures settings { answering_of V.served self.new ≡ answering_of V.served self.old }
@@ -309,8 +313,8 @@ impl<'s, 'v, V: Service> Replier<'s, 'v, V> {
 
 impl<'s, 'v, V: Service, K: Sink> Listener<Request, K> for Replier<'s, 'v, V> {
     ghost use Rattle.duplex_server.specs.Owed.{Answering};
-    ghost use Rattle.duplex_server.specs.Replying.{HasHeard, answering_of};
-    ghost use Rattle.stream_follower.specs.declared.writing.Outbound.TheVariants.{Done};
+    ghost use Rattle.duplex_server.specs.Replying.{HasHeard, MayWait, answering_of};
+    ghost use Rattle.stream_loop.specs.declared.outbound.Outbound.TheVariants.{Done};
 
     ghost Settings = { Answering };
 
@@ -320,6 +324,9 @@ impl<'s, 'v, V: Service, K: Sink> Listener<Request, K> for Replier<'s, 'v, V> {
         (answering_of V.served replier) first requests replier now };
 
     ghost may_take_memory = { λ replier. replier.outbound ≡ Done };
+
+    ghost may_wait = { λ replier now. MayWait K.held K.ended replier.outbound
+        replier.gathered.items now };
 
     fn hear(&mut self, request: Request, sink: &mut K) -> Result<Request, Memory> {
         match request {
@@ -337,8 +344,13 @@ impl<'s, 'v, V: Service, K: Sink> Listener<Request, K> for Replier<'s, 'v, V> {
     }
 
     fn pause(&mut self, sink: &mut K) {
-        if self.outbound.is_going() {
-            self.write_out(sink);
+        if !self.outbound.is_going() {
+            sink.end();
+            return;
+        }
+        self.write_out(sink);
+        if !self.outbound.is_going() {
+            sink.end();
         }
     }
 }

@@ -6,7 +6,7 @@ ghost use Rattle.nbfx_values.specs.QuotasOf.{limits_of};
 ghost use Rattle.stream_loop.specs.Edges.{input_at};
 ghost use Rattle.stream_reader.specs.Sides.{endpoint_of};
 ghost use Rattle.stream_reader.specs.Stream.{stream};
-ghost use Rattle.stream_follower.specs.Followed.{Follows};
+ghost use Rattle.stream_loop.specs.Followed.{Follows};
 ghost use Rattle.duplex_server.specs.Owed.{answering, owed, requests_to};
 ghost use Rattle.duplex_server.specs.Replying.{HasHeard, answering_of};
 ghost use Rattle.duplex_server.specs.Requests.{request_for};
@@ -21,7 +21,7 @@ use nbfx_values::{Copied, Offence, Quotas};
 use receiver_machine::Endpoint;
 use static_dictionary::StaticTable;
 use std::alloc::Global;
-use stream_follower::{Ending, follow_stream};
+use stream_loop::{FollowEnding as Ending, follow_stream};
 use unit_streams::Memory;
 
 fn copy_of(alloc: Global, endpoint: &Endpoint) -> Result<Endpoint, Memory>

@@ -1,8 +1,7 @@
 -- An initiator that stands for some bytes hasn't failed, so the end of its input may be said.
 use Rattle.std.proofs.Common.{◌≡◌, ℕ, List, Some}
-use Rattle.stream_reader.specs.declared.reader.ReadRefusal.{ReadRefusal}
-use Rattle.stream_reader.specs.declared.reader.StreamReader.{StreamReader}
-use Rattle.stream_reader.specs.StreamReaderState.{StandsFor, failure_of}
+use Rattle.stream_reader.specs.declared.reader.{ReadRefusal.ReadRefusal, StreamReader.StreamReader}
+use Rattle.stream_reader.specs.StreamReaderState.{failure_of, StandsFor}
 
 pub no_failure : (r : StreamReader) (p : List ℕ) (refusal : ReadRefusal) → StandsFor r p
     → failure_of r ≡ Some refusal → ⊥

@@ -1,12 +1,10 @@
 -- An opening is a preamble.
-use Rattle.std.proofs.Common.{◌≡◌, ℕ, ◌+◌, ◌≤◌, List, [], ◌∷◌, length, refl, arith}
-use Rattle.std.specs.Prelude.{IsUtf8}
-use Rattle.nbfx_values.specs.Session.{mode_number, kind_number}
-use Rattle.nmf_records.specs.declared.frame.Frame.{Frame}
-use Rattle.nmf_records.specs.declared.frame.Frame.TheVariants as frames
-use Rattle.nmf_records.specs.Writing.{frame_bytes_of}
+use Rattle.std.proofs.Common.{◌≡◌, ℕ, ◌+◌, ◌≤◌, List, [], ◌∷◌, length, IsUtf8, refl, arith}
+use Rattle.nbfx_values.specs.Session.{kind_number, mode_number}
 use Rattle.nmf_records.proofs.Written.{written_are_records}
+use Rattle.nmf_records.specs.{declared.frame.Frame.Frame, Writing.frame_bytes_of}
 use Rattle.initiator_machine.specs.Opening.{OpeningsArePreambles}
+use Rattle.nmf_records.specs.declared.frame.Frame.TheVariants as frames
 
 pub openings_are_preambles : OpeningsArePreambles
 openings_are_preambles x good mode kind via utf8 within served = record {

@@ -1,12 +1,9 @@
 -- Openings by computation: each mode and encoding, with and without a Via.
-use Rattle.std.proofs.Common.{◌≡◌, ℕ, List, [], ◌∷◌, ◌++◌, map, refl}
-use Rattle.std.specs.Prelude.{codes}
-use Rattle.multibyte_ints.specs.Integer.{shortest, shortest_within}
-use Rattle.multibyte_ints.specs.Text.{string_bytes_of}
-use Rattle.nbfx_values.specs.declared.session.Kind.{Kind}
-use Rattle.nbfx_values.specs.declared.session.Kind.TheVariants.{Plain, Session}
+use Rattle.std.proofs.Common.{◌≡◌, ℕ, List, [], ◌∷◌, ◌++◌, map, codes, refl}
+use Rattle.multibyte_ints.specs.{Integer.shortest, Integer.shortest_within, Text.string_bytes_of}
+use Rattle.nbfx_values.specs.declared.session.Kind.{Kind, TheVariants.Plain, TheVariants.Session}
 use Rattle.nbfx_values.specs.declared.session.Mode.{Mode}
-use Rattle.nbfx_values.specs.declared.session.Mode.TheVariants.{Singleton, Duplex, Simplex}
+use Rattle.nbfx_values.specs.declared.session.Mode.TheVariants.{Duplex, Simplex, Singleton}
 use Rattle.initiator_machine.specs.Opening.{opening_bytes}
 
 -- a mode, an encoding, a Via, and what opens their session

@@ -1,13 +1,10 @@
 -- What an initiator sends before its first envelope.
-use Rattle.std.specs.Prelude.{◌≡◌, ℕ, ◌≤◌, List, [], ◌++◌, length, true, IsUtf8}
-use Rattle.nbfx_values.specs.Limits.{IsGood}
-use Rattle.nbfx_values.specs.declared.session.Kind.{Kind}
-use Rattle.nbfx_values.specs.declared.session.Mode.{Mode}
-use Rattle.nbfx_values.specs.Session.{mode_number, kind_number}
-use Rattle.nmf_records.specs.declared.frame.Frame.TheVariants as frames
+use Rattle.std.specs.Prelude.{◌≡◌, ℕ, ◌≤◌, true, List, [], ◌++◌, length, IsUtf8}
+use Rattle.nbfx_values.specs.declared.session.{Kind.Kind, Mode.Mode}
+use Rattle.nbfx_values.specs.{Limits.IsGood, Session.kind_number, Session.mode_number}
 use Rattle.nmf_records.specs.Writing.{frame_bytes_of}
-use Rattle.stream_reader.specs.Sessions.{IsPreamble}
-use Rattle.stream_reader.specs.Stream.{Settings, serves}
+use Rattle.stream_reader.specs.{Sessions.IsPreamble, Stream.serves, Stream.Settings}
+use Rattle.nmf_records.specs.declared.frame.Frame.TheVariants as frames
 
 -- version 1.0, the mode, the Via, the known encoding, the preamble's end
 abbrev pub opening_bytes : Mode → Kind → List ℕ → List ℕ

@@ -1,11 +1,8 @@
 -- What a refused put has written.
-use Rattle.std.proofs.Common.{◌≡◌, ℕ, ◌+◌, List, ◌++◌, take, drop, Option, Some, None, Result, Ok}
-use Rattle.std.proofs.Common.{Err, refl, ap, append-nil, append_assoc, sym, ◌∙◌}
-use Rattle.std.proofs.Math.Seq.{take-add}
-use Rattle.std.specs.Io.KnownBytes.{Appends}
-use Rattle.std.specs.Prelude.{OnErr, IsErrOf}
-use Rattle.io_edges.specs.declared.SinkFault.{SinkFault}
-use Rattle.io_edges.specs.declared.SinkFault.TheVariants.{Failed, Memory}
+use Rattle.std.proofs.Common.{◌≡◌, ℕ, ◌+◌, List, ◌++◌, take, drop, OnErr, Some, None, Ok, Err}
+use Rattle.std.proofs.Common.{Option, Result, IsErrOf, sym, refl, ap, ◌∙◌, append_assoc, append-nil}
+use Rattle.std.{proofs.Math.Seq.take-add, specs.Io.KnownBytes.Appends}
+use Rattle.io_edges.specs.declared.SinkFault.{SinkFault, TheVariants.Failed, TheVariants.Memory}
 use Rattle.io_edges.specs.Flow.{GrowsByPrefix}
 
 -- a sink that keeps the front of the piece where it fails, and nothing where it wants memory

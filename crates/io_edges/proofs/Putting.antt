@@ -1,15 +1,12 @@
 -- Puts, one behind the other.
-use Rattle.std.proofs.Common.{IsErrOf, OnErr, OnOk, ◌≡◌, ◌∙◌, ◌≤◌, ◌+◌, inl, inr, ℕ, min, List, []}
-use Rattle.std.proofs.Common.{◌++◌, length, take, Bool, true, refl, sym, ap, append_assoc}
-use Rattle.std.proofs.Common.{append-nil, arith, Option, None, Some, Result, Ok, Err, subst}
+use Rattle.std.proofs.Common.{◌≡◌, ℕ, ◌+◌, ◌≤◌, min, Bool, true, List, [], ◌++◌, length, take, OnOk}
+use Rattle.std.proofs.Common.{OnErr, Some, None, Ok, Err, Option, Result, IsErrOf, sym, refl, ap}
+use Rattle.std.proofs.Common.{◌∙◌, subst, inl, inr, append_assoc, append-nil, arith, take_all}
 use Rattle.std.proofs.Math.Seq.{take-append-add, take-append_seam}
-use Rattle.std.proofs.lemmas.Bool.{cases_lt}
-use Rattle.std.proofs.lemmas.List.{take_all, take-append-le}
-use Rattle.io_edges.specs.Faults.{CountsFaults, Rose}
-use Rattle.io_edges.specs.Flow.{Told, GrowsByPrefix, Passes}
-use Rattle.io_edges.specs.Puts.{PutsAll, PutsSome}
-use Rattle.io_edges.specs.declared.SinkFault.{SinkFault}
-use Rattle.io_edges.specs.declared.SinkFault.TheVariants.{Failed, Memory}
+use Rattle.std.proofs.lemmas.{Bool.cases_lt, List.take-append-le}
+use Rattle.io_edges.specs.declared.SinkFault.{SinkFault, TheVariants.Failed, TheVariants.Memory}
+use Rattle.io_edges.specs.{Faults.CountsFaults, Faults.Rose, Puts.PutsAll, Puts.PutsSome}
+use Rattle.io_edges.specs.Flow.{GrowsByPrefix, Passes, Told}
 
 -- what a call counts that didn't fail, and one behind it
 nothing_counted : (f : ℕ) {P : Type 0} → (P → ⊥) → CountsFaults f f P

@@ -1,11 +1,9 @@
 -- What a map of files, as a store, has at a name.
-use Rattle.std.proofs.Common.{◌≡◌, ℕ, List, [], ◌∷◌, map, Option, Some, refl, ◌∙◌}
-use Rattle.std.proofs.Common.{Bool, true, false, cond, Vec, String, Global, string_bytes}
-use Rattle.std.specs.Option.{option_map}
-use Rattle.std.specs.Ordering.{nat_cmp}
-use Rattle.std.specs.Cmp.Lexicographic.{slice_cmp, nat_list_cmp_total}
-use Rattle.std.specs.Map.{lookup}
-use Rattle.std.specs.BTreeMap.{BTreeMap, get_by_text, is_at}
+use Rattle.std.proofs.Common.{◌≡◌, ℕ, Bool, true, false, cond, List, [], ◌∷◌, map, Some}
+use Rattle.std.proofs.Common.{string_bytes, Option, Vec, String, option_map, nat_cmp, Global}
+use Rattle.std.proofs.Common.{BTreeMap, refl, ◌∙◌}
+use Rattle.std.specs.{BTreeMap.get_by_text, BTreeMap.is_at, Map.lookup}
+use Rattle.std.specs.Cmp.Lexicographic.{nat_list_cmp_total, slice_cmp}
 use Rattle.std.specs.FinMap.{find, get, get-from_entries}
 use Rattle.io_edges.specs.Store.{store_of}
 

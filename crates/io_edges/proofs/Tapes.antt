@@ -1,10 +1,8 @@
 -- A place in bytes, as a tape.
-use Rattle.std.proofs.Common.{◌≡◌, ℕ, ◌+◌, List, false, sym, refl}
+use Rattle.std.proofs.Common.{◌≡◌, ℕ, ◌+◌, false, List, sym, refl, drop-drop}
 use Rattle.std.proofs.Math.Seq.{take-add}
-use Rattle.std.proofs.lemmas.List.{drop-drop}
-use Rattle.io_edges.specs.Plan.{Plan, is_due, after_call}
-use Rattle.io_edges.specs.InMemory.{PlannedSource, tape_at, advanced, next_count, after_take}
-use Rattle.io_edges.specs.InMemory.{with_take}
+use Rattle.io_edges.specs.InMemory.{advanced, after_take, next_count, PlannedSource, tape_at}
+use Rattle.io_edges.specs.{InMemory.with_take, Plan.after_call, Plan.is_due, Plan.Plan}
 
 -- n bytes further on in the bytes
 pub advanced-tape_at : (at n : ℕ) (bytes : List ℕ) (empty : ℕ)

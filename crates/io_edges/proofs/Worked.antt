@@ -1,9 +1,8 @@
 -- The definitions at small cases, and over calls in a row.
-use Rattle.std.proofs.Common.{arith, ℕ, ◌≤◌, ◌≡◌, ◌-◌, ◌^◌, [], ◌∷◌, true, refl, lit<, inl, inr}
-use Rattle.io_edges.specs.Faults.{Rose, one_more}
-use Rattle.io_edges.specs.Flow.{GrowsByPrefix, Passes}
-use Rattle.io_edges.specs.Plan.{Plan, is_due}
-use Rattle.io_edges.specs.InMemory.{PlannedSource, new_source, after_take}
+use Rattle.std.proofs.Common.{◌≡◌, ℕ, ◌-◌, ◌^◌, ◌≤◌, true, [], ◌∷◌, refl, inl, inr, arith, lit<}
+use Rattle.io_edges.specs.Faults.{one_more, Rose}
+use Rattle.io_edges.specs.{Flow.GrowsByPrefix, Flow.Passes, Plan.is_due, Plan.Plan}
+use Rattle.io_edges.specs.InMemory.{after_take, new_source, PlannedSource}
 
 rises : Rose 3 4
 rises = inl (lit< tt)

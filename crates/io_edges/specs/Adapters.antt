@@ -1,16 +1,11 @@
 -- What contracts see of the adapters over std's readers, writers and files.
-use Rattle.std.specs.Prelude.{◌≡◌, ◌≢◌, ℕ, List, take, Option, None, Result, Ok, Err, Vec, IsSome}
-use Rattle.std.specs.Prelude.{OnOk, IfOk, IfErr, IfSome}
-use Rattle.std.specs.declared.alloc.Global.{Global}
-use Rattle.std.specs.declared.io.Error.{Error}
-use Rattle.std.specs.declared.io.ErrorKind.TheVariants.{NotFound}
-use Rattle.std.specs.IoError.{error_kind}
-use Rattle.std.specs.Io.KnownBytes.{Appends}
-use Rattle.io_edges.specs.declared.ShelfFault.{ShelfFault}
-use Rattle.io_edges.specs.declared.ShelfFault.TheVariants.{Failed}
-use Rattle.io_edges.specs.declared.file_shelf.FileShelf.{FileShelf}
+use Rattle.std.specs.Prelude.{◌≡◌, ℕ, ◌≢◌, List, take, IfSome, IfOk, IfErr, OnOk, IsSome, None, Ok}
+use Rattle.std.specs.Prelude.{Err, Option, Result, Vec}
+use Rattle.std.specs.{Io.KnownBytes.Appends, IoError.error_kind, declared.alloc.Global.Global}
+use Rattle.std.specs.declared.io.{Error.Error, ErrorKind.TheVariants.NotFound}
+use Rattle.io_edges.specs.declared.ShelfFault.{ShelfFault, TheVariants.Failed}
+use Rattle.io_edges.specs.declared.{file_shelf.FileShelf.FileShelf, write_sink.WriteSink.WriteSink}
 use Rattle.io_edges.specs.declared.read_source.ReadSource.{ReadSource}
-use Rattle.io_edges.specs.declared.write_sink.WriteSink.{WriteSink}
 
 -- the reader that a source reads
 abbrev pub reader_of : {R : Type 0} → ReadSource R → R

@@ -1,7 +1,6 @@
 -- What a source and a sink in memory do, call by call.
-use Rattle.std.specs.Prelude.{ℕ, ◌==◌, List, [], ◌++◌, length, take, drop, min, if◌then◌else◌}
-use Rattle.io_edges.specs.Faults.{one_more}
-use Rattle.io_edges.specs.Plan.{Plan, new_plan, is_due, after_call}
+use Rattle.std.specs.Prelude.{ℕ, min, List, [], ◌++◌, length, take, drop, if◌then◌else◌, ◌==◌}
+use Rattle.io_edges.specs.{Faults.one_more, Plan.after_call, Plan.is_due, Plan.new_plan, Plan.Plan}
 
 -- bytes that are handed out from the front, and how many takes gave none
 pub record Tape : Type 0 where

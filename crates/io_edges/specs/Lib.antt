@@ -1,6 +1,7 @@
 -- cited by public contracts
 pub mod Adapters
 pub mod Faults
+pub mod Files
 pub mod Flow
 pub mod Gathering
 pub mod InMemory

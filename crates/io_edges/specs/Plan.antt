@@ -1,7 +1,6 @@
 -- Which calls of a fake fail.
-use Rattle.std.specs.Prelude.{ℕ, ◌==◌, Bool, List, if◌then◌else◌}
-use Rattle.std.specs.List.{list_any}
-use Rattle.io_edges.specs.Faults.{one_more}
+use Rattle.std.specs.Prelude.{ℕ, Bool, List, if◌then◌else◌, ◌==◌}
+use Rattle.{std.specs.List.list_any, io_edges.specs.Faults.one_more}
 
 -- the numbers of the calls that fail, counted from 0; how many calls there were; how many of them
 -- failed

@@ -1,10 +1,8 @@
 -- What is put to a sink, in one call or in several.
-use Rattle.std.specs.Prelude.{◌≡◌, ℕ, List, [], ◌++◌, take, Bool, true, Option, Result, IfOk}
-use Rattle.std.specs.Prelude.{OnOk, OnErr, IsErrOf}
-use Rattle.io_edges.specs.Faults.{CountsFaults}
-use Rattle.io_edges.specs.Flow.{Told, GrowsByPrefix, Passes}
-use Rattle.io_edges.specs.declared.SinkFault.{SinkFault}
-use Rattle.io_edges.specs.declared.SinkFault.TheVariants.{Failed, Memory}
+use Rattle.std.specs.Prelude.{◌≡◌, ℕ, Bool, true, List, [], ◌++◌, take, IfOk, OnOk, OnErr, Option}
+use Rattle.std.specs.Prelude.{Result, IsErrOf}
+use Rattle.io_edges.specs.declared.SinkFault.{SinkFault, TheVariants.Failed, TheVariants.Memory}
+use Rattle.io_edges.specs.{Faults.CountsFaults, Flow.GrowsByPrefix, Flow.Passes, Flow.Told}
 
 -- the bytes were put as one put of them puts them: of a sink that tells what was written, what it
 -- holds, its count of faults, and whether a call of it may want memory, each before and now

@@ -1,12 +1,10 @@
 -- What a shelf holds.
-use Rattle.std.specs.Prelude.{ℕ, List, map, refl, string_bytes, Vec, String}
-use Rattle.std.specs.declared.alloc.Global.{Global}
-use Rattle.std.specs.BTreeMap.{BTreeMap}
-use Rattle.std.specs.Ordering.{nat_cmp}
-use Rattle.std.specs.Cmp.Lexicographic.{slice_cmp}
+use Rattle.std.specs.Prelude.{ℕ, List, map, string_bytes, Vec, String, refl}
+use Rattle.std.specs.{BTreeMap.BTreeMap, Ordering.nat_cmp}
+use Rattle.std.specs.{Cmp.Lexicographic.slice_cmp, declared.alloc.Global.Global}
+use Rattle.std.specs.Coded.{Coded, code_by, coded_list, coded_ℕ, coded×}
+use Rattle.io_edges.specs.Plan.{new_plan, Plan}
 use Rattle.std.specs.FinMap as finite
-use Rattle.std.specs.Coded.{Coded, code_by, coded×, coded_ℕ, coded_list}
-use Rattle.io_edges.specs.Plan.{Plan, new_plan}
 
 -- from the bytes of names to the bytes of files
 abbrev pub Store : Type 0

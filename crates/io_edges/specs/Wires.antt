@@ -1,7 +1,6 @@
 -- What a wire hands out and closes.
-use Rattle.std.specs.Prelude.{◌≡◌, ℕ, ◌+◌, ◌-◌, ◌^◌, min, List, [], Option, Some, None, IfSome}
-use Rattle.io_edges.specs.Plan.{Plan, new_plan}
-use Rattle.io_edges.specs.InMemory.{PlannedSource, PlannedSink}
+use Rattle.std.specs.Prelude.{◌≡◌, ℕ, ◌+◌, ◌-◌, ◌^◌, min, List, [], IfSome, Some, None, Option}
+use Rattle.io_edges.specs.{InMemory.PlannedSink, InMemory.PlannedSource, Plan.new_plan, Plan.Plan}
 
 -- two counts and one before, up to their last value
 abbrev pub added_up : ℕ → ℕ → ℕ → ℕ

@@ -156,6 +156,8 @@ impl<K: Sink> Sink for GatheringSink<K> {
 
     ghost may_want = { λ s. K.may_want s.sink };
 
+    ghost ended = { λ s. K.ended s.sink };
+
     #[inline(always)]
     fn put(&mut self, bytes: &[u8]) -> Result<(), SinkFault>
         ensures adds { Adds K.written K.held K.faults K.may_want self.old.sink self.new.sink
@@ -195,5 +197,17 @@ impl<K: Sink> Sink for GatheringSink<K> {
     {
         put_gathered(&self.room, &mut self.used, &mut self.sink)?;
         self.sink.flush()
+    }
+
+    fn end(&mut self)
+        ensures ended { K.ended self.new.sink }
+        ensures written { K.written self.new.sink ≡ K.written self.old.sink }
+        ensures held { K.held self.new.sink ≡ K.held self.old.sink }
+        ensures counted { K.faults self.new.sink ≡ K.faults self.old.sink }
+        ensures settled { K.may_want self.new.sink ≡ K.may_want self.old.sink }
+        ensures gathered { self.new.gathered ≡ self.old.gathered }
+        ensures room { self.new.room ≡ self.old.room }
+    {
+        self.sink.end();
     }
 }

@@ -12,17 +12,23 @@
 //! ones, which meet a fault at the calls whose numbers they are given, and for sources and sinks
 //! `Sure..` ones, which never meet one. A put to one of these sinks may run out of memory, and so
 //! may a fetch that isn't to fail. All show their contents, and hold nothing back. [`ReadSource`],
-//! [`WriteSink`], [`FileShelf`] and [`TcpWire`] wrap the readers, the writers, the files and the
+//! [`WriteSink`], [`TcpSink`], [`FileShelf`] and [`TcpWire`] wrap the readers, the writers, the files and the
 //! sockets of std, and show none: that a file or a socket gave or took these bytes is trusted. A
 //! [`GatheringSink`] wraps any other sink, and buffers what fits.
+//!
+//! A file on a shelf is read as one thing, whatever its content: what its bytes give is computed by
+//! the caller's function, `reading`, and the words of `specs/Files` say with it what the shelf has
+//! under a name: all of the content, a first bad row, or no such file. [`fetch_file`] fetches the
+//! bytes, and a [`FileFault`] says why they aren't read.
 //!
 //! How often the outside was asked is counted too, where asking twice can be seen: the takes that
 //! gave nothing, and the files that were fetched.
 //!
 //! The definitions are in `specs/`: `Faults` has the count, `Flow` what moves at a call, `Puts`
-//! what several puts leave, `Store` what a shelf holds, `Wires` what a wire hands out and closes,
-//! `Plan` and `InMemory` what the implementations in memory do call by call, `Gathering` what is
-//! seen of a sink that gathers, and `Adapters` and `Tcp` what is seen of the ones over std.
+//! what several puts leave, `Store` what a shelf holds, `Files` what is read of one of its files,
+//! `Wires` what a wire hands out and closes, `Plan` and `InMemory` what the implementations in
+//! memory do call by call, `Gathering` what is seen of a sink that gathers, and `Adapters` and
+//! `Tcp` what is seen of the ones over std.
 #![tactic(auto)]
 
 ghost use Rattle.std.specs.Prelude.{◌≡◌, ◌≤◌, ◌<◌, ℕ, List, [], ◌++◌, length, take, Bool, true, Option, IfSome, IfOk, OnOk, OnErr, IsErr, IsErrOf, ◌↔◌};
@@ -32,7 +38,9 @@ ghost use Rattle.io_edges.specs.Store.{Store};
 ghost use Rattle.std.specs.Option.{option_map};
 ghost use Rattle.std.specs.FinMap as finite;
 
+mod fault;
 mod fault_plan;
+mod fetching;
 mod file_shelf;
 mod gathering_sink;
 mod memory_shelf;
@@ -42,10 +50,13 @@ mod memory_wire;
 mod read_source;
 mod sure_sink;
 mod sure_source;
+mod tcp_sink;
 mod tcp_wire;
 mod wire;
 mod write_sink;
 
+pub use fault::FileFault;
+pub use fetching::fetch_file;
 pub use file_shelf::FileShelf;
 pub use gathering_sink::{GatheringSink, gathering_room};
 pub use memory_shelf::MemoryShelf;
@@ -55,6 +66,7 @@ pub use memory_wire::MemoryWire;
 pub use read_source::ReadSource;
 pub use sure_sink::SureSink;
 pub use sure_source::SureSource;
+pub use tcp_sink::TcpSink;
 pub use tcp_wire::TcpWire;
 pub use wire::Wire;
 pub use write_sink::WriteSink;
@@ -120,6 +132,9 @@ pub trait Sink {
     /// Whether a call may run out of memory.
     ghost may_want: { Self → Bool };
 
+    /// The direction was ended.
+    ghost ended: { Self → Type 0 };
+
     /// Takes the whole piece, after what is held. A refusal may have written the first bytes of
     /// both, and drops the others.
     fn put(&mut self, bytes: &[u8]) -> Result<(), SinkFault>
@@ -159,6 +174,16 @@ pub trait Sink {
         ensures counted { CountsFaults (faults self.old) (faults self.new)
             (IsErrOf result SinkFault.Failed) }
         ensures wanted { IsErrOf result SinkFault.Memory → may_want self.old ≡ true }
+        ensures settled { may_want self.new ≡ may_want self.old };
+
+    /// Ends the direction, so that a peer that waits for more learns that no more comes. It is for
+    /// when the writing has stopped for good: a caller puts nothing after it, and where there is a
+    /// peer a put would fail. It writes nothing, and what is held stays so.
+    fn end(&mut self)
+        ensures ended { ended self.new }
+        ensures written { written self.new ≡ written self.old }
+        ensures held { held self.new ≡ held self.old }
+        ensures counted { faults self.new ≡ faults self.old }
         ensures settled { may_want self.new ≡ may_want self.old };
 }
 

@@ -1,6 +1,6 @@
 //! A sink in memory, whose calls fail as planned.
 
-ghost use Rattle.std.specs.Prelude.{◌≡◌, ◌<◌, ◌≤◌, ◌^◌, ◌++◌, [], length, take, true, false, Some, OnOk, OnErr, IfOk, IsOk, IsErrOf};
+ghost use Rattle.std.specs.Prelude.{◌≡◌, ⊤, ◌<◌, ◌≤◌, ◌^◌, ◌++◌, [], length, take, true, false, Some, OnOk, OnErr, IfOk, IsOk, IsErrOf};
 ghost use Rattle.io_edges.specs.Plan.{is_due, one_call_more, after_call};
 ghost use Rattle.io_edges.specs.InMemory.{new_sink};
 
@@ -63,6 +63,8 @@ impl Sink for MemorySink {
     ghost faults = { λ s. s.plan.faults };
 
     ghost may_want = { λ _. true };
+
+    ghost ended = { λ _. ⊤ };
 
     fn put(&mut self, bytes: &[u8]) -> Result<(), SinkFault>
         ensures ok { OnOk result (is_due self.old.plan ≡ false) }
@@ -137,4 +139,9 @@ impl Sink for MemorySink {
     {
         Ok(())
     }
+
+    // There is no peer.
+    fn end(&mut self)
+        ensures kept { self.new ≡ self.old }
+    {}
 }

@@ -1,6 +1,6 @@
 //! A sink in memory that never fails by the outside.
 
-ghost use Rattle.std.specs.Prelude.{◌≡◌, [], ◌++◌, true, length, Some, OnOk, IfOk, IsOk, IsOkUnless, OnErr};
+ghost use Rattle.std.specs.Prelude.{◌≡◌, ⊤, [], ◌++◌, true, length, Some, OnOk, IfOk, IsOk, IsOkUnless, OnErr};
 
 use crate::{Sink, SinkFault};
 use std::alloc::Global;
@@ -48,6 +48,8 @@ impl Sink for SureSink {
 
     ghost may_want = { λ _. true };
 
+    ghost ended = { λ _. ⊤ };
+
     fn put(&mut self, bytes: &[u8]) -> Result<(), SinkFault>
         ensures written { OnOk result (self.new ≡ self.old ++ bytes.now) }
         ensures memory { IsOkUnless result SinkFault.Memory }
@@ -78,4 +80,9 @@ impl Sink for SureSink {
     {
         Ok(())
     }
+
+    // There is no peer.
+    fn end(&mut self)
+        ensures kept { self.new ≡ self.old }
+    {}
 }

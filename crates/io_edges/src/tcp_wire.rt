@@ -2,12 +2,12 @@
 
 ghost use Rattle.std.specs.Prelude.{◌≡◌, ◌<◌, ◌+◌, ◌^◌, None, IsErr, OnErr, OnOk, IfOk, IfSome, IsSome};
 ghost use Rattle.io_edges.specs.Faults.{CountsOne};
-ghost use Rattle.io_edges.specs.Adapters.{read_faults, write_faults};
+ghost use Rattle.io_edges.specs.Adapters.{read_faults};
 ghost use Rattle.io_edges.specs.Wires.{added_up};
-ghost use Rattle.io_edges.specs.Tcp.{wire_out, wire_faults, wire_end_faults};
+ghost use Rattle.io_edges.specs.Tcp.{sink_faults, wire_out, wire_faults, wire_end_faults};
 
 use crate::wire::Wire;
-use crate::{Failed, ReadSource, WriteSink};
+use crate::{Failed, ReadSource, TcpSink};
 use std::io;
 use std::net::{Net, OpenListener, OpenStream, Shutdown, SocketAddr, TcpListener, TcpStream};
 use std::time::Duration;
@@ -75,8 +75,8 @@ impl<R: Net> TcpWire<R> {
     // The answer of a call that was to give a stream.
     fn answer(
         &mut self,
-        ends: io::Result<(ReadSource<R::Stream>, WriteSink<R::Stream>)>,
-    ) -> Result<(ReadSource<R::Stream>, WriteSink<R::Stream>), Failed>
+        ends: io::Result<(ReadSource<R::Stream>, TcpSink<R::Stream>)>,
+    ) -> Result<(ReadSource<R::Stream>, TcpSink<R::Stream>), Failed>
         requires { wire_out self.old < 2 ^ 63 }
         ensures handed { IfOk result (λ got. IfOk ends (λ given. got ≡ given)) }
         ensures ok { OnOk result (IfOk ends (λ _. wire_out self.new ≡ wire_out self.old + 1)) }
@@ -101,12 +101,12 @@ impl<R: Net> TcpWire<R> {
 // The two ends of a stream. Where the system can't send at once, it sends later.
 fn ends_of<S: io::Read + io::Write + OpenStream + Drop>(
     stream: S,
-) -> io::Result<(ReadSource<S>, WriteSink<S>)>
-    ensures { IfOk result (λ ends. (read_faults ends.0 ≡ 0) × (write_faults ends.1 ≡ 0)) }
+) -> io::Result<(ReadSource<S>, TcpSink<S>)>
+    ensures { IfOk result (λ ends. (read_faults ends.0 ≡ 0) × (sink_faults ends.1 ≡ 0)) }
 {
     let _ = stream.set_nodelay(true);
     let other = stream.try_clone()?;
-    Ok((ReadSource::new(stream), WriteSink::new(other)))
+    Ok((ReadSource::new(stream), TcpSink::new(other)))
 }
 
 impl<R: Net> Wire for TcpWire<R>
@@ -115,7 +115,7 @@ where
 {
     type Reader = ReadSource<R::Stream>;
 
-    type Writer = WriteSink<R::Stream>;
+    type Writer = TcpSink<R::Stream>;
 
     ghost waiting = { λ _. None };
 
@@ -130,11 +130,11 @@ where
     fn accept(
         &mut self,
         place: &str,
-    ) -> Result<Option<(ReadSource<R::Stream>, WriteSink<R::Stream>)>, Failed>
+    ) -> Result<Option<(ReadSource<R::Stream>, TcpSink<R::Stream>)>, Failed>
         requires { wire_out self.old < 2 ^ 63 }
         ensures handed { IfOk result IsSome }
         ensures fresh { IfOk result (λ found. IfSome found (λ ends.
-            (read_faults ends.0 ≡ 0) × (write_faults ends.1 ≡ 0))) }
+            (read_faults ends.0 ≡ 0) × (sink_faults ends.1 ≡ 0))) }
         ensures out { OnOk result (wire_out self.new ≡ wire_out self.old + 1) }
         ensures failed { OnErr result (wire_out self.new ≡ wire_out self.old) }
         ensures counted { CountsOne (wire_faults self.old) (wire_faults self.new) (IsErr result) }
@@ -150,10 +150,10 @@ where
     fn connect(
         &mut self,
         place: &str,
-    ) -> Result<(ReadSource<R::Stream>, WriteSink<R::Stream>), Failed>
+    ) -> Result<(ReadSource<R::Stream>, TcpSink<R::Stream>), Failed>
         requires { wire_out self.old < 2 ^ 63 }
         ensures fresh { IfOk result (λ ends.
-            (read_faults ends.0 ≡ 0) × (write_faults ends.1 ≡ 0)) }
+            (read_faults ends.0 ≡ 0) × (sink_faults ends.1 ≡ 0)) }
         ensures out { OnOk result (wire_out self.new ≡ wire_out self.old + 1) }
         ensures failed { OnErr result (wire_out self.new ≡ wire_out self.old) }
         ensures counted { CountsOne (wire_faults self.old) (wire_faults self.new) (IsErr result) }
@@ -166,11 +166,11 @@ where
         self.answer(ends)
     }
 
-    fn close(&mut self, reader: ReadSource<R::Stream>, writer: WriteSink<R::Stream>)
+    fn close(&mut self, reader: ReadSource<R::Stream>, writer: TcpSink<R::Stream>)
         requires { 0 < wire_out self.old }
         ensures out { wire_out self.old ≡ wire_out self.new + 1 }
         ensures counted { wire_end_faults self.new ≡ added_up (wire_end_faults self.old)
-            (read_faults reader) (write_faults writer) }
+            (read_faults reader) (sink_faults writer) }
         ensures faults { wire_faults self.new ≡ wire_faults self.old }
     {
         self.out -= 1;
@@ -178,7 +178,7 @@ where
             .end_faults
             .saturating_add(reader.faults())
             .saturating_add(writer.faults());
-        end_stream(reader.into_reader(), writer.into_writer());
+        end_stream(reader.into_reader(), writer.into_stream());
     }
 }
 

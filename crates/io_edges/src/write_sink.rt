@@ -1,6 +1,6 @@
 //! A sink over a writer of std.
 
-ghost use Rattle.std.specs.Prelude.{◌≡◌, ◌↔◌, ◌≤◌, ◌<◌, [], length, take, true, false, None, OnOk, IfOk, IsOk, OnErr, IsErr, IsOkUnless};
+ghost use Rattle.std.specs.Prelude.{◌≡◌, ⊤, ◌↔◌, ◌≤◌, ◌<◌, [], length, take, true, false, None, OnOk, IfOk, IsOk, OnErr, IsErr, IsOkUnless};
 ghost use Rattle.std.specs.Io.KnownBytes.{Appends, Keeps};
 ghost use Rattle.io_edges.specs.Faults.{CountsOne};
 ghost use Rattle.io_edges.specs.Adapters.{writer_of, write_faults, AppendsPrefix};
@@ -49,6 +49,13 @@ impl<W> WriteSink<W> {
         self.faults
     }
 
+    // The writer, lent.
+    pub(crate) fn writer(&self) -> &W
+        ensures { result.now ≡ writer_of self.now }
+    {
+        &self.writer
+    }
+
     // The writer.
     pub(crate) fn into_writer(self) -> W
         ensures { result ≡ writer_of self }
@@ -65,6 +72,8 @@ impl<W: Write> Sink for WriteSink<W> {
     ghost faults = { λ s. write_faults s };
 
     ghost may_want = { λ _. false };
+
+    ghost ended = { λ _. ⊤ };
 
     fn put(&mut self, bytes: &[u8]) -> Result<(), SinkFault>
         ensures written { OnOk result (Appends
@@ -108,6 +117,11 @@ impl<W: Write> Sink for WriteSink<W> {
         let done = self.writer.flush().is_ok();
         self.answer(done)
     }
+
+    // A writer has no end but its drop.
+    fn end(&mut self)
+        ensures kept { self.new ≡ self.old }
+    {}
 }
 
 // Writes until the whole piece is taken. std's `write_all` doesn't say what an error has written.

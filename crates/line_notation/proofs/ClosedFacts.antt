@@ -1,11 +1,9 @@
 -- The words of a line of a form have no space outside quotes, so that the line has just these
 -- words.
-use Rattle.std.proofs.Common.{◌≡◌, ◌<◌, inl, inr, List, [], ◌∷◌, ℕ, length, true, false, refl}
-use Rattle.std.proofs.Common.{arith}
-use Rattle.line_notation.specs.Forms.{Form, IsForm}
-use Rattle.line_notation.specs.Words.{spaced, words_of}
+use Rattle.std.proofs.Common.{◌≡◌, ℕ, ◌<◌, true, false, List, [], ◌∷◌, length, refl, inl, inr}
+use Rattle.{std.proofs.Common.arith, line_notation.proofs.PiecesFacts.quoted-closes}
+use Rattle.line_notation.specs.{Forms.Form, Forms.IsForm, Words.spaced, Words.words_of}
 use Rattle.line_notation.proofs.LineWords.{AreWords, IsWord, line-words}
-use Rattle.line_notation.proofs.PiecesFacts.{quoted-closes}
 use Rattle.line_notation.proofs.SpacedFacts.{AreClosed, closes, solid-closes, words_of-spaced}
 
 word-closes : (word : List ℕ) → IsWord word → closes false word ≡ true

@@ -1,27 +1,21 @@
 -- A line has a form exactly where the form is read out of it.
-use Rattle.std.proofs.Common.{◌≡◌, ◌∙◌, ℕ, List, [], ◌∷◌, Option, None, Some, refl, sym, ap, subst}
-use Rattle.std.proofs.Common.{codes}
-use Rattle.nbfx_values.specs.declared.content.ArrayKind.{ArrayKind}
-use Rattle.nbfx_values.specs.declared.content.ArrayKind.TheVariants as arrays
-use Rattle.line_notation.specs.declared.line.Keyword.{Keyword}
-use Rattle.line_notation.specs.declared.line.Keyword.TheVariants as keywords
-use Rattle.line_notation.specs.Forms.{AreQuoted, Form, start, ns, attr, text, comment, array}
-use Rattle.line_notation.specs.Forms.{values, close, IsForm, IsLine, array_kind_in, array_kind_word}
-use Rattle.line_notation.specs.Forms.{array_kinds, form_behind, form_in, form_of, keyword_in}
-use Rattle.line_notation.specs.Forms.{keyword_word, keywords_of_lines, two_texts_at}
-use Rattle.line_notation.specs.Options.{alone, ◌>>=◌}
-use Rattle.line_notation.specs.Quoted.{quoted_in}
-use Rattle.line_notation.specs.Scalars.{one_word}
+use Rattle.std.proofs.Common.{◌≡◌, ℕ, List, [], ◌∷◌, Some, None, codes, Option, sym, refl, ap, ◌∙◌}
+use Rattle.{std.proofs.Common.subst, nbfx_values.specs.declared.content.ArrayKind.ArrayKind}
+use Rattle.line_notation.specs.{declared.line.Keyword.Keyword, Words.words_of}
+use Rattle.line_notation.specs.Forms.{AreQuoted, array, array_kind_in, array_kind_word, array_kinds}
+use Rattle.line_notation.specs.Forms.{attr, close, comment, Form, form_behind, form_in, form_of}
+use Rattle.line_notation.specs.Forms.{IsForm, IsLine, keyword_in, keyword_word, keywords_of_lines}
+use Rattle.line_notation.specs.Forms.{ns, start, text, two_texts_at, values}
+use Rattle.line_notation.specs.{Options.alone, Options.◌>>=◌, Quoted.quoted_in, Scalars.one_word}
 use Rattle.line_notation.specs.Values.{if_some, value_in, values_in}
-use Rattle.line_notation.specs.Words.{words_of}
-use Rattle.line_notation.proofs.ClosedFacts.{form-words}
-use Rattle.line_notation.proofs.GatherFacts.{some_same}
+use Rattle.line_notation.proofs.{ClosedFacts.form-words, TokenFacts.found}
+use Rattle.line_notation.proofs.{GatherFacts.some_same, SpacedFacts.spaced-words_of}
 use Rattle.line_notation.proofs.PiecesFacts.{quoted-quoted_in, quoted_in-quoted}
-use Rattle.line_notation.proofs.ScalarFacts.{HasWord, has_word, named}
-use Rattle.line_notation.proofs.SpacedFacts.{spaced-words_of}
-use Rattle.line_notation.proofs.TokenFacts.{found}
+use Rattle.line_notation.proofs.ScalarFacts.{has_word, HasWord, named}
 use Rattle.line_notation.proofs.WrittenFacts.{one-value-read, read-one-value, read-some-values}
 use Rattle.line_notation.proofs.WrittenFacts.{some-values-read}
+use Rattle.nbfx_values.specs.declared.content.ArrayKind.TheVariants as arrays
+use Rattle.line_notation.specs.declared.line.Keyword.TheVariants as keywords
 
 -- two texts in front of words
 two-read : (first second a b : List ℕ) (rest : List (List ℕ)) → AreQuoted first second a b

@@ -1,30 +1,24 @@
 -- All values of a line, token by token.
-use Rattle.std.proofs.Common.{◌≡◌, ◌∙◌, ◌<◌, ◌≤◌, ◌^◌, ◌-◌, ◌+◌, ◌==◌, ◌⊎◌, inl, inr, ℕ, suc, zero}
-use Rattle.std.proofs.Common.{List, [], ◌∷◌, ◌++◌, Bool, true, false, ◌&&◌, if◌then◌else◌, Option}
-use Rattle.std.proofs.Common.{None, Some, Result, Ok, Err, refl, sym, ap, append_assoc, append-nil}
-use Rattle.std.proofs.Common.{arith, nat_le}
-use Rattle.std.proofs.lemmas.Bool.{cases_lt, eqb-true, eqb-false, leb-false, le-leb, lt-leb}
-use Rattle.nbfx_values.specs.declared.scalars.Scalar.{Scalar}
-use Rattle.nbfx_values.specs.Items.{fits_kind}
-use Rattle.nbfx_values.specs.Scalars.{is_valid_scalar}
-use Rattle.line_notation.specs.declared.reader.LineKind.{LineKind}
-use Rattle.line_notation.specs.declared.reader.LineKind.TheVariants.{NotALine, BadText, OutOfRange}
-use Rattle.line_notation.specs.declared.reader.LineKind.TheVariants.{OutOfPlace, Cut, WrongCount}
-use Rattle.line_notation.specs.declared.values.Gathering.{Gathering}
-use Rattle.line_notation.specs.declared.values.Holder.{Holder}
+use Rattle.std.proofs.Common.{◌≡◌, ℕ, zero, suc, ◌+◌, ◌-◌, ◌^◌, ◌<◌, ◌≤◌, Bool, true, false, ◌&&◌}
+use Rattle.std.proofs.Common.{◌⊎◌, List, [], ◌∷◌, ◌++◌, if◌then◌else◌, nat_le, ◌==◌, Some, None, Ok}
+use Rattle.std.proofs.Common.{Err, Option, Result, sym, refl, ap, ◌∙◌, inl, inr, append_assoc}
+use Rattle.std.proofs.Common.{append-nil, arith, eqb-true, le-leb, leb-false}
+use Rattle.std.proofs.lemmas.Bool.{cases_lt, eqb-false, lt-leb}
+use Rattle.nbfx_values.specs.{declared.scalars.Scalar.Scalar, Items.fits_kind}
+use Rattle.{nbfx_values.specs.Scalars.is_valid_scalar, line_notation.proofs.ValidFacts.fits-valid}
+use Rattle.line_notation.specs.declared.reader.LineKind.{LineKind, TheVariants.WrongCount}
+use Rattle.line_notation.specs.declared.reader.LineKind.TheVariants.{BadText, Cut, NotALine}
+use Rattle.line_notation.specs.declared.reader.LineKind.TheVariants.{OutOfPlace, OutOfRange}
+use Rattle.line_notation.specs.declared.values.{Gathering.Gathering, Holder.Holder, Tally.Tally}
+use Rattle.line_notation.specs.Judging.{are_in_range, are_scalars, has_good_text, have_good_texts}
+use Rattle.line_notation.specs.{Judging.scalars_of, Options.◌>>=◌, Parts.with_token}
+use Rattle.line_notation.specs.Parts.{are_held, are_taken, both, first_of, fits, IsTooMuch}
+use Rattle.line_notation.specs.Parts.{judged_by, judged_due, judged_scalar, judged_token, mapped}
+use Rattle.line_notation.specs.Parts.{may_hold_a_list, refit, tallied, with_list, with_scalar}
+use Rattle.line_notation.specs.Values.{behind, first, how_many, list, listed, no_more, one, scalar}
+use Rattle.line_notation.specs.Values.{taken, Token, Written}
 use Rattle.line_notation.specs.declared.values.Holder.TheVariants as holders
 use Rattle.line_notation.specs.declared.values.JudgedToken.TheVariants as tokens
-use Rattle.line_notation.specs.declared.values.Tally.{Tally}
-use Rattle.line_notation.specs.Judging.{are_in_range, are_scalars, has_good_text, have_good_texts}
-use Rattle.line_notation.specs.Judging.{scalars_of}
-use Rattle.line_notation.specs.Options.{◌>>=◌}
-use Rattle.line_notation.specs.Parts.{IsTooMuch, are_held, are_taken, both, first_of, fits}
-use Rattle.line_notation.specs.Parts.{judged_due, judged_by, judged_scalar, judged_token, mapped}
-use Rattle.line_notation.specs.Parts.{may_hold_a_list, refit, tallied, with_list, with_scalar}
-use Rattle.line_notation.specs.Parts.{with_token}
-use Rattle.line_notation.specs.Values.{Token, scalar, listed, Written, no_more, one, list, behind}
-use Rattle.line_notation.specs.Values.{first, how_many, taken}
-use Rattle.line_notation.proofs.ValidFacts.{fits-valid}
 
 pub eqb-other : (a b : ℕ) → (a ≡ b → ⊥) → (a == b) ≡ false
 eqb-other a b other = go (a == b) refl

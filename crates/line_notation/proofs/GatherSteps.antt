@@ -1,26 +1,21 @@
 -- All values of a line, in a loop over its tokens.
-use Rattle.std.proofs.Common.{◌≡◌, ◌∙◌, ◌<◌, ◌≤◌, ◌^◌, ◌+◌, ◌⊎◌, inl, inr, ℕ, List, [], ◌∷◌, length}
-use Rattle.std.proofs.Common.{Option, None, Some, Ok, Err, refl, sym, ap, subst, arith}
-use Rattle.line_notation.specs.declared.values.Gathering.{Gathering}
-use Rattle.line_notation.specs.declared.values.Holder.{Holder}
-use Rattle.line_notation.specs.declared.values.Holder.TheVariants as holders
-use Rattle.line_notation.specs.declared.values.JudgedToken.{JudgedToken}
-use Rattle.line_notation.specs.declared.values.JudgedToken.TheVariants as tokens
-use Rattle.line_notation.specs.declared.values.Tally.{Tally}
-use Rattle.line_notation.specs.declared.words.Stop.{Stop}
-use Rattle.line_notation.specs.declared.words.Stop.TheVariants.{NotALine, Memory}
-use Rattle.line_notation.specs.Options.{◌>>=◌}
-use Rattle.line_notation.specs.Steps.{Stops}
-use Rattle.line_notation.specs.Parts.{IsTooMuch, gathered_in, judged_due, judged_scalars}
+use Rattle.std.proofs.Common.{◌≡◌, ℕ, ◌+◌, ◌^◌, ◌<◌, ◌≤◌, ◌⊎◌, List, [], ◌∷◌, length, Some, None}
+use Rattle.std.proofs.Common.{Ok, Err, Option, sym, refl, ap, ◌∙◌, subst, inl, inr, arith}
+use Rattle.line_notation.specs.declared.values.{Gathering.Gathering, Tally.Tally}
+use Rattle.line_notation.specs.declared.values.{Holder.Holder, JudgedToken.JudgedToken}
+use Rattle.line_notation.specs.declared.words.Stop.{Stop, TheVariants.Memory, TheVariants.NotALine}
+use Rattle.line_notation.specs.{Options.◌>>=◌, Steps.Stops, Values.Written}
+use Rattle.line_notation.specs.Parts.{gathered_in, IsTooMuch, judged_due, judged_scalars}
 use Rattle.line_notation.specs.Parts.{judged_token_at, no_values, tallied, with_token}
-use Rattle.line_notation.specs.Values.{Token, Written, no_more, how_many, token_at, tokens_within}
-use Rattle.line_notation.specs.Values.{values_in}
-use Rattle.line_notation.proofs.GatherFacts.{BeginsOne, IsInOne, finish, finish-step}
-use Rattle.line_notation.proofs.GatherFacts.{finish-too_much, finished-enough, finished-few, joined}
+use Rattle.line_notation.specs.Values.{how_many, no_more, Token, token_at, tokens_within, values_in}
+use Rattle.line_notation.proofs.GatherFacts.{BeginsOne, finish, finish-step, finish-too_much}
+use Rattle.line_notation.proofs.GatherFacts.{finished-enough, finished-few, IsInOne, joined}
 use Rattle.line_notation.proofs.GatherFacts.{joined-none, none-joined, put, some_same}
 use Rattle.line_notation.proofs.GatherFacts.{tallied-either}
-use Rattle.line_notation.proofs.TokenFacts.{Shortens, is_judged, not_judged, token_at-shortens}
+use Rattle.line_notation.proofs.TokenFacts.{is_judged, not_judged, Shortens, token_at-shortens}
 use Rattle.line_notation.proofs.TokenFacts.{values_in-few, values_in-step}
+use Rattle.line_notation.specs.declared.values.Holder.TheVariants as holders
+use Rattle.line_notation.specs.declared.values.JudgedToken.TheVariants as tokens
 
 -- so far these values have come of those in all words
 pub record HasGathered (holder : Holder) (all left : List (List ℕ)) (g : Gathering) : Type 0 where

@@ -1,31 +1,22 @@
 -- Records can hold what a line says that isn't refused.
-use Rattle.std.proofs.Common.{◌≡◌, ◌<◌, ℕ, suc, List, [], ◌∷◌, length, Bool, true, false, not, ◌&&◌}
-use Rattle.std.proofs.Common.{if◌then◌else◌, Option, None, Some, Result, Ok, Err, refl, ap, subst}
-use Rattle.std.proofs.Common.{arith, nat_lt}
-use Rattle.std.specs.List.{list_all}
-use Rattle.std.specs.Str.{is_utf8}
-use Rattle.std.proofs.lemmas.Bool.{and_parts, lt-ltb, ltb-true}
-use Rattle.nbfx_values.specs.declared.content.ArrayKind.{ArrayKind}
-use Rattle.nbfx_values.specs.declared.scalars.Scalar.{Scalar}
+use Rattle.std.proofs.Common.{◌≡◌, ℕ, suc, ◌<◌, Bool, true, false, not, ◌&&◌, List, [], ◌∷◌, length}
+use Rattle.std.proofs.Common.{if◌then◌else◌, nat_lt, Some, None, Ok, Err, Option, Result, refl, ap}
+use Rattle.std.proofs.Common.{subst, arith, ltb-true, lt-ltb}
+use Rattle.std.{proofs.lemmas.Bool.and_parts, specs.List.list_all, specs.Str.is_utf8}
+use Rattle.nbfx_values.specs.declared.{content.ArrayKind.ArrayKind, scalars.Scalar.Scalar}
 use Rattle.nbfx_values.specs.Items.{are_texts, fits_kind}
 use Rattle.nbfx_values.specs.Scalars.{is_valid_scalar, is_valid_value}
-use Rattle.line_notation.specs.declared.line.Keyword.{Keyword}
-use Rattle.line_notation.specs.declared.line.Keyword.TheVariants as keywords
-use Rattle.line_notation.specs.declared.line.Line.{Line}
+use Rattle.line_notation.specs.declared.line.{Keyword.Keyword, Line.Line}
 use Rattle.line_notation.specs.declared.reader.LineKind.TheVariants.{BadText, OutOfRange}
-use Rattle.line_notation.specs.Forms.{Form, start, ns, attr, text, comment, array, values, close}
-use Rattle.line_notation.specs.Forms.{array_kind_in, form_behind, two_texts_at}
+use Rattle.line_notation.specs.{BehindKeywords.judged_behind, Placing.IsHeld, Scalars.one_word}
+use Rattle.line_notation.specs.Forms.{array, array_kind_in, attr, close, comment, Form, form_behind}
+use Rattle.line_notation.specs.Forms.{ns, start, text, two_texts_at, values}
 use Rattle.line_notation.specs.Judging.{are_in_range, are_scalars, has_bad_text, have_good_texts}
 use Rattle.line_notation.specs.Judging.{is_out_of_range, judged, said, scalars_of, value_said}
-use Rattle.line_notation.specs.Options.{alone, ◌>>=◌}
-use Rattle.line_notation.specs.Placing.{IsHeld}
-use Rattle.line_notation.specs.Quoted.{quoted_in}
-use Rattle.line_notation.specs.BehindKeywords.{judged_behind}
-use Rattle.line_notation.specs.Scalars.{one_word}
-use Rattle.line_notation.specs.Values.{Written, no_more, one, list, how_many, if_some, value_in}
-use Rattle.line_notation.specs.Values.{values_in}
-use Rattle.line_notation.proofs.GatherFacts.{some_same}
-use Rattle.line_notation.proofs.TokenFacts.{found}
+use Rattle.line_notation.specs.{Options.alone, Options.◌>>=◌, Quoted.quoted_in, Values.Written}
+use Rattle.line_notation.specs.Values.{how_many, if_some, list, no_more, one, value_in, values_in}
+use Rattle.line_notation.proofs.{GatherFacts.some_same, TokenFacts.found}
+use Rattle.line_notation.specs.declared.line.Keyword.TheVariants as keywords
 
 -- values that pass a test, all of which are no lists
 scalars-all : (test : Scalar → Bool) (written : Written) → are_scalars test written ≡ true

@@ -1,33 +1,26 @@
 -- Hexadecimal words.
-use Rattle.std.proofs.Common.{◌≡◌, ◌∙◌, ◌==◌, ◌<◌, ◌≤◌, ◌+◌, ◌-◌, ◌*◌, ◌/◌, ◌%◌, ◌^◌, ◌⊎◌, inl, inr}
-use Rattle.std.proofs.Common.{ℕ, suc, zero, List, [], ◌∷◌, length, slice_index, Bool, true, false}
-use Rattle.std.proofs.Common.{◌&&◌, if◌then◌else◌, nat_lt, Option, None, Some, Result, Ok, Err}
-use Rattle.std.proofs.Common.{refl, sym, ap, subst, arith}
-use Rattle.std.specs.Fmt.{digit_glyph}
-use Rattle.std.specs.Int.{Width, byte_at, bytes_high_first, from_be_bytes, to_be_bytes, w32, w64}
-use Rattle.std.specs.List.{All}
-use Rattle.std.specs.Prelude.{is_some}
-use Rattle.std.proofs.lemmas.Bool.{and_parts, cases_lt, le-leb, lt-leb, lt-ltb, ltb-true, le-ltb}
+use Rattle.std.proofs.Common.{◌≡◌, ℕ, zero, suc, ◌+◌, ◌-◌, ◌*◌, ◌/◌, ◌%◌, ◌^◌, ◌<◌, ◌≤◌, Bool, true}
+use Rattle.std.proofs.Common.{false, ◌&&◌, ◌⊎◌, List, [], ◌∷◌, length, is_some, if◌then◌else◌}
+use Rattle.std.proofs.Common.{nat_lt, ◌==◌, slice_index, Some, None, Ok, Err, All, Option, Result}
+use Rattle.std.proofs.Common.{sym, refl, ap, ◌∙◌, subst, inl, inr, arith, w32, w64, ltb-true}
+use Rattle.std.proofs.Common.{le-ltb, lt-ltb, le-leb}
+use Rattle.std.proofs.lemmas.Bool.{and_parts, cases_lt, lt-leb}
 use Rattle.std.proofs.lemmas.Nat.{be_bytes_4, be_bytes_8, from_be_bytes-to_be_bytes_4}
-use Rattle.std.proofs.lemmas.Nat.{from_be_bytes-to_be_bytes_8}
-use Rattle.hex.specs.Hex.{IsBytes, decode_of, decode_pairs, decode_sized, encode_lower, encode_with}
-use Rattle.hex.specs.Hex.{hex_digit_value, lower_digits, pair_value}
-use Rattle.hex.specs.declared.error.FromHexError.{FromHexError}
-use Rattle.hex.specs.declared.error.FromHexError.TheVariants.{OddLength, InvalidStringLength}
+use Rattle.std.{proofs.lemmas.Nat.from_be_bytes-to_be_bytes_8, specs.Fmt.digit_glyph}
+use Rattle.std.specs.Int.{Width, byte_at, bytes_high_first, from_be_bytes, to_be_bytes}
 use Rattle.hex.proofs.HexLemmas.{decode_of-encode_lower, decode_sized-encode_lower, decode_sized-ok}
-use Rattle.hex.proofs.HexLemmas.{length-encode_with}
-use Rattle.hex.proofs.Pairs.{cons_byte, decode_pairs-ok_pair}
-use Rattle.uuid.proofs.TextLemmas.{table_at}
-use Rattle.uuid.specs.Text.{hex_digit, lower}
+use Rattle.hex.proofs.{HexLemmas.length-encode_with, Pairs.cons_byte, Pairs.decode_pairs-ok_pair}
+use Rattle.hex.specs.declared.error.FromHexError.{FromHexError}
+use Rattle.hex.specs.declared.error.FromHexError.TheVariants.{InvalidStringLength, OddLength}
+use Rattle.hex.specs.Hex.{decode_of, decode_pairs, decode_sized, encode_lower, encode_with}
+use Rattle.hex.specs.Hex.{hex_digit_value, IsBytes, lower_digits, pair_value}
+use Rattle.uuid.{proofs.TextLemmas.table_at, specs.Text.hex_digit, specs.Text.lower}
 use Rattle.nbfx_values.specs.Scalars.{are_bytes, is_unsigned}
 use Rattle.line_notation.specs.Numerals.{are_digits, bytes_in, bytes_sized, hexadecimal}
 use Rattle.line_notation.specs.Numerals.{hexadecimal_in, ok}
-use Rattle.line_notation.specs.Options.{◌>>=◌}
-use Rattle.line_notation.specs.Quoted.{digit_in}
-use Rattle.line_notation.proofs.GatherFacts.{some_same}
-use Rattle.line_notation.proofs.HeldFacts.{ok_same}
-use Rattle.line_notation.proofs.PiecesFacts.{IsDigit, digit_in-glyph, is_digit}
-use Rattle.line_notation.proofs.TokenFacts.{found}
+use Rattle.line_notation.specs.{Options.◌>>=◌, Quoted.digit_in}
+use Rattle.line_notation.proofs.{GatherFacts.some_same, HeldFacts.ok_same, TokenFacts.found}
+use Rattle.line_notation.proofs.PiecesFacts.{digit_in-glyph, is_digit, IsDigit}
 
 -- bytes, one by one
 pub bytes-each : (bytes : List ℕ) → are_bytes bytes ≡ true → IsBytes bytes

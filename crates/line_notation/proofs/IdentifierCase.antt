@@ -1,26 +1,20 @@
 -- A word of 36 bytes without a capital letter is an identifier's where it is read as one, and any
 -- other word is none.
-use Rattle.std.proofs.Common.{◌≡◌, ◌∙◌, ◌==◌, ◌<◌, ◌⊎◌, ◌*◌, ◌+◌, ◌/◌, ◌%◌, ◌&&◌, ℕ, List, length}
-use Rattle.std.proofs.Common.{slice_index, Bool, true, false, if◌then◌else◌, Option, None, Some}
-use Rattle.std.proofs.Common.{inl, inr, refl, sym, ap, subst, arith}
-use Rattle.std.specs.List.{list_all}
-use Rattle.std.specs.Str.{bytes_eq}
-use Rattle.std.proofs.lemmas.Bool.{and_parts, cases_lt}
-use Rattle.std.proofs.lemmas.Bool.Decides.{nat_tests}
-use Rattle.std.proofs.lemmas.List.{get_or_default}
-use Rattle.std.proofs.lemmas.Slice.Eq.{bytes_eq-Decides}
-use Rattle.uuid.specs.Parts.{swap_fields}
+use Rattle.std.proofs.Common.{◌≡◌, ℕ, ◌+◌, ◌*◌, ◌/◌, ◌%◌, ◌<◌, Bool, true, false, ◌&&◌, ◌⊎◌, List}
+use Rattle.std.proofs.Common.{length, if◌then◌else◌, ◌==◌, slice_index, Some, None, Option}
+use Rattle.std.proofs.Common.{bytes_eq, sym, refl, ap, ◌∙◌, subst, inl, inr, arith}
+use Rattle.std.proofs.lemmas.Bool.{and_parts, cases_lt, Decides.nat_tests}
+use Rattle.std.proofs.lemmas.{List.get_or_default, Slice.Eq.bytes_eq-Decides}
+use Rattle.{std.specs.List.list_all, uuid.specs.Parts.swap_fields}
+use Rattle.uuid.proofs.TextLemmas.{by_index_at, by_index_length, by_index_same, nibble_even}
+use Rattle.uuid.proofs.TextLemmas.{nibble_odd, nibble_small}
 use Rattle.uuid.specs.Text.{by_index, byte_of_digits, digit_place, digits_of, has_hyphens}
 use Rattle.uuid.specs.Text.{hex_digit, hyphen_place, hyphenated_text, is_hex_digit, is_hyphen_place}
 use Rattle.uuid.specs.Text.{lower, nibble, parsed, parsed_hyphenated, parsed_simple, value_of}
-use Rattle.uuid.proofs.TextLemmas.{by_index_at, by_index_length, by_index_same, nibble_even}
-use Rattle.uuid.proofs.TextLemmas.{nibble_odd, nibble_small}
-use Rattle.line_notation.specs.Parts.{has_no_capitals, is_no_capital}
-use Rattle.line_notation.specs.Options.{◌>>=◌}
+use Rattle.line_notation.specs.{Options.◌>>=◌, Parts.has_no_capitals, Parts.is_no_capital}
 use Rattle.line_notation.specs.Scalars.{identifier_in, identifier_word, if_identifier}
-use Rattle.line_notation.proofs.GatherFacts.{some_same}
+use Rattle.line_notation.proofs.{GatherFacts.some_same, IdentifierFacts.is_identifier-word}
 use Rattle.line_notation.proofs.IdentifierFacts.{all-at, all-listed, digit-small}
-use Rattle.line_notation.proofs.IdentifierFacts.{is_identifier-word}
 
 -- a digit that is no capital is the digit of its value
 digit-back : (c : ℕ) → is_hex_digit c ≡ true → is_no_capital c ≡ true

@@ -1,28 +1,21 @@
 -- A word writes an identifier exactly where the identifier is read out of it.
-use Rattle.std.proofs.Common.{◌≡◌, ◌∙◌, ◌==◌, ◌<◌, ◌≤◌, ◌⊎◌, ◌*◌, ◌+◌, ◌-◌, ◌&&◌, ℕ, suc, zero}
-use Rattle.std.proofs.Common.{List, [], ◌∷◌, length, map, slice_index, Bool, true, false}
-use Rattle.std.proofs.Common.{if◌then◌else◌, None, Some, inl, inr, refl, sym, ap, subst, arith, All}
-use Rattle.std.specs.List.{list_all}
-use Rattle.std.specs.Str.{bytes_eq}
-use Rattle.std.proofs.lemmas.Bool.{and_parts, cases_lt, eqb-true, le-ltb, lt-ltb}
-use Rattle.std.proofs.lemmas.Bool.Decides.{nat_tests}
-use Rattle.std.proofs.lemmas.List.{get_or_default, get_or_past}
-use Rattle.std.proofs.lemmas.List.Folds.{list_all-append}
-use Rattle.std.proofs.lemmas.Slice.Eq.{bytes_eq-Decides}
-use Rattle.hex.specs.Hex.{IsBytes}
-use Rattle.uuid.specs.Parts.{swap_fields}
+use Rattle.std.proofs.Common.{◌≡◌, ℕ, zero, suc, ◌+◌, ◌-◌, ◌*◌, ◌<◌, ◌≤◌, Bool, true, false, ◌&&◌}
+use Rattle.std.proofs.Common.{◌⊎◌, List, [], ◌∷◌, map, length, if◌then◌else◌, ◌==◌, slice_index}
+use Rattle.std.proofs.Common.{Some, None, All, bytes_eq, sym, refl, ap, ◌∙◌, subst, inl, inr, arith}
+use Rattle.std.proofs.Common.{le-ltb, lt-ltb, eqb-true}
+use Rattle.std.proofs.lemmas.Bool.{and_parts, cases_lt, Decides.nat_tests}
+use Rattle.std.proofs.lemmas.List.{get_or_default, get_or_past, Folds.list_all-append}
+use Rattle.std.{proofs.lemmas.Slice.Eq.bytes_eq-Decides, specs.List.list_all}
+use Rattle.{hex.specs.Hex.IsBytes, uuid.specs.Parts.swap_fields, line_notation.specs.Options.◌>>=◌}
+use Rattle.uuid.proofs.RoundTrips.{parses_hyphenated, swap_twice}
+use Rattle.uuid.proofs.TextLemmas.{by_index_at, by_index_length, nibble_small}
 use Rattle.uuid.specs.Text.{by_index, byte_of_digits, digit_place, digits_of, has_hyphens}
 use Rattle.uuid.specs.Text.{hex_digit, hyphenated_text, is_hex_digit, is_hyphen_place, lower}
 use Rattle.uuid.specs.Text.{nibble, parsed, parsed_hyphenated, parsed_simple, value_of}
-use Rattle.uuid.proofs.RoundTrips.{parses_hyphenated, swap_twice}
-use Rattle.uuid.proofs.TextLemmas.{by_index_at, by_index_length, nibble_small}
 use Rattle.nbfx_values.specs.Scalars.{are_bytes, is_identifier}
-use Rattle.line_notation.specs.Options.{◌>>=◌}
 use Rattle.line_notation.specs.Scalars.{identifier_in, identifier_word, if_identifier}
-use Rattle.line_notation.proofs.GatherFacts.{some_same}
-use Rattle.line_notation.proofs.HexFacts.{bytes-each}
+use Rattle.line_notation.proofs.{GatherFacts.some_same, HexFacts.bytes-each, TokenFacts.found}
 use Rattle.line_notation.proofs.SpacedFacts.{is_solid, solid}
-use Rattle.line_notation.proofs.TokenFacts.{found}
 
 -- bytes, by their places
 bytes-before : (b : ℕ) (bytes : List ℕ) → b < 256 → IsBytes bytes → IsBytes (b ∷ bytes)

@@ -1,31 +1,26 @@
 -- Each word of a line of a form is bytes without a space and a quote, or a text in quotes.
-use Rattle.std.proofs.Common.{◌≡◌, ◌∙◌, ◌==◌, ◌<◌, ◌≤◌, ◌+◌, ◌⊎◌, inl, inr, ℕ, List, [], ◌∷◌, ◌++◌}
-use Rattle.std.proofs.Common.{length, Bool, true, false, not, ◌&&◌, Option, None, Some, is_some}
-use Rattle.std.proofs.Common.{refl, sym, ap, subst, arith, codes}
-use Rattle.std.specs.Fmt.{digit_glyph}
-use Rattle.std.specs.Int.{Width, byte_len, to_be_bytes, w32, w64}
-use Rattle.std.specs.List.{list_all}
-use Rattle.std.proofs.lemmas.Bool.{and_parts, cases_lt, le-ltb, lt-ltb}
-use Rattle.hex.specs.Hex.{encode_lower}
-use Rattle.nbfx_values.specs.declared.content.ArrayKind.{ArrayKind}
-use Rattle.nbfx_values.specs.declared.content.ArrayKind.TheVariants as arrays
-use Rattle.nbfx_values.specs.declared.scalars.Scalar.{Scalar}
-use Rattle.nbfx_values.specs.declared.scalars.Scalar.TheVariants.{Number, Truth, Float, Double}
-use Rattle.nbfx_values.specs.declared.scalars.Scalar.TheVariants.{Decimal, DateTime, TimeSpan, Text}
-use Rattle.nbfx_values.specs.declared.scalars.Scalar.TheVariants.{Bytes, UniqueId, Uuid, QName}
-use Rattle.nbfx_values.specs.Scalars.{are_bytes}
-use Rattle.line_notation.specs.Forms.{Form, start, ns, attr, text, comment, array, values, close}
-use Rattle.line_notation.specs.Forms.{IsForm, array_kind_word}
-use Rattle.line_notation.specs.Numerals.{are_digits, hexadecimal}
-use Rattle.line_notation.specs.Quoted.{ArePieces, IsQuoted, digit_in, is_plain}
-use Rattle.line_notation.specs.Scalars.{IsScalar, digits_in_quotes, letter_word, sign_word}
-use Rattle.line_notation.specs.Scalars.{truth_word}
-use Rattle.line_notation.specs.Values.{AreValues, Written, how_many, list, no_more, one}
+use Rattle.std.proofs.Common.{◌≡◌, ℕ, ◌+◌, ◌<◌, ◌≤◌, Bool, true, false, not, ◌&&◌, ◌⊎◌, List, []}
+use Rattle.std.proofs.Common.{◌∷◌, ◌++◌, length, is_some, ◌==◌, Some, None, codes, Option, sym}
+use Rattle.std.proofs.Common.{refl, ap, ◌∙◌, subst, inl, inr, arith, w32, w64, le-ltb, lt-ltb}
+use Rattle.std.proofs.lemmas.Bool.{and_parts, cases_lt}
+use Rattle.std.specs.{Fmt.digit_glyph, Int.Width, Int.byte_len, Int.to_be_bytes, List.list_all}
+use Rattle.{hex.specs.Hex.encode_lower, nbfx_values.specs.Scalars.are_bytes}
+use Rattle.nbfx_values.specs.declared.{content.ArrayKind.ArrayKind, scalars.Scalar.Scalar}
+use Rattle.nbfx_values.specs.declared.scalars.Scalar.TheVariants.{Bytes, DateTime, Decimal, Double}
+use Rattle.nbfx_values.specs.declared.scalars.Scalar.TheVariants.{Float, Number, QName, Text}
+use Rattle.nbfx_values.specs.declared.scalars.Scalar.TheVariants.{TimeSpan, Truth, UniqueId, Uuid}
+use Rattle.line_notation.specs.Forms.{array, array_kind_word, attr, close, comment, Form, IsForm}
+use Rattle.line_notation.specs.Forms.{ns, start, text, values}
+use Rattle.line_notation.specs.{Numerals.are_digits, Numerals.hexadecimal, Scalars.truth_word}
+use Rattle.line_notation.specs.Quoted.{ArePieces, digit_in, is_plain, IsQuoted}
+use Rattle.line_notation.specs.Scalars.{digits_in_quotes, IsScalar, letter_word, sign_word}
+use Rattle.line_notation.specs.Values.{AreValues, how_many, list, no_more, one, Written}
 use Rattle.line_notation.proofs.HexFacts.{encoded-digits, high-bytes}
 use Rattle.line_notation.proofs.IdentifierFacts.{identifier-solid}
 use Rattle.line_notation.proofs.NaturalFacts.{integer-solid, natural-solid}
 use Rattle.line_notation.proofs.PiecesFacts.{is_digit, plain-pieces}
 use Rattle.line_notation.proofs.SpacedFacts.{is_solid, solid}
+use Rattle.nbfx_values.specs.declared.content.ArrayKind.TheVariants as arrays
 
 abbrev pub IsWord : List ℕ → Type 0
 IsWord word = (list_all is_solid word ≡ true) ⊎ ((bytes : List ℕ) × IsQuoted bytes word)

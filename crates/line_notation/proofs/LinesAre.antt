@@ -1,45 +1,33 @@
 -- A reader gives documents for their lines alone.
-use Rattle.std.proofs.Common.{◌≡◌, ◌∙◌, ◌+◌, ℕ, suc, List, [], ◌∷◌, ◌++◌, length, map, Bool, true}
-use Rattle.std.proofs.Common.{Option, None, Some, Result, Ok, Err, refl, sym, ap, subst}
-use Rattle.std.proofs.Common.{append_assoc, append-nil, arith}
-use Rattle.std.proofs.lemmas.Bool.{and_parts}
-use Rattle.std.proofs.lemmas.Grind.{flat_map-append}
-use Rattle.std.proofs.lemmas.List.{length-append, map-append}
-use Rattle.nbfx_values.specs.declared.content.ArrayItem.{ArrayItem}
-use Rattle.nbfx_values.specs.declared.content.ArrayKind.{ArrayKind}
-use Rattle.nbfx_values.specs.declared.content.AttrItem.{AttrItem}
+use Rattle.std.proofs.Common.{◌≡◌, ℕ, suc, ◌+◌, Bool, true, List, [], ◌∷◌, ◌++◌, map, length, Some}
+use Rattle.std.proofs.Common.{None, Ok, Err, Option, Result, sym, refl, ap, ◌∙◌, subst}
+use Rattle.std.proofs.Common.{append_assoc, append-nil, arith, length-append}
+use Rattle.std.proofs.lemmas.{Bool.and_parts, Grind.flat_map-append, List.map-append}
+use Rattle.{nbfx_values.proofs.Walks.position_of-document, line_notation.proofs.FormFacts.read-line}
+use Rattle.nbfx_values.specs.declared.content.{ArrayItem.ArrayItem, ArrayKind.ArrayKind, Item.Item}
+use Rattle.nbfx_values.specs.declared.content.AttrItem.{AttrItem, TheVariants.Attr as AttrOn}
 use Rattle.nbfx_values.specs.declared.content.AttrItem.TheVariants.{Xmlns as DeclaresOn}
-use Rattle.nbfx_values.specs.declared.content.AttrItem.TheVariants.{Attr as AttrOn}
-use Rattle.nbfx_values.specs.declared.content.Item.{Item}
-use Rattle.nbfx_values.specs.declared.content.Item.TheVariants.{Start, Xmlns, Attr}
-use Rattle.nbfx_values.specs.declared.content.Item.TheVariants.{Text as TextItem, Comment, Array}
-use Rattle.nbfx_values.specs.declared.content.Item.TheVariants.{Close}
-use Rattle.nbfx_values.specs.declared.position.Position.{Position}
-use Rattle.nbfx_values.specs.declared.position.Position.TheVariants.{Before, Within, After}
-use Rattle.nbfx_values.specs.declared.scalars.Scalar.{Scalar}
-use Rattle.nbfx_values.specs.Documents.{IsDocument}
-use Rattle.nbfx_values.specs.Items.{fits_kind}
-use Rattle.nbfx_values.specs.Positions.{position_of}
-use Rattle.nbfx_values.specs.Scalars.{is_valid_scalar}
-use Rattle.nbfx_values.proofs.Walks.{position_of-document}
-use Rattle.line_notation.specs.declared.line.Line.{Line}
-use Rattle.line_notation.specs.declared.reader.LineKind.{LineKind}
-use Rattle.line_notation.specs.Forms.{Form, start, ns, attr, text, comment, array, values, close}
-use Rattle.line_notation.specs.Forms.{IsForm, IsLine, form_of}
+use Rattle.nbfx_values.specs.declared.content.Item.TheVariants.{Array, Attr, Close, Comment, Start}
+use Rattle.nbfx_values.specs.declared.content.Item.TheVariants.{Text as TextItem, Xmlns}
+use Rattle.nbfx_values.specs.declared.{position.Position.Position, scalars.Scalar.Scalar}
+use Rattle.nbfx_values.specs.declared.position.Position.TheVariants.{After, Before, Within}
+use Rattle.nbfx_values.specs.{Documents.IsDocument, Items.fits_kind}
+use Rattle.nbfx_values.specs.{Positions.position_of, Scalars.is_valid_scalar}
+use Rattle.line_notation.specs.declared.{line.Line.Line, reader.LineKind.LineKind}
+use Rattle.line_notation.specs.Forms.{array, attr, close, comment, Form, form_of, IsForm, IsLine}
+use Rattle.line_notation.specs.Forms.{ns, start, text, values}
 use Rattle.line_notation.specs.Judging.{are_in_range, are_scalars, begun_array, judged, scalars_of}
-use Rattle.line_notation.specs.Judging.{value_said}
-use Rattle.line_notation.specs.Laws.{AreReadTo, HaveRead, begun_forms}
+use Rattle.line_notation.specs.{Judging.value_said, Lines.item_forms}
+use Rattle.line_notation.specs.Laws.{AreReadTo, begun_forms, HaveRead}
+use Rattle.line_notation.specs.LineReaderState.{after, answer, answer_of, document_of}
+use Rattle.line_notation.specs.LineReaderState.{documents_from, ending, ends, failed, going}
+use Rattle.line_notation.specs.LineReaderState.{kind_of, led, on, outcome, outcome_of, Placed}
+use Rattle.line_notation.specs.LineReaderState.{placed, placed_array, placed_at, placed_item}
+use Rattle.line_notation.specs.LineReaderState.{Standing, standing_from, standing_of}
+use Rattle.line_notation.specs.{LineReaderState.with_attribute, Values.written_value}
 use Rattle.line_notation.specs.Lines.{AreBlank, AreLines, AreLinesOf, attribute_form, forms_of}
-use Rattle.line_notation.specs.Lines.{item_forms}
-use Rattle.line_notation.specs.LineReaderState.{Placed, Standing, after, answer, answer_of}
-use Rattle.line_notation.specs.LineReaderState.{document_of, documents_from, ending, failed, going}
-use Rattle.line_notation.specs.LineReaderState.{kind_of, led, on, ends, outcome, outcome_of, placed}
-use Rattle.line_notation.specs.LineReaderState.{placed_array, placed_at, placed_item, standing_from}
-use Rattle.line_notation.specs.LineReaderState.{standing_of, with_attribute}
-use Rattle.line_notation.specs.Values.{Written, no_more, one, list, how_many, written_scalars}
-use Rattle.line_notation.specs.Values.{written_value}
-use Rattle.line_notation.proofs.FormFacts.{read-line}
-use Rattle.line_notation.proofs.HeldFacts.{IsJudged, is_judged, not-false, ok_same}
+use Rattle.line_notation.specs.Values.{how_many, list, no_more, one, Written, written_scalars}
+use Rattle.line_notation.proofs.HeldFacts.{is_judged, IsJudged, not-false, ok_same}
 
 -- values without a list among them, and the one value
 scalars-written : (test : Scalar → Bool) (written : Written) → are_scalars test written ≡ true

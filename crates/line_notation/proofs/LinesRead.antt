@@ -1,56 +1,41 @@
 -- The lines of documents are read as these documents.
-use Rattle.std.proofs.Common.{◌≡◌, ◌∙◌, ◌+◌, ℕ, suc, List, [], ◌∷◌, ◌++◌, length, map, Bool, true}
-use Rattle.std.proofs.Common.{false, not, ◌&&◌, if◌then◌else◌, Option, None, Some, Result, Ok, Err}
-use Rattle.std.proofs.Common.{refl, sym, ap, subst, append_assoc, append-nil, arith}
-use Rattle.std.specs.List.{list_all}
-use Rattle.std.specs.Str.{is_utf8}
-use Rattle.std.proofs.lemmas.Bool.{and_parts}
-use Rattle.std.proofs.lemmas.List.{length-append}
-use Rattle.nbfx_values.specs.declared.content.ArrayItem.{ArrayItem}
-use Rattle.nbfx_values.specs.declared.content.ArrayKind.{ArrayKind}
-use Rattle.nbfx_values.specs.declared.content.AttrItem.{AttrItem}
-use Rattle.nbfx_values.specs.declared.content.AttrItem.TheVariants.{Xmlns as DeclaresOn}
-use Rattle.nbfx_values.specs.declared.content.AttrItem.TheVariants.{Attr as AttrOn}
-use Rattle.nbfx_values.specs.declared.content.Item.{Item}
-use Rattle.nbfx_values.specs.declared.content.Item.TheVariants.{Start, Xmlns, Attr}
-use Rattle.nbfx_values.specs.declared.content.Item.TheVariants.{Text as TextItem, Comment, Array}
-use Rattle.nbfx_values.specs.declared.content.Item.TheVariants.{Close}
-use Rattle.nbfx_values.specs.declared.position.Position.{Position}
-use Rattle.nbfx_values.specs.declared.position.Position.TheVariants.{Before, Within, After}
-use Rattle.nbfx_values.specs.declared.scalars.Scalar.{Scalar}
-use Rattle.nbfx_values.specs.declared.scalars.Scalar.TheVariants.{Number, Truth, Float, Double}
-use Rattle.nbfx_values.specs.declared.scalars.Scalar.TheVariants.{Decimal, DateTime, TimeSpan, Text}
-use Rattle.nbfx_values.specs.declared.scalars.Scalar.TheVariants.{Bytes, UniqueId, Uuid, QName}
-use Rattle.nbfx_values.specs.declared.scalars.Value.{Value}
-use Rattle.nbfx_values.specs.declared.scalars.Value.TheVariants.{One, List as ListOf}
-use Rattle.nbfx_values.specs.Documents.{IsDocument}
-use Rattle.nbfx_values.specs.Items.{are_texts, fits_kind, is_valid_array, is_valid_attribute}
-use Rattle.nbfx_values.specs.Items.{is_valid_item}
-use Rattle.nbfx_values.specs.Positions.{moved, next_position, position_from, position_of}
-use Rattle.nbfx_values.specs.Scalars.{is_valid_scalar, is_valid_value}
+use Rattle.std.proofs.Common.{◌≡◌, ℕ, suc, ◌+◌, Bool, true, false, not, ◌&&◌, List, [], ◌∷◌, ◌++◌}
+use Rattle.std.proofs.Common.{map, length, if◌then◌else◌, Some, None, Ok, Err, Option, Result, sym}
+use Rattle.std.proofs.Common.{refl, ap, ◌∙◌, subst, append_assoc, append-nil, arith, length-append}
+use Rattle.std.{proofs.lemmas.Bool.and_parts, specs.List.list_all, specs.Str.is_utf8}
 use Rattle.nbfx_values.proofs.Positions.{passed, position_from-none, position_from-valid}
-use Rattle.nbfx_values.proofs.Positions.{position_of-push}
-use Rattle.nbfx_values.proofs.Walks.{document-position}
-use Rattle.line_notation.specs.declared.line.Line.{Line}
-use Rattle.line_notation.specs.declared.line.Line.TheVariants as says
-use Rattle.line_notation.specs.declared.reader.LineKind.{LineKind}
-use Rattle.line_notation.specs.declared.reader.LineKind.TheVariants.{BadText}
-use Rattle.line_notation.specs.Forms.{Form, start, ns, attr, text, comment, array, values, close}
-use Rattle.line_notation.specs.Forms.{IsLine, form_of}
+use Rattle.nbfx_values.proofs.{Positions.position_of-push, Walks.document-position}
+use Rattle.nbfx_values.specs.declared.content.{ArrayItem.ArrayItem, ArrayKind.ArrayKind, Item.Item}
+use Rattle.nbfx_values.specs.declared.content.AttrItem.{AttrItem, TheVariants.Attr as AttrOn}
+use Rattle.nbfx_values.specs.declared.content.AttrItem.TheVariants.{Xmlns as DeclaresOn}
+use Rattle.nbfx_values.specs.declared.content.Item.TheVariants.{Array, Attr, Close, Comment, Start}
+use Rattle.nbfx_values.specs.declared.content.Item.TheVariants.{Text as TextItem, Xmlns}
+use Rattle.nbfx_values.specs.{declared.position.Position.Position, Items.is_valid_item}
+use Rattle.nbfx_values.specs.declared.position.Position.TheVariants.{After, Before, Within}
+use Rattle.nbfx_values.specs.declared.scalars.{Scalar.Scalar, Value.Value}
+use Rattle.nbfx_values.specs.declared.scalars.Scalar.TheVariants.{Bytes, DateTime, Decimal, Double}
+use Rattle.nbfx_values.specs.declared.scalars.Scalar.TheVariants.{Float, Number, QName, Text}
+use Rattle.nbfx_values.specs.declared.scalars.Scalar.TheVariants.{TimeSpan, Truth, UniqueId, Uuid}
+use Rattle.nbfx_values.specs.declared.scalars.Value.TheVariants.{List as ListOf, One}
+use Rattle.nbfx_values.specs.{Documents.IsDocument, Scalars.is_valid_scalar, Scalars.is_valid_value}
+use Rattle.nbfx_values.specs.Items.{are_texts, fits_kind, is_valid_array, is_valid_attribute}
+use Rattle.nbfx_values.specs.Positions.{moved, next_position, position_from, position_of}
+use Rattle.line_notation.specs.{declared.line.Line.Line, Forms.text, Forms.values}
+use Rattle.line_notation.specs.declared.reader.LineKind.{LineKind, TheVariants.BadText}
+use Rattle.line_notation.specs.Forms.{array, attr, close, comment, Form, form_of, IsLine, ns, start}
 use Rattle.line_notation.specs.Judging.{are_in_range, are_scalars, begun_array, has_good_text}
 use Rattle.line_notation.specs.Judging.{have_good_texts, judged, scalars_of, value_said}
+use Rattle.line_notation.specs.LineReaderState.{answer_of, document_of, going, kind_of, led, on}
+use Rattle.line_notation.specs.LineReaderState.{outcome, outcome_of, Placed, placed, placed_array}
+use Rattle.line_notation.specs.LineReaderState.{placed_at, standing_of, with_attribute}
 use Rattle.line_notation.specs.Lines.{AreBlank, AreLines, AreLinesOf, attribute_form, forms_of}
 use Rattle.line_notation.specs.Lines.{item_forms, lines_of}
-use Rattle.line_notation.specs.LineReaderState.{Placed, answer_of, document_of, going, kind_of, led}
-use Rattle.line_notation.specs.LineReaderState.{on, outcome, outcome_of, placed, placed_array}
-use Rattle.line_notation.specs.LineReaderState.{placed_at, standing_of, with_attribute}
 use Rattle.line_notation.specs.Values.{written_scalars, written_value}
-use Rattle.line_notation.proofs.FormFacts.{line-read}
-use Rattle.line_notation.proofs.GatherFacts.{some_same}
-use Rattle.line_notation.proofs.PutForms.{lines_of-lines}
-use Rattle.line_notation.proofs.StepFacts.{Leads, counted-then, leads-nowhere, leads-then}
+use Rattle.line_notation.proofs.{FormFacts.line-read, GatherFacts.some_same}
+use Rattle.line_notation.proofs.{PutForms.lines_of-lines, ValidFacts.array_parts}
+use Rattle.line_notation.proofs.StepFacts.{counted-then, Leads, leads-nowhere, leads-then}
 use Rattle.line_notation.proofs.StepFacts.{line-goes_on, line-leads}
-use Rattle.line_notation.proofs.ValidFacts.{array_parts}
+use Rattle.line_notation.specs.declared.line.Line.TheVariants as says
 
 -- what a line of a form leads to
 pub outcome-form : (items : List Item) (open_array : Option ArrayItem) (line : List ℕ) (form : Form)

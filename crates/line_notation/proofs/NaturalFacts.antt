@@ -1,29 +1,22 @@
 -- A word writes a number exactly where the number is read out of it.
-use Rattle.std.proofs.Common.{◌≡◌, ◌∙◌, ◌==◌, ◌<◌, ◌≤◌, ◌+◌, ◌-◌, ◌*◌, ◌/◌, ◌%◌, ◌^◌, ◌⊎◌, inl, inr}
-use Rattle.std.proofs.Common.{ℕ, suc, zero, List, [], ◌∷◌, ◌++◌, length, get_or, slice_index, Bool}
-use Rattle.std.proofs.Common.{true, false, ◌&&◌, ◌||◌, if◌then◌else◌, nat_le, nat_lt, Option, None}
-use Rattle.std.proofs.Common.{Some, refl, sym, ap, subst, append_assoc, append-nil, arith, ℤ, pos}
-use Rattle.std.proofs.Common.{negsuc}
-use Rattle.std.specs.Char.{digit_value, is_ascii_digit}
-use Rattle.std.specs.Fmt.{decimal, digit_glyph, digits, digits_onto, signed_decimal}
-use Rattle.std.specs.Int.Signed.{mag}
-use Rattle.std.specs.List.{list_all}
-use Rattle.std.specs.Option.{option_map}
-use Rattle.std.specs.Str.{all_ascii_digits}
-use Rattle.std.specs.Str.Parse.{AllDigits, digits_value}
-use Rattle.std.proofs.lemmas.Bool.{and_parts, cases_lt, eqb-true, eq-eqb, leb-true, lt-ltb, le-ltb}
+use Rattle.std.proofs.Common.{◌≡◌, ℕ, zero, suc, ◌+◌, ◌-◌, ◌*◌, ◌/◌, ◌%◌, ◌^◌, ◌<◌, ◌≤◌, Bool, true}
+use Rattle.std.proofs.Common.{false, ◌&&◌, ◌||◌, ◌⊎◌, List, [], ◌∷◌, ◌++◌, length, get_or, ℤ, pos}
+use Rattle.std.proofs.Common.{negsuc, if◌then◌else◌, nat_lt, nat_le, ◌==◌, slice_index, Some, None}
+use Rattle.std.proofs.Common.{decimal, Option, option_map, sym, refl, ap, ◌∙◌, subst, inl, inr}
+use Rattle.std.proofs.Common.{append_assoc, append-nil, arith, length-append, le-ltb, lt-ltb}
+use Rattle.std.proofs.Common.{eq-eqb, eqb-true, leb-true}
+use Rattle.std.proofs.Math.{Bool.and-false, Nat.pow-suc}
+use Rattle.std.proofs.lemmas.{Bool.and_parts, Bool.cases_lt, List.get_or_append_left}
 use Rattle.std.proofs.lemmas.Int.Digits.{digits_push, digits_value_push}
-use Rattle.std.proofs.lemmas.List.{get_or_append_left, length-append}
-use Rattle.std.proofs.Math.Bool.{and-false}
-use Rattle.std.proofs.Math.Nat.{pow-suc}
-use Rattle.line_notation.specs.Numerals.{IsInteger, IsNatural, count_digits, has_zero_in_front}
-use Rattle.line_notation.specs.Numerals.{integer_in, is_natural, less_than_zero, natural_in}
+use Rattle.std.specs.{Char.digit_value, Char.is_ascii_digit, Int.Signed.mag, List.list_all}
+use Rattle.std.specs.Fmt.{digit_glyph, digits, digits_onto, signed_decimal}
+use Rattle.std.specs.Str.{all_ascii_digits, Parse.AllDigits, Parse.digits_value}
+use Rattle.line_notation.specs.Numerals.{count_digits, has_zero_in_front, integer_in, is_natural}
+use Rattle.line_notation.specs.Numerals.{IsInteger, IsNatural, less_than_zero, natural_in}
 use Rattle.line_notation.specs.Options.{◌>>=◌}
-use Rattle.line_notation.proofs.GatherFacts.{some_same}
+use Rattle.line_notation.proofs.{GatherFacts.eqb-other, GatherFacts.some_same, TokenFacts.found}
 use Rattle.line_notation.proofs.NumeralsFacts.{all-digits, natural_parts, own}
 use Rattle.line_notation.proofs.SpacedFacts.{is_solid, solid}
-use Rattle.line_notation.proofs.TokenFacts.{found}
-use Rattle.line_notation.proofs.GatherFacts.{eqb-other}
 
 -- the digits of a number
 record AreDigitsOf (n : ℕ) (ds : List ℕ) : Type 0 where

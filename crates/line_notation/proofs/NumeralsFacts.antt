@@ -1,17 +1,12 @@
 -- Numbers out of words.
-use Rattle.std.proofs.Common.{◌≡◌, ◌∙◌, ◌<◌, ◌≤◌, ◌^◌, ◌==◌, ℕ, List, [], ◌∷◌, length, Bool, true}
-use Rattle.std.proofs.Common.{false, not, ◌&&◌, ◌||◌, Some, Result, Err, refl, sym, ap, arith}
-use Rattle.std.proofs.Common.{nat_le}
-use Rattle.std.specs.Char.{is_ascii_digit}
-use Rattle.std.specs.List.{list_all}
-use Rattle.std.specs.Str.{IsUtf8, all_ascii_digits}
-use Rattle.std.specs.Str.Parse.{ParsesUnsigned, digits_value}
-use Rattle.std.proofs.Common.{◌⊎◌, inl, inr}
-use Rattle.std.proofs.lemmas.Bool.{and_parts, cases_lt, lt-leb}
-use Rattle.std.proofs.lemmas.Fmt.{IsAscii-from_digits}
-use Rattle.std.proofs.lemmas.Str.{IsUtf8-from_ascii}
-use Rattle.std.proofs.lemmas.Str.Parse.{IsNumeralModel, numerals_by_value, tells_all_ascii_digits}
-use Rattle.std.proofs.lemmas.Str.Parse.{parse_digits}
+use Rattle.std.proofs.Common.{◌≡◌, ℕ, ◌^◌, ◌<◌, ◌≤◌, Bool, true, false, not, ◌&&◌, ◌||◌, ◌⊎◌, List}
+use Rattle.std.proofs.Common.{[], ◌∷◌, length, nat_le, ◌==◌, Some, Err, IsUtf8, Result, sym, refl}
+use Rattle.std.proofs.Common.{ap, ◌∙◌, inl, inr, arith}
+use Rattle.std.proofs.lemmas.{Bool.and_parts, Bool.cases_lt, Bool.lt-leb, Fmt.IsAscii-from_digits}
+use Rattle.std.proofs.lemmas.Str.{IsUtf8-from_ascii, Parse.tells_all_ascii_digits}
+use Rattle.std.proofs.lemmas.Str.Parse.{IsNumeralModel, numerals_by_value, parse_digits}
+use Rattle.std.specs.{Char.is_ascii_digit, List.list_all}
+use Rattle.std.specs.Str.{all_ascii_digits, Parse.ParsesUnsigned, Parse.digits_value}
 use Rattle.line_notation.specs.declared.reader.LineKind.TheVariants.{OutOfRange}
 use Rattle.line_notation.specs.Numerals.{has_zero_in_front, is_natural}
 use Rattle.line_notation.specs.Parts.{natural_up_to}

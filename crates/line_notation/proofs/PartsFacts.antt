@@ -1,22 +1,15 @@
 -- Values read and judged at once.
-use Rattle.std.proofs.Common.{◌≡◌, ◌≤◌, ℕ, List, [], ◌∷◌, Bool, true, false, ◌&&◌, if◌then◌else◌}
-use Rattle.std.proofs.Common.{Option, None, Some, Result, Ok, Err, refl, ap, nat_le}
-use Rattle.std.specs.Str.{is_utf8}
-use Rattle.std.proofs.lemmas.Bool.{le-leb}
-use Rattle.uuid.specs.Text.{parsed}
-use Rattle.nbfx_values.specs.declared.scalars.Scalar.{Scalar}
-use Rattle.nbfx_values.specs.declared.scalars.Scalar.TheVariants.{Text, QName}
-use Rattle.line_notation.specs.declared.reader.LineKind.{LineKind}
+use Rattle.std.proofs.Common.{◌≡◌, ℕ, ◌≤◌, Bool, true, false, ◌&&◌, List, [], ◌∷◌, if◌then◌else◌}
+use Rattle.std.proofs.Common.{nat_le, Some, None, Ok, Err, Option, Result, refl, ap, le-leb}
+use Rattle.{std.specs.Str.is_utf8, uuid.specs.Text.parsed}
+use Rattle.nbfx_values.specs.declared.scalars.Scalar.{Scalar, TheVariants.QName, TheVariants.Text}
+use Rattle.line_notation.specs.{declared.reader.LineKind.LineKind, Steps.Stops}
 use Rattle.line_notation.specs.declared.reader.LineKind.TheVariants.{BadText, OutOfRange}
-use Rattle.line_notation.specs.declared.scalars.ScalarKind.TheVariants as kinds
-use Rattle.line_notation.specs.Options.{◌>>=◌}
+use Rattle.line_notation.specs.declared.words.Stop.{Stop, TheVariants.Memory, TheVariants.NotALine}
+use Rattle.line_notation.specs.{Options.◌>>=◌, Quoted.quoted_in, Scalars.scalar_at, Scalars.valued}
 use Rattle.line_notation.specs.Parts.{judged_at, judged_scalar, judged_text, judged_text_in, mapped}
-use Rattle.line_notation.specs.Quoted.{quoted_in}
-use Rattle.line_notation.specs.Scalars.{if_identifier, identifier_in, letter_in, one_word}
-use Rattle.line_notation.specs.Scalars.{scalar_at, valued}
-use Rattle.line_notation.specs.declared.words.Stop.{Stop}
-use Rattle.line_notation.specs.declared.words.Stop.TheVariants.{NotALine, Memory}
-use Rattle.line_notation.specs.Steps.{Stops}
+use Rattle.line_notation.specs.Scalars.{identifier_in, if_identifier, letter_in, one_word}
+use Rattle.line_notation.specs.declared.scalars.ScalarKind.TheVariants as kinds
 
 pub identifier-none : (word : List ℕ) → ((u : List ℕ) → parsed word ≡ Some u → ⊥)
     → identifier_in word ≡ None

@@ -1,24 +1,19 @@
 -- A word writes a text exactly where the text is read out of it.
-use Rattle.std.proofs.Common.{◌≡◌, ◌∙◌, ◌==◌, ◌<◌, ◌≤◌, ◌+◌, ◌-◌, ◌*◌, ◌/◌, ◌%◌, ◌⊎◌, inl, inr, ℕ}
-use Rattle.std.proofs.Common.{suc, List, [], ◌∷◌, ◌++◌, length, take, get_or, slice_index, Bool}
-use Rattle.std.proofs.Common.{true, false, not, ◌&&◌, if◌then◌else◌, flat_map, nat_le, nat_lt, None}
-use Rattle.std.proofs.Common.{Some, refl, sym, ap, subst, append_assoc, arith}
-use Rattle.std.specs.Fmt.{digit_glyph}
-use Rattle.std.specs.List.{list_all}
-use Rattle.std.proofs.lemmas.Bool.{and_parts, cases_lt, eqb-true, eq-eqb, le-leb, leb-true, lt-ltb}
-use Rattle.std.proofs.lemmas.Bool.{ltb-true, le-ltb, not-true}
-use Rattle.std.proofs.lemmas.List.{length-append, take_all, take_more}
-use Rattle.std.proofs.Math.Seq.{get_or-append_seam, take-append_seam}
-use Rattle.std.proofs.Math.Bool.{and-false}
-use Rattle.line_notation.specs.Options.{◌>>=◌}
-use Rattle.line_notation.specs.Quoted.{ArePieces, IsPiece, IsQuoted, between_quotes, digit_in}
-use Rattle.line_notation.specs.Quoted.{escape, is_in_quotes, is_plain, pair_in, quoted, quoted_byte}
-use Rattle.line_notation.specs.Quoted.{quoted_in, unescaped}
-use Rattle.line_notation.proofs.GatherFacts.{some_same}
-use Rattle.line_notation.proofs.SpacedFacts.{closes}
-use Rattle.line_notation.proofs.GatherFacts.{eqb-other}
+use Rattle.std.proofs.Common.{◌≡◌, ℕ, suc, ◌+◌, ◌-◌, ◌*◌, ◌/◌, ◌%◌, ◌<◌, ◌≤◌, Bool, true, false}
+use Rattle.std.proofs.Common.{not, ◌&&◌, ◌⊎◌, List, [], ◌∷◌, ◌++◌, length, get_or, take}
+use Rattle.std.proofs.Common.{if◌then◌else◌, nat_lt, nat_le, ◌==◌, slice_index, Some, None}
+use Rattle.std.proofs.Common.{flat_map, sym, refl, ap, ◌∙◌, subst, inl, inr, append_assoc, arith}
+use Rattle.std.proofs.Common.{length-append, take_all, ltb-true, le-ltb, lt-ltb, eq-eqb, eqb-true}
+use Rattle.std.proofs.Common.{le-leb, leb-true}
+use Rattle.std.proofs.Math.{Bool.and-false, Seq.get_or-append_seam, Seq.take-append_seam}
+use Rattle.std.proofs.lemmas.{Bool.and_parts, Bool.cases_lt, Bool.not-true, List.take_more}
+use Rattle.std.specs.{Fmt.digit_glyph, List.list_all}
+use Rattle.line_notation.specs.{Options.◌>>=◌, Quoted.quoted_in, Quoted.unescaped}
+use Rattle.line_notation.specs.Quoted.{ArePieces, between_quotes, digit_in, escape, is_in_quotes}
+use Rattle.line_notation.specs.Quoted.{is_plain, IsPiece, IsQuoted, pair_in, quoted, quoted_byte}
+use Rattle.line_notation.proofs.GatherFacts.{eqb-other, some_same}
+use Rattle.line_notation.proofs.{SpacedFacts.closes, TokenFacts.found}
 use Rattle.line_notation.proofs.TextsFacts.{before, unescaped-plain}
-use Rattle.line_notation.proofs.TokenFacts.{found}
 
 -- a digit and its value
 pub digit_in-glyph : (d : ℕ) → d < 16 → digit_in (digit_glyph false d) ≡ Some d

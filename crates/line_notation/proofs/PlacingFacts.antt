@@ -1,30 +1,21 @@
 -- Where what a line says leads.
-use Rattle.std.proofs.Common.{◌≡◌, ◌∙◌, ℕ, List, [], ◌∷◌, false, Option, None, Some, Result, Ok}
-use Rattle.std.proofs.Common.{Err, refl, ap}
-use Rattle.nbfx_values.specs.declared.content.ArrayItem.{ArrayItem}
-use Rattle.nbfx_values.specs.declared.content.Item.{Item}
-use Rattle.nbfx_values.specs.declared.position.Position.{Position}
-use Rattle.nbfx_values.specs.declared.position.Position.TheVariants.{Before, Within, After}
-use Rattle.nbfx_values.specs.Documents.{IsDocument}
-use Rattle.nbfx_values.specs.Positions.{position_of}
+use Rattle.std.proofs.Common.{◌≡◌, ℕ, false, List, [], ◌∷◌, Some, None, Ok, Err, Option, Result}
+use Rattle.std.proofs.Common.{refl, ap, ◌∙◌}
 use Rattle.nbfx_values.proofs.Walks.{document-position, position_of-document}
-use Rattle.line_notation.specs.declared.line.Keyword.{Keyword}
-use Rattle.line_notation.specs.declared.line.Line.{Line}
-use Rattle.line_notation.specs.declared.reader.LineKind.{LineKind}
-use Rattle.line_notation.specs.declared.reader.LineKind.TheVariants.{NotALine}
-use Rattle.line_notation.specs.declared.words.Stop.{Stop}
-use Rattle.line_notation.specs.declared.words.Stop.TheVariants as stops
+use Rattle.nbfx_values.specs.declared.content.{ArrayItem.ArrayItem, Item.Item}
+use Rattle.nbfx_values.specs.{declared.position.Position.Position, Documents.IsDocument}
+use Rattle.nbfx_values.specs.declared.position.Position.TheVariants.{After, Before, Within}
+use Rattle.{nbfx_values.specs.Positions.position_of, line_notation.proofs.GatherFacts.some_same}
+use Rattle.line_notation.specs.declared.{line.Keyword.Keyword, line.Line.Line, words.Stop.Stop}
+use Rattle.line_notation.specs.declared.reader.LineKind.{LineKind, TheVariants.NotALine}
+use Rattle.line_notation.specs.{BehindKeywords.judged_behind, Steps.Stops}
 use Rattle.line_notation.specs.Forms.{Form, form_behind, form_in, form_of, keyword_in}
-use Rattle.line_notation.specs.Judging.{judged as judge}
-use Rattle.line_notation.specs.Options.{◌>>=◌}
-use Rattle.line_notation.specs.Placing.{Places, led_by, stopped}
-use Rattle.line_notation.specs.BehindKeywords.{judged_behind}
-use Rattle.line_notation.specs.Scalars.{one_word}
-use Rattle.line_notation.specs.LineReaderState.{is_passed_over, on, ends, kind_of, outcome}
+use Rattle.line_notation.specs.{Judging.judged as judge, Options.◌>>=◌}
+use Rattle.line_notation.specs.LineReaderState.{ends, is_passed_over, kind_of, on, outcome}
 use Rattle.line_notation.specs.LineReaderState.{outcome_of, placed_at}
-use Rattle.line_notation.specs.Steps.{Stops}
-use Rattle.line_notation.specs.Words.{words_of}
-use Rattle.line_notation.proofs.GatherFacts.{some_same}
+use Rattle.line_notation.specs.Placing.{led_by, Places, stopped}
+use Rattle.line_notation.specs.{Scalars.one_word, Words.words_of}
+use Rattle.line_notation.specs.declared.words.Stop.TheVariants as stops
 
 -- to the end of a document
 pub place-ends : (items : List Item) → IsDocument items → placed_at (position_of items) items

@@ -1,24 +1,18 @@
 -- A text that stands in the line itself: plain bytes in quotes.
-use Rattle.std.proofs.Common.{◌≡◌, ◌∙◌, ◌<◌, ◌≤◌, ◌+◌, ◌-◌, ◌++◌, ◌==◌, ◌&&◌, not, nat_le, nat_lt}
-use Rattle.std.proofs.Common.{slice_index, ℕ, zero, suc, List, [], ◌∷◌, length}
-use Rattle.std.proofs.Common.{take, drop, take_while, get_or, Bool, true, false, Option, None, Some}
-use Rattle.std.proofs.Common.{Result, Ok, Err, refl, sym, ap, subst, append_assoc, arith}
+use Rattle.std.proofs.Common.{◌≡◌, ℕ, zero, suc, ◌+◌, ◌-◌, ◌<◌, ◌≤◌, Bool, true, false, not, ◌&&◌}
+use Rattle.std.proofs.Common.{List, [], ◌∷◌, ◌++◌, length, get_or, take, drop, nat_lt, nat_le, ◌==◌}
+use Rattle.std.proofs.Common.{slice_index, Some, None, Ok, Err, IsUtf8, IsAscii, Option, Result}
+use Rattle.std.proofs.Common.{take_while, sym, refl, ap, ◌∙◌, subst, append_assoc, arith}
+use Rattle.std.proofs.Common.{take-append-drop, take_all, ltb-true}
+use Rattle.std.proofs.lemmas.{Bool.and_parts, List.Folds.length-prefix_len, Str.IsUtf8-from_ascii}
 use Rattle.std.specs.List.{list_all, prefix_len}
-use Rattle.std.proofs.lemmas.Bool.{and_parts, ltb-true}
-use Rattle.std.proofs.lemmas.Str.{IsUtf8-from_ascii}
-use Rattle.std.specs.Str.{IsAscii, IsUtf8}
-use Rattle.std.proofs.lemmas.List.{take-append-drop, take_all}
-use Rattle.std.proofs.lemmas.List.Folds.{length-prefix_len}
-use Rattle.line_notation.specs.declared.reader.LineKind.{LineKind}
-use Rattle.line_notation.specs.declared.words.Stop.{Stop}
-use Rattle.line_notation.specs.declared.words.Stop.TheVariants.{NotALine, Memory}
-use Rattle.line_notation.specs.Options.{◌>>=◌}
+use Rattle.line_notation.specs.{declared.reader.LineKind.LineKind, Options.◌>>=◌, Scalars.one_word}
+use Rattle.line_notation.specs.declared.words.Stop.{Stop, TheVariants.Memory, TheVariants.NotALine}
 use Rattle.line_notation.specs.Parts.{judged_text, judged_text_in}
-use Rattle.line_notation.specs.Quoted.{ArePieces, IsQuoted, is_plain}
-use Rattle.line_notation.specs.Scalars.{one_word}
+use Rattle.line_notation.specs.Quoted.{ArePieces, is_plain, IsQuoted}
 use Rattle.line_notation.specs.Steps.{CutsShown, Finds, Gives, TakesShown}
 use Rattle.line_notation.specs.Words.{words_left, words_of}
-use Rattle.line_notation.proofs.PiecesFacts.{plain-pieces, quoted_in-quoted, quoted-closes}
+use Rattle.line_notation.proofs.PiecesFacts.{plain-pieces, quoted-closes, quoted_in-quoted}
 use Rattle.line_notation.proofs.SpacedFacts.{closed-ends, closed-goes_on}
 
 -- a plain byte is below 128

@@ -1,25 +1,19 @@
 -- The texts of items, part by part.
-use Rattle.std.proofs.Common.{◌≡◌, ◌∙◌, ◌<◌, ◌^◌, ℕ, suc, false, List, [], ◌∷◌, ◌++◌, length, map}
-use Rattle.std.proofs.Common.{refl, sym, ap, append_assoc, append-nil, flat_map, arith, rules}
-use Rattle.std.proofs.Common.{codes}
-use Rattle.std.specs.Fmt.{decimal, digits_onto}
+use Rattle.std.proofs.Common.{◌≡◌, ℕ, suc, ◌^◌, ◌<◌, false, List, [], ◌∷◌, ◌++◌, map, length, codes}
+use Rattle.std.proofs.Common.{decimal, flat_map, sym, refl, ap, ◌∙◌, append_assoc, append-nil}
+use Rattle.std.{proofs.Common.arith, proofs.Common.rules, specs.Fmt.digits_onto}
 use Rattle.std.proofs.lemmas.Fmt.{decimal_from_prepends, length-decimal-le_succ}
-use Rattle.std.proofs.lemmas.Grind.{flat_map-append}
-use Rattle.nbfx_values.specs.declared.content.ArrayItem.{ArrayItem}
-use Rattle.nbfx_values.specs.declared.content.Item.TheVariants.{Array}
-use Rattle.nbfx_values.specs.declared.scalars.Scalar.{Scalar}
-use Rattle.nbfx_values.specs.declared.scalars.Value.{Value}
-use Rattle.std.proofs.lemmas.List.Folds.{flat_map-map}
-use Rattle.nbfx_values.specs.declared.content.Item.{Item}
+use Rattle.std.proofs.lemmas.{Grind.flat_map-append, List.Folds.flat_map-map}
+use Rattle.nbfx_values.specs.declared.{content.ArrayItem.ArrayItem, scalars.Scalar.Scalar}
+use Rattle.nbfx_values.specs.declared.content.Item.{Item, TheVariants.Array}
+use Rattle.nbfx_values.specs.declared.scalars.Value.{Value, TheVariants.List as ListOf}
 use Rattle.line_notation.specs.Forms.{array, attr, line_of, values}
 use Rattle.line_notation.specs.Lines.{attribute_form, form_text, forms_of, item_forms, item_text}
 use Rattle.line_notation.specs.Lines.{items_text, with_line_feed}
-use Rattle.line_notation.specs.Numerals.{count_digits}
-use Rattle.line_notation.specs.Scalars.{scalar_words}
-use Rattle.nbfx_values.specs.declared.scalars.Value.TheVariants.{List as ListOf}
+use Rattle.line_notation.specs.{Numerals.count_digits, Scalars.scalar_words}
+use Rattle.line_notation.specs.Quoted.{quoted, quoted_byte}
 use Rattle.line_notation.specs.Values.{how_many, value_words, written_scalars, written_value}
 use Rattle.line_notation.specs.Words.{behind_spaces, spaced}
-use Rattle.line_notation.specs.Quoted.{quoted, quoted_byte}
 
 -- a list of lists, and what is made of each
 pub flat_map-flat_map : {A B C : Type 0} (f : B → List C) (g : A → List B) (xs : List A)

@@ -1,41 +1,32 @@
 -- The lines that are put have the forms that they say, where records can hold what they say.
-use Rattle.std.proofs.Common.{◌≡◌, ◌∙◌, ◌<◌, ◌≤◌, ◌+◌, ◌/◌, ◌%◌, ◌^◌, ◌⊎◌, inl, inr, ℕ, List, []}
-use Rattle.std.proofs.Common.{◌∷◌, ◌++◌, length, map, Bool, true, false, cond, nat_le, nat_lt, refl}
-use Rattle.std.proofs.Common.{sym, ap, arith, ℤ, pos, negsuc}
-use Rattle.std.specs.Int.Signed.{mag}
-use Rattle.std.specs.List.{list_all}
-use Rattle.std.specs.Str.{is_utf8}
+use Rattle.std.proofs.Common.{◌≡◌, ℕ, ◌+◌, ◌/◌, ◌%◌, ◌^◌, ◌<◌, ◌≤◌, Bool, true, false, cond, ◌⊎◌}
+use Rattle.std.proofs.Common.{List, [], ◌∷◌, ◌++◌, map, length, ℤ, pos, negsuc, nat_lt, nat_le, sym}
+use Rattle.std.proofs.Common.{refl, ap, ◌∙◌, inl, inr, arith, ltb-true, lt-ltb, leb-true}
 use Rattle.std.proofs.Math.Utf8.{encode, encodes, next, scalar, scalar_cases, scalars}
-use Rattle.std.proofs.lemmas.Bool.{and_parts, leb-true, lt-ltb, ltb-true}
-use Rattle.std.proofs.lemmas.Bool.Decides.{nat_tests}
-use Rattle.std.proofs.lemmas.List.Folds.{list_all-append}
-use Rattle.std.proofs.lemmas.Str.{IsUtf8-from_is_utf8}
-use Rattle.nbfx_values.specs.declared.content.ArrayItem.{ArrayItem}
-use Rattle.nbfx_values.specs.declared.content.AttrItem.{AttrItem}
+use Rattle.std.proofs.lemmas.Bool.{and_parts, Decides.nat_tests}
+use Rattle.std.proofs.lemmas.{List.Folds.list_all-append, Str.IsUtf8-from_is_utf8}
+use Rattle.std.specs.{Int.Signed.mag, List.list_all, Str.is_utf8}
+use Rattle.nbfx_values.specs.declared.content.{ArrayItem.ArrayItem, Item.Item}
+use Rattle.nbfx_values.specs.declared.content.AttrItem.{AttrItem, TheVariants.Attr as AttrOn}
 use Rattle.nbfx_values.specs.declared.content.AttrItem.TheVariants.{Xmlns as DeclaresOn}
-use Rattle.nbfx_values.specs.declared.content.AttrItem.TheVariants.{Attr as AttrOn}
-use Rattle.nbfx_values.specs.declared.content.Item.{Item}
-use Rattle.nbfx_values.specs.declared.content.Item.TheVariants.{Start, Xmlns, Attr}
-use Rattle.nbfx_values.specs.declared.content.Item.TheVariants.{Text as TextItem, Comment, Array}
-use Rattle.nbfx_values.specs.declared.content.Item.TheVariants.{Close}
-use Rattle.nbfx_values.specs.declared.scalars.Scalar.{Scalar}
-use Rattle.nbfx_values.specs.declared.scalars.Scalar.TheVariants.{Number, Truth, Float, Double}
-use Rattle.nbfx_values.specs.declared.scalars.Scalar.TheVariants.{Decimal, DateTime, TimeSpan, Text}
-use Rattle.nbfx_values.specs.declared.scalars.Scalar.TheVariants.{Bytes, UniqueId, Uuid, QName}
-use Rattle.nbfx_values.specs.declared.scalars.Value.{Value}
-use Rattle.nbfx_values.specs.declared.scalars.Value.TheVariants.{One, List as ListOf}
+use Rattle.nbfx_values.specs.declared.content.Item.TheVariants.{Array, Attr, Close, Comment, Start}
+use Rattle.nbfx_values.specs.declared.content.Item.TheVariants.{Text as TextItem, Xmlns}
+use Rattle.nbfx_values.specs.declared.scalars.{Scalar.Scalar, Value.Value}
+use Rattle.nbfx_values.specs.declared.scalars.Scalar.TheVariants.{Bytes, DateTime, Decimal, Double}
+use Rattle.nbfx_values.specs.declared.scalars.Scalar.TheVariants.{Float, Number, QName, Text}
+use Rattle.nbfx_values.specs.declared.scalars.Scalar.TheVariants.{TimeSpan, Truth, UniqueId, Uuid}
+use Rattle.nbfx_values.specs.declared.scalars.Value.TheVariants.{List as ListOf, One}
 use Rattle.nbfx_values.specs.Items.{are_texts, is_valid_array, is_valid_attribute, is_valid_item}
 use Rattle.nbfx_values.specs.Scalars.{is_number, is_unsigned, is_valid_scalar, is_valid_value}
-use Rattle.line_notation.specs.Forms.{AreQuoted, Form, start, ns, attr, text, comment, array}
-use Rattle.line_notation.specs.Forms.{values, close, IsForm, IsLine, form_words, line_of}
+use Rattle.line_notation.specs.Forms.{AreQuoted, array, attr, close, comment, Form, form_words}
+use Rattle.line_notation.specs.Forms.{IsForm, IsLine, line_of, ns, start, text, values}
 use Rattle.line_notation.specs.Lines.{AreLines, attribute_form, forms_of, item_forms, lines_of}
 use Rattle.line_notation.specs.Quoted.{IsQuoted, quoted}
 use Rattle.line_notation.specs.Scalars.{IsScalar, scalar_words}
-use Rattle.line_notation.specs.Values.{AreValues, IsOneValue, how_many, value_words}
+use Rattle.line_notation.specs.Values.{AreValues, how_many, IsOneValue, value_words}
 use Rattle.line_notation.specs.Values.{written_scalars, written_value}
 use Rattle.line_notation.proofs.NaturalFacts.{count_digits-natural, decimal-integer}
-use Rattle.line_notation.proofs.NaturalFacts.{decimal-natural}
-use Rattle.line_notation.proofs.PiecesFacts.{quoted-quoted}
+use Rattle.line_notation.proofs.{NaturalFacts.decimal-natural, PiecesFacts.quoted-quoted}
 use Rattle.line_notation.proofs.PrintFacts.{how_many-scalars}
 use Rattle.line_notation.proofs.ValidFacts.{array-some, array_parts, number-64}
 

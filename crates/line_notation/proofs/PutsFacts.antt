@@ -1,13 +1,11 @@
 -- Puts, one behind the other.
-use Rattle.std.proofs.Common.{◌≡◌, ◌∙◌, ◌≤◌, ◌<◌, ◌+◌, ℕ, List, [], ◌∷◌, ◌++◌, length, take, drop}
-use Rattle.std.proofs.Common.{Bool, refl, sym, ap, append_assoc, append-nil, Option, Ok, Err}
-use Rattle.std.proofs.Common.{drop-cons, get_or, subst, slice_index, ◌/◌, ◌%◌, flat_map}
-use Rattle.std.proofs.lemmas.Grind.{flat_map-append}
+use Rattle.std.proofs.Common.{◌≡◌, ℕ, ◌+◌, ◌/◌, ◌%◌, ◌<◌, ◌≤◌, Bool, List, [], ◌∷◌, ◌++◌, length}
+use Rattle.std.proofs.Common.{get_or, take, drop, slice_index, Ok, Err, Option, flat_map, sym, refl}
+use Rattle.std.proofs.Common.{ap, ◌∙◌, subst, append_assoc, append-nil, take-append-drop, drop-cons}
+use Rattle.std.proofs.{Common.drop-drop, lemmas.Grind.flat_map-append, lemmas.List.drop_all}
 use Rattle.hex.specs.Hex.{encode_lower, encode_with, lower_digits}
-use Rattle.std.proofs.lemmas.List.{drop-drop, drop_all, take-append-drop}
-use Rattle.io_edges.specs.declared.SinkFault.{SinkFault}
-use Rattle.io_edges.specs.Puts.{PutsAll}
-use Rattle.io_edges.proofs.Putting.{PutsAll-nothing, PutsAll-then, PutsAll-cut}
+use Rattle.io_edges.proofs.Putting.{PutsAll-cut, PutsAll-nothing, PutsAll-then}
+use Rattle.io_edges.specs.{declared.SinkFault.SinkFault, Puts.PutsAll}
 
 -- what is said of lists is said of one list behind another
 pub record Joins {A : Type 0} (spell : List A → List ℕ) : Type 0 where

@@ -1,11 +1,10 @@
 -- Plain bytes in quotes.
+use Rattle.std.proofs.Common.{◌≡◌, ℕ, zero, suc, ◌+◌, ◌<◌, ◌≤◌, Bool, true, false, List, [], ◌∷◌}
+use Rattle.std.proofs.Common.{length, get_or, take, drop, if◌then◌else◌, take_while, flat_map, sym}
+use Rattle.std.proofs.Common.{refl, ap, ◌∙◌, arith}
+use Rattle.std.proofs.lemmas.{Bool.and_parts, List.Folds.length-prefix_len}
 use Rattle.std.specs.List.{list_all, prefix_len}
-use Rattle.std.proofs.lemmas.Bool.{and_parts}
-use Rattle.std.proofs.lemmas.List.Folds.{length-prefix_len}
-use Rattle.std.proofs.Common.{arith, get_or, ◌≡◌, ◌∙◌, ◌<◌, ◌≤◌, ◌+◌, ℕ, zero, suc, List, [], ◌∷◌}
-use Rattle.std.proofs.Common.{length, take, drop, take_while, Bool, true, false, if◌then◌else◌}
-use Rattle.std.proofs.Common.{refl, sym, ap, flat_map}
-use Rattle.line_notation.specs.Quoted.{is_plain, quoted_byte, escape}
+use Rattle.line_notation.specs.Quoted.{escape, is_plain, quoted_byte}
 
 -- a plain byte, and another one
 pub quoted_byte-plain : (b : ℕ) → is_plain b ≡ true → quoted_byte b ≡ b ∷ []
@@ -31,19 +30,6 @@ plain-shown (b ∷ bytes) = go (is_plain b) refl (plain-shown bytes)
 pub front-shown : (bytes : List ℕ) (n : ℕ) → n ≡ length (take_while is_plain bytes)
     → flat_map quoted_byte (take n bytes) ≡ take n bytes
 front-shown bytes n e = rw (e ∙ length-prefix_len is_plain bytes) (plain-shown bytes)
-
--- none at the front is plain
-none-plain : (b : ℕ) (bytes : List ℕ) (t : Bool) → is_plain b ≡ t
-    → length (take_while is_plain (b ∷ bytes)) ≡ 0 → t ≡ false
-none-plain b bytes true e h = absurd (let f : 1 + prefix_len is_plain bytes
-    ≡ 0 = rw e at (sym (length-prefix_len is_plain (b ∷ bytes)) ∙ h) in omega (arith, f))
-none-plain b bytes false e h = refl
-
-pub first-escaped : (bytes : List ℕ) → 0 < length bytes → length (take_while is_plain bytes) ≡ 0
-    → flat_map quoted_byte (take 1 bytes) ≡ escape (get_or (take 1 bytes) 0 0)
-first-escaped [] some none = absurd (omega arith)
-first-escaped (b ∷ bytes) some none =
-    rw (quoted_byte-other b (none-plain b bytes (is_plain b) refl none)) refl
 
 -- all are plain
 pub all-shown : (bytes : List ℕ) → list_all is_plain bytes ≡ true → flat_map quoted_byte bytes

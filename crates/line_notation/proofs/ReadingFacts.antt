@@ -1,34 +1,26 @@
 -- What the words behind each keyword say, read and judged at once.
-use Rattle.std.proofs.Common.{◌≡◌, ◌∙◌, ℕ, List, [], ◌∷◌, Bool, true, false, not, ◌&&◌}
-use Rattle.std.proofs.Common.{if◌then◌else◌, Option, None, Some, Result, Ok, Err, refl, sym, ap}
-use Rattle.std.proofs.Common.{nat_lt}
-use Rattle.std.specs.Str.{is_utf8}
-use Rattle.nbfx_values.specs.declared.content.ArrayKind.{ArrayKind}
-use Rattle.nbfx_values.specs.declared.content.Item.TheVariants.{Start, Xmlns, Attr, Text, Comment}
-use Rattle.nbfx_values.specs.declared.scalars.Scalar.{Scalar}
-use Rattle.nbfx_values.specs.Items.{fits_kind}
-use Rattle.line_notation.specs.declared.line.Keyword.TheVariants as keywords
-use Rattle.line_notation.specs.declared.line.Line.{Line}
-use Rattle.line_notation.specs.declared.line.Line.TheVariants as says
-use Rattle.line_notation.specs.declared.reader.LineKind.{LineKind}
+use Rattle.std.proofs.Common.{◌≡◌, ℕ, Bool, true, false, not, ◌&&◌, List, [], ◌∷◌, if◌then◌else◌}
+use Rattle.std.proofs.Common.{nat_lt, Some, None, Ok, Err, Option, Result, sym, refl, ap, ◌∙◌}
+use Rattle.{std.specs.Str.is_utf8, nbfx_values.specs.Items.fits_kind}
+use Rattle.nbfx_values.specs.declared.{content.ArrayKind.ArrayKind, scalars.Scalar.Scalar}
+use Rattle.nbfx_values.specs.declared.content.Item.TheVariants.{Attr, Comment, Start, Text, Xmlns}
+use Rattle.line_notation.specs.declared.{line.Line.Line, reader.LineKind.LineKind}
 use Rattle.line_notation.specs.declared.reader.LineKind.TheVariants.{BadText, OutOfRange}
-use Rattle.line_notation.specs.Forms.{Form, start, ns, attr, text, comment, array, values}
-use Rattle.line_notation.specs.Forms.{array_kind_in, two_texts_at}
+use Rattle.line_notation.specs.BehindKeywords.{as_attribute, judged_behind, read_array, values_of}
+use Rattle.line_notation.specs.BehindKeywords.{read_attribute, read_comment, read_declaration}
+use Rattle.line_notation.specs.BehindKeywords.{read_start, read_text, read_values, texts_alone}
+use Rattle.line_notation.specs.Forms.{array, array_kind_in, attr, comment, Form, ns, start, text}
+use Rattle.line_notation.specs.{Forms.two_texts_at, Forms.values, Options.alone, Options.◌>>=◌}
 use Rattle.line_notation.specs.Judging.{are_in_range, are_scalars, begun_array, have_good_texts}
 use Rattle.line_notation.specs.Judging.{judged, said, scalars_of, value_said}
-use Rattle.line_notation.specs.Options.{alone, ◌>>=◌}
 use Rattle.line_notation.specs.Parts.{both, holder_of, judged_by, judged_scalars, judged_text}
 use Rattle.line_notation.specs.Parts.{judged_text_in, judged_texts_at, judged_value}
 use Rattle.line_notation.specs.Parts.{judged_value_in, mapped}
-use Rattle.line_notation.specs.Quoted.{quoted_in}
-use Rattle.line_notation.specs.BehindKeywords.{read_array, read_attribute, as_attribute}
-use Rattle.line_notation.specs.BehindKeywords.{read_comment, read_declaration, judged_behind}
-use Rattle.line_notation.specs.BehindKeywords.{read_start, read_text, texts_alone, read_values}
-use Rattle.line_notation.specs.BehindKeywords.{values_of}
-use Rattle.line_notation.specs.Scalars.{one_word}
-use Rattle.line_notation.specs.Values.{Written, how_many, if_some, value_in}
-use Rattle.line_notation.specs.Values.{values_in as written_in}
+use Rattle.line_notation.specs.{Quoted.quoted_in, Scalars.one_word, Values.Written}
+use Rattle.line_notation.specs.Values.{how_many, if_some, value_in, values_in as written_in}
 use Rattle.line_notation.proofs.GatherFacts.{held-range}
+use Rattle.line_notation.specs.declared.line.Keyword.TheVariants as keywords
+use Rattle.line_notation.specs.declared.line.Line.TheVariants as says
 
 -- a list of bytes, texts in front of words, and the same judged
 abbrev Bytes : Type 0

@@ -1,31 +1,27 @@
 -- Why a line is refused.
-use Rattle.std.proofs.Common.{◌≡◌, ◌∙◌, ℕ, List, [], ◌∷◌, ◌++◌, Bool, true, false, if◌then◌else◌}
-use Rattle.std.proofs.Common.{Option, None, Some, Result, Ok, Err, refl, sym, ap}
-use Rattle.nbfx_values.specs.declared.content.ArrayItem.{ArrayItem}
-use Rattle.nbfx_values.specs.declared.content.ArrayKind.TheVariants.{Bool as Bools}
-use Rattle.nbfx_values.specs.declared.content.Item.{Item}
-use Rattle.nbfx_values.specs.declared.content.Item.TheVariants.{Start, Xmlns, Comment, Array, Close}
-use Rattle.nbfx_values.specs.declared.position.Position.{Position}
-use Rattle.nbfx_values.specs.declared.position.Position.TheVariants.{Before, Within, After}
-use Rattle.nbfx_values.specs.declared.scalars.Scalar.TheVariants.{Truth}
-use Rattle.nbfx_values.specs.Items.{is_valid_array}
-use Rattle.nbfx_values.specs.Positions.{position_from, position_of}
+use Rattle.std.proofs.Common.{◌≡◌, ℕ, Bool, true, false, List, [], ◌∷◌, ◌++◌, if◌then◌else◌, Some}
+use Rattle.std.proofs.Common.{None, Ok, Err, Option, Result, sym, refl, ap, ◌∙◌}
 use Rattle.nbfx_values.proofs.OnLiterals.{values_on_literals}
 use Rattle.nbfx_values.proofs.Positions.{position_from-append, position_of-push}
 use Rattle.nbfx_values.proofs.Walks.{none-no_front, position_of-front}
-use Rattle.line_notation.specs.declared.reader.LineKind.{LineKind}
-use Rattle.line_notation.specs.declared.reader.LineKind.TheVariants.{NotALine, BadText, OutOfRange}
-use Rattle.line_notation.specs.declared.reader.LineKind.TheVariants.{OutOfPlace, Cut, WrongCount}
-use Rattle.line_notation.specs.Forms.{Form, start, ns, attr, text, comment, array, values, close}
-use Rattle.line_notation.specs.Forms.{IsLine, form_of}
+use Rattle.nbfx_values.specs.declared.content.{ArrayItem.ArrayItem, Item.Item}
+use Rattle.nbfx_values.specs.declared.content.ArrayKind.TheVariants.{Bool as Bools}
+use Rattle.nbfx_values.specs.declared.content.Item.TheVariants.{Array, Close, Comment, Start, Xmlns}
+use Rattle.nbfx_values.specs.declared.{position.Position.Position, scalars.Scalar.TheVariants.Truth}
+use Rattle.nbfx_values.specs.declared.position.Position.TheVariants.{After, Before, Within}
+use Rattle.nbfx_values.specs.{Items.is_valid_array, Positions.position_from, Positions.position_of}
+use Rattle.line_notation.specs.declared.reader.LineKind.{LineKind, TheVariants.WrongCount}
+use Rattle.line_notation.specs.declared.reader.LineKind.TheVariants.{BadText, Cut, NotALine}
+use Rattle.line_notation.specs.declared.reader.LineKind.TheVariants.{OutOfPlace, OutOfRange}
+use Rattle.line_notation.specs.Forms.{array, attr, close, comment, Form, form_of, IsLine, ns, start}
+use Rattle.line_notation.specs.{Forms.text, Forms.values, LineReaderState.placed_item}
 use Rattle.line_notation.specs.Judging.{begun_array, has_bad_text, is_out_of_range, judged, said}
+use Rattle.line_notation.specs.LineReaderState.{is_passed_over, kind_of, led, on, outcome}
+use Rattle.line_notation.specs.LineReaderState.{outcome_of, Placed, placed_array, placed_at}
 use Rattle.line_notation.specs.Refusals.{CannotFollow, CannotStand, HasBadText, IsNoLine}
 use Rattle.line_notation.specs.Refusals.{IsOutOfPlace, IsOutOfRange, IsRefusedForNothingElse}
-use Rattle.line_notation.specs.LineReaderState.{is_passed_over, Placed, on, kind_of, led, outcome}
-use Rattle.line_notation.specs.LineReaderState.{outcome_of, placed_array, placed_at, placed_item}
 use Rattle.line_notation.proofs.FormFacts.{line-read, read-line}
-use Rattle.line_notation.proofs.LinesRead.{outcome-form}
-use Rattle.line_notation.proofs.PlacingFacts.{outcome-read}
+use Rattle.line_notation.proofs.{LinesRead.outcome-form, PlacingFacts.outcome-read}
 
 -- what can't stand behind items is out of place, and nothing is refused otherwise there
 abbrev RefusesPlace : Result Placed LineKind → Type 0 → Type 0

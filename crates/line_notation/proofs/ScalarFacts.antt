@@ -1,32 +1,24 @@
 -- Words write a value that is no list exactly where it is read out of them.
-use Rattle.std.proofs.Common.{◌≡◌, ◌∙◌, ◌<◌, ◌≤◌, ◌+◌, ◌-◌, ℕ, List, [], ◌∷◌, ◌++◌, Bool, true}
-use Rattle.std.proofs.Common.{false, ◌&&◌, if◌then◌else◌, nat_le, nat_lt, Option, None, Some, refl}
-use Rattle.std.proofs.Common.{sym, ap, subst, arith, codes}
-use Rattle.std.specs.Int.{w32, w64}
-use Rattle.std.specs.List.{find}
-use Rattle.std.specs.Str.{bytes_eq}
-use Rattle.std.proofs.lemmas.Bool.{and_parts, le-leb, leb-true, lt-ltb, ltb-true}
-use Rattle.std.proofs.lemmas.Slice.Eq.{bytes_eq-Decides}
-use Rattle.hex.specs.Hex.{encode_lower}
-use Rattle.nbfx_values.specs.declared.scalars.Dec.{Dec}
-use Rattle.nbfx_values.specs.declared.scalars.Scalar.{Scalar}
-use Rattle.nbfx_values.specs.declared.scalars.Scalar.TheVariants.{Number, Truth, Float, Double}
-use Rattle.nbfx_values.specs.declared.scalars.Scalar.TheVariants.{Decimal, DateTime, TimeSpan, Text}
-use Rattle.nbfx_values.specs.declared.scalars.Scalar.TheVariants.{Bytes, UniqueId, Uuid, QName}
-use Rattle.nbfx_values.specs.Scalars.{are_bytes}
-use Rattle.line_notation.specs.declared.scalars.ScalarKind.{ScalarKind}
-use Rattle.line_notation.specs.declared.scalars.ScalarKind.TheVariants as kinds
+use Rattle.std.proofs.Common.{◌≡◌, ℕ, ◌+◌, ◌-◌, ◌<◌, ◌≤◌, Bool, true, false, ◌&&◌, List, [], ◌∷◌}
+use Rattle.std.proofs.Common.{◌++◌, if◌then◌else◌, nat_lt, nat_le, Some, None, codes, Option, find}
+use Rattle.std.proofs.Common.{bytes_eq, sym, refl, ap, ◌∙◌, subst, arith, w32, w64, ltb-true}
+use Rattle.std.proofs.Common.{lt-ltb, le-leb, leb-true}
+use Rattle.std.proofs.lemmas.{Bool.and_parts, Slice.Eq.bytes_eq-Decides}
+use Rattle.{hex.specs.Hex.encode_lower, nbfx_values.specs.Scalars.are_bytes}
+use Rattle.nbfx_values.specs.declared.scalars.{Dec.Dec, Scalar.Scalar}
+use Rattle.nbfx_values.specs.declared.scalars.Scalar.TheVariants.{Bytes, DateTime, Decimal, Double}
+use Rattle.nbfx_values.specs.declared.scalars.Scalar.TheVariants.{Float, Number, QName, Text}
+use Rattle.nbfx_values.specs.declared.scalars.Scalar.TheVariants.{TimeSpan, Truth, UniqueId, Uuid}
+use Rattle.line_notation.specs.{declared.scalars.ScalarKind.ScalarKind, Options.◌>>=◌}
 use Rattle.line_notation.specs.Numerals.{bytes_in, hexadecimal, hexadecimal_in, integer_in}
-use Rattle.line_notation.specs.Numerals.{natural_in}
-use Rattle.line_notation.specs.Options.{◌>>=◌}
-use Rattle.line_notation.specs.Quoted.{between_quotes, quoted_in}
-use Rattle.line_notation.specs.Scalars.{IsScalar, bytes_in_quotes, decimal_at, decimal_of}
-use Rattle.line_notation.specs.Scalars.{digits_in_quotes, identifier_in, identifier_word, letter_in}
+use Rattle.line_notation.specs.{Numerals.natural_in, Quoted.between_quotes, Quoted.quoted_in}
+use Rattle.line_notation.specs.Scalars.{bytes_in_quotes, decimal_at, decimal_of, digits_in_quotes}
+use Rattle.line_notation.specs.Scalars.{identifier_in, identifier_word, IsScalar, letter_in}
 use Rattle.line_notation.specs.Scalars.{letter_word, name_at, one_word, scalar_at, scalar_kind_in}
 use Rattle.line_notation.specs.Scalars.{scalar_kind_word, scalar_kinds, sign_in, sign_word}
 use Rattle.line_notation.specs.Scalars.{truth_in, truth_word, valued}
-use Rattle.line_notation.specs.Values.{Token, plain_at, scalar, token_at}
-use Rattle.line_notation.proofs.GatherFacts.{some_same}
+use Rattle.line_notation.specs.Values.{plain_at, scalar, Token, token_at}
+use Rattle.line_notation.proofs.{GatherFacts.some_same, TokenFacts.found}
 use Rattle.line_notation.proofs.HexFacts.{bytes_in-encoded, encoded-bytes_in, hexadecimal_in-32}
 use Rattle.line_notation.proofs.HexFacts.{hexadecimal_in-64, is_hexadecimal-32, is_hexadecimal-64}
 use Rattle.line_notation.proofs.IdentifierFacts.{identifier_in-word, is_identifier-word}
@@ -34,7 +26,7 @@ use Rattle.line_notation.proofs.NaturalFacts.{integer-integer_in, integer_in-int
 use Rattle.line_notation.proofs.NaturalFacts.{natural-natural_in, natural_in-natural}
 use Rattle.line_notation.proofs.PiecesFacts.{between-quoted, quoted-between, quoted-quoted_in}
 use Rattle.line_notation.proofs.PiecesFacts.{quoted_in-quoted}
-use Rattle.line_notation.proofs.TokenFacts.{found}
+use Rattle.line_notation.specs.declared.scalars.ScalarKind.TheVariants as kinds
 
 -- what one word writes
 one-read : {A : Type 0} (read : List ℕ → Option A) (word : List ℕ) (rest : List (List ℕ)) (a : A)

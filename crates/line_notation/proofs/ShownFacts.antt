@@ -1,22 +1,17 @@
 -- No line of a form has a line feed in it, so that the text of lines is cut at its line feeds.
-use Rattle.std.proofs.Common.{◌≡◌, ◌∙◌, ◌==◌, ◌<◌, ◌/◌, ◌%◌, inl, inr, ℕ, List, [], ◌∷◌, ◌++◌, Bool}
-use Rattle.std.proofs.Common.{true, false, not, ◌&&◌, if◌then◌else◌, flat_map, nat_le, nat_lt, refl}
-use Rattle.std.proofs.Common.{ap, append_assoc, arith}
-use Rattle.std.specs.Fmt.{digit_glyph}
-use Rattle.std.specs.List.{list_all}
-use Rattle.std.proofs.lemmas.Bool.{and_parts, leb-true, not-true}
-use Rattle.std.proofs.lemmas.List.Folds.{list_all-append}
-use Rattle.nbfx_values.specs.declared.content.Item.{Item}
-use Rattle.nbfx_values.specs.Items.{is_valid_item}
-use Rattle.line_notation.specs.Forms.{Form, IsLine}
-use Rattle.line_notation.specs.Lines.{AreLines, cut, cut_before, forms_of, has_no_feed, lines_of}
-use Rattle.line_notation.specs.Lines.{items_text, with_line_feed}
-use Rattle.line_notation.specs.Quoted.{ArePieces, IsPiece, IsQuoted, is_plain}
+use Rattle.std.proofs.Common.{◌≡◌, ℕ, ◌/◌, ◌%◌, ◌<◌, Bool, true, false, not, ◌&&◌, List, [], ◌∷◌}
+use Rattle.std.proofs.Common.{◌++◌, if◌then◌else◌, nat_lt, nat_le, ◌==◌, flat_map, refl, ap, ◌∙◌}
+use Rattle.std.proofs.Common.{inl, inr, append_assoc, arith, leb-true}
+use Rattle.std.proofs.lemmas.{Bool.and_parts, Bool.not-true, List.Folds.list_all-append}
+use Rattle.std.specs.{Fmt.digit_glyph, List.list_all}
+use Rattle.nbfx_values.specs.{declared.content.Item.Item, Items.is_valid_item}
+use Rattle.line_notation.specs.{Forms.Form, Forms.IsLine, Lines.lines_of, Lines.with_line_feed}
+use Rattle.line_notation.specs.Lines.{AreLines, cut, cut_before, forms_of, has_no_feed, items_text}
+use Rattle.line_notation.specs.Quoted.{ArePieces, is_plain, IsPiece, IsQuoted}
 use Rattle.line_notation.specs.Words.{behind_spaces, spaced}
-use Rattle.line_notation.proofs.LineWords.{AreWords, IsWord, glyph-solid, line-words}
+use Rattle.line_notation.proofs.{GatherFacts.eqb-other, SpacedFacts.is_solid}
+use Rattle.line_notation.proofs.LineWords.{AreWords, glyph-solid, IsWord, line-words}
 use Rattle.line_notation.proofs.PutForms.{lines_of-lines}
-use Rattle.line_notation.proofs.SpacedFacts.{is_solid}
-use Rattle.line_notation.proofs.GatherFacts.{eqb-other}
 
 -- a byte of 32 or above, and words of such bytes
 abbrev is_shown : ℕ → Bool

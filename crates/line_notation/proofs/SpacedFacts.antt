@@ -1,13 +1,10 @@
 -- The words of a line that has these words, and the line of the words that a line has.
-use Rattle.std.proofs.Common.{◌≡◌, ◌∙◌, ◌==◌, ◌<◌, ◌≤◌, ℕ, List, [], ◌∷◌, ◌++◌, Bool, true, false}
-use Rattle.std.proofs.Common.{not, ◌&&◌, if◌then◌else◌, nat_le, nat_lt, refl, sym, ap, append-nil}
-use Rattle.std.proofs.Common.{arith}
-use Rattle.std.specs.List.{list_all}
-use Rattle.std.proofs.lemmas.Bool.{and_parts, eqb-true, le-leb, lt-ltb, not-true}
-use Rattle.line_notation.specs.Quoted.{is_plain}
+use Rattle.std.proofs.Common.{◌≡◌, ℕ, ◌<◌, ◌≤◌, Bool, true, false, not, ◌&&◌, List, [], ◌∷◌, ◌++◌}
+use Rattle.std.proofs.Common.{if◌then◌else◌, nat_lt, nat_le, ◌==◌, sym, refl, ap, ◌∙◌, append-nil}
+use Rattle.std.proofs.Common.{arith, lt-ltb, eqb-true, le-leb}
+use Rattle.std.{proofs.lemmas.Bool.and_parts, proofs.lemmas.Bool.not-true, specs.List.list_all}
+use Rattle.line_notation.{specs.Quoted.is_plain, specs.Words.words_of, proofs.GatherFacts.eqb-other}
 use Rattle.line_notation.specs.Words.{behind_spaces, goes_on_within, onto_first, spaced, words_from}
-use Rattle.line_notation.specs.Words.{words_of}
-use Rattle.line_notation.proofs.GatherFacts.{eqb-other}
 
 -- a line has a first word
 record HasFirst (words : List (List ℕ)) : Type 0 where

@@ -1,14 +1,11 @@
 -- Where lines lead, line by line.
-use Rattle.std.proofs.Common.{◌≡◌, ◌∙◌, ◌+◌, ℕ, List, [], ◌∷◌, ◌++◌, length, Result, Ok, Err, refl}
-use Rattle.std.proofs.Common.{sym, ap, subst, append_assoc, append-nil, arith}
-use Rattle.std.proofs.lemmas.List.{length-append}
-use Rattle.line_notation.specs.declared.reader.LineFault.{LineFault}
-use Rattle.line_notation.specs.declared.reader.LineFault.TheVariants.{Bad}
-use Rattle.line_notation.specs.declared.reader.LineKind.{LineKind}
-use Rattle.line_notation.specs.Laws.{IsRefusedAt}
-use Rattle.line_notation.specs.LineReaderState.{Placed, Standing, after, ends, failed, going, on}
-use Rattle.line_notation.specs.LineReaderState.{outcome, standing, standing_from, standing_of}
-use Rattle.line_notation.specs.LineReaderState.{at_start}
+use Rattle.std.proofs.Common.{◌≡◌, ℕ, ◌+◌, List, [], ◌∷◌, ◌++◌, length, Ok, Err, Result, sym, refl}
+use Rattle.std.proofs.Common.{ap, ◌∙◌, subst, append_assoc, append-nil, arith, length-append}
+use Rattle.line_notation.specs.declared.reader.LineFault.{LineFault, TheVariants.Bad}
+use Rattle.line_notation.specs.{declared.reader.LineKind.LineKind, Laws.IsRefusedAt}
+use Rattle.line_notation.specs.LineReaderState.{after, at_start, ends, failed, going, on, outcome}
+use Rattle.line_notation.specs.LineReaderState.{Placed, Standing, standing, standing_from}
+use Rattle.line_notation.specs.LineReaderState.{standing_of}
 
 -- a line more
 more-from : (z : Standing) (lines : List (List ℕ)) (line : List ℕ) → standing_from z

@@ -1,13 +1,11 @@
 -- What lines lead to, one after the other.
-use Rattle.std.proofs.Common.{◌≡◌, ◌∙◌, ◌+◌, ℕ, List, [], ◌∷◌, ◌++◌, length, Option, None, Result}
-use Rattle.std.proofs.Common.{Ok, refl, sym, ap, append_assoc, arith}
-use Rattle.std.proofs.lemmas.List.{length-append}
-use Rattle.nbfx_values.specs.declared.content.ArrayItem.{ArrayItem}
-use Rattle.nbfx_values.specs.declared.content.Item.{Item}
+use Rattle.std.proofs.Common.{◌≡◌, ℕ, ◌+◌, List, [], ◌∷◌, ◌++◌, length, None, Ok, Option, Result}
+use Rattle.std.proofs.Common.{sym, refl, ap, ◌∙◌, append_assoc, arith, length-append}
+use Rattle.nbfx_values.specs.declared.content.{ArrayItem.ArrayItem, Item.Item}
 use Rattle.line_notation.specs.declared.reader.LineKind.{LineKind}
-use Rattle.line_notation.specs.LineReaderState.{Placed, Standing, after, answer, answer_of}
-use Rattle.line_notation.specs.LineReaderState.{document_of, documents_from, going, on, ends}
-use Rattle.line_notation.specs.LineReaderState.{outcome, standing_from, standing_of}
+use Rattle.line_notation.specs.LineReaderState.{after, answer, answer_of, document_of}
+use Rattle.line_notation.specs.LineReaderState.{documents_from, ends, going, on, outcome, Placed}
+use Rattle.line_notation.specs.LineReaderState.{Standing, standing_from, standing_of}
 
 -- behind these lines a reader stands there, and they brought these documents
 pub record Leads (z : Standing) (lines : List (List ℕ)) (z' : Standing) (docs : List (List Item)) :

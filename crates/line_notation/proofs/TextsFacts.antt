@@ -1,15 +1,12 @@
 -- Texts out of pieces.
-use Rattle.std.proofs.Common.{◌≡◌, ◌∙◌, ◌<◌, ◌+◌, ◌==◌, ℕ, suc, List, [], ◌∷◌, ◌++◌, length, take}
-use Rattle.std.proofs.Common.{drop, take_while, Bool, true, false, not, ◌&&◌, if◌then◌else◌, Option}
-use Rattle.std.proofs.Common.{None, Some, Ok, Err, refl, sym, ap, append_assoc, arith, nat_le}
-use Rattle.std.proofs.Common.{nat_lt}
-use Rattle.std.specs.List.{prefix_len}
-use Rattle.std.specs.Str.{IsUtf8, is_utf8}
-use Rattle.std.proofs.lemmas.Bool.{and_parts}
-use Rattle.std.proofs.lemmas.List.Folds.{length-prefix_len}
+use Rattle.std.proofs.Common.{◌≡◌, ℕ, suc, ◌+◌, ◌<◌, Bool, true, false, not, ◌&&◌, List, [], ◌∷◌}
+use Rattle.std.proofs.Common.{◌++◌, length, take, drop, if◌then◌else◌, nat_lt, nat_le, ◌==◌, Some}
+use Rattle.std.proofs.Common.{None, Ok, Err, IsUtf8, Option, take_while, sym, refl, ap, ◌∙◌}
+use Rattle.std.proofs.Common.{append_assoc, arith}
+use Rattle.std.proofs.lemmas.{Bool.and_parts, List.Folds.length-prefix_len}
 use Rattle.std.proofs.lemmas.Str.{IsUtf8-from_is_utf8, is_utf8-from_IsUtf8}
-use Rattle.line_notation.specs.declared.reader.LineKind.TheVariants.{BadText}
-use Rattle.line_notation.specs.Options.{◌>>=◌}
+use Rattle.std.specs.{List.prefix_len, Str.is_utf8}
+use Rattle.line_notation.specs.{declared.reader.LineKind.TheVariants.BadText, Options.◌>>=◌}
 use Rattle.line_notation.specs.Parts.{escape_at, judged_text}
 use Rattle.line_notation.specs.Quoted.{is_plain, unescaped}
 

@@ -1,27 +1,23 @@
 -- The tokens of values: each takes a word, and all of them take all words.
-use Rattle.std.proofs.Common.{◌≡◌, ◌∙◌, ◌<◌, ◌≤◌, ◌^◌, ℕ, suc, zero, List, [], ◌∷◌, length, Bool}
-use Rattle.std.proofs.Common.{true, false, if◌then◌else◌, Option, None, Some, refl, sym, ap, subst}
-use Rattle.std.proofs.Common.{arith, codes, nat_le}
-use Rattle.std.specs.Str.{bytes_eq}
+use Rattle.std.proofs.Common.{◌≡◌, ℕ, zero, suc, ◌^◌, ◌<◌, ◌≤◌, Bool, true, false, List, [], ◌∷◌}
+use Rattle.std.proofs.Common.{length, if◌then◌else◌, nat_le, Some, None, codes, Option, bytes_eq}
+use Rattle.std.proofs.Common.{sym, refl, ap, ◌∙◌, subst, arith, w32, w64}
 use Rattle.nbfx_values.specs.declared.scalars.Scalar.{Scalar}
-use Rattle.nbfx_values.specs.declared.scalars.Scalar.TheVariants.{Decimal, QName, Number, Truth}
-use Rattle.nbfx_values.specs.declared.scalars.Scalar.TheVariants.{Float, Double, DateTime, TimeSpan}
-use Rattle.nbfx_values.specs.declared.scalars.Scalar.TheVariants.{Text, Bytes, UniqueId, Uuid}
-use Rattle.std.specs.Int.{w32, w64}
-use Rattle.line_notation.specs.declared.scalars.ScalarKind.{ScalarKind}
-use Rattle.line_notation.specs.declared.scalars.ScalarKind.TheVariants as kinds
-use Rattle.line_notation.specs.declared.values.JudgedToken.{JudgedToken}
+use Rattle.nbfx_values.specs.declared.scalars.Scalar.TheVariants.{Bytes, DateTime, Decimal, Double}
+use Rattle.nbfx_values.specs.declared.scalars.Scalar.TheVariants.{Float, Number, QName, Text}
+use Rattle.nbfx_values.specs.declared.scalars.Scalar.TheVariants.{TimeSpan, Truth, UniqueId, Uuid}
+use Rattle.line_notation.specs.{declared.scalars.ScalarKind.ScalarKind, Options.◌>>=◌}
+use Rattle.line_notation.specs.{declared.values.JudgedToken.JudgedToken, Quoted.quoted_in}
 use Rattle.line_notation.specs.Numerals.{hexadecimal_in, integer_in, natural_in}
-use Rattle.line_notation.specs.Options.{◌>>=◌}
 use Rattle.line_notation.specs.Parts.{judged_token, judged_token_at}
-use Rattle.line_notation.specs.Quoted.{quoted_in}
 use Rattle.line_notation.specs.Scalars.{bytes_in_quotes, decimal_at, decimal_of, identifier_in}
 use Rattle.line_notation.specs.Scalars.{letter_in, name_at, one_word, scalar_at, scalar_kind_in}
 use Rattle.line_notation.specs.Scalars.{sign_in, truth_in, valued}
-use Rattle.line_notation.specs.Values.{Token, scalar, listed, Written, one, list, behind, count_at}
-use Rattle.line_notation.specs.Values.{first, gathered, how_many, plain_at, token_at, tokens_within}
-use Rattle.line_notation.specs.Values.{values_in}
+use Rattle.line_notation.specs.Values.{behind, count_at, first, gathered, how_many, list, listed}
+use Rattle.line_notation.specs.Values.{one, plain_at, scalar, Token, token_at, tokens_within}
+use Rattle.line_notation.specs.Values.{values_in, Written}
 use Rattle.line_notation.proofs.GatherFacts.{Few, how_many-behind, put, some_same}
+use Rattle.line_notation.specs.declared.scalars.ScalarKind.TheVariants as kinds
 
 -- what a second step found
 pub record Found {A B : Type 0} (read : Option A) (step : A → Option B) (b : B) : Type 0 where

@@ -1,21 +1,16 @@
 -- What fits an array is a value that records can hold.
-use Rattle.std.proofs.Common.{◌≡◌, ◌<◌, ℤ, pos, negsuc, true, List, [], ◌∷◌, length, nat_lt, refl}
-use Rattle.std.proofs.Common.{arith}
-use Rattle.std.specs.List.{list_all}
-use Rattle.std.proofs.lemmas.Bool.{and_parts, ltb-true}
-use Rattle.std.proofs.lemmas.Bool.Decides.{nat_tests}
-use Rattle.nbfx_values.specs.declared.content.ArrayItem.{ArrayItem}
-use Rattle.nbfx_values.specs.declared.content.ArrayKind.{ArrayKind}
-use Rattle.nbfx_values.specs.declared.content.ArrayKind.TheVariants.{Bool as Bools, Int16, Int32}
-use Rattle.nbfx_values.specs.declared.content.ArrayKind.TheVariants.{Int64, Float as Floats}
-use Rattle.nbfx_values.specs.declared.content.ArrayKind.TheVariants.{Double as Doubles}
-use Rattle.nbfx_values.specs.declared.content.ArrayKind.TheVariants.{Decimal as Decimals}
+use Rattle.std.proofs.Common.{◌≡◌, ◌<◌, true, List, [], ◌∷◌, length, ℤ, pos, negsuc, nat_lt, refl}
+use Rattle.std.{proofs.Common.arith, proofs.Common.ltb-true, specs.List.list_all}
+use Rattle.std.proofs.lemmas.Bool.{and_parts, Decides.nat_tests}
+use Rattle.nbfx_values.specs.declared.{content.ArrayItem.ArrayItem, scalars.Scalar.Scalar}
+use Rattle.nbfx_values.specs.declared.content.ArrayKind.{ArrayKind, TheVariants.Decimal as Decimals}
+use Rattle.nbfx_values.specs.declared.content.ArrayKind.TheVariants.{Bool as Bools, Uuid as Uuids}
 use Rattle.nbfx_values.specs.declared.content.ArrayKind.TheVariants.{DateTime as DateTimes}
-use Rattle.nbfx_values.specs.declared.content.ArrayKind.TheVariants.{TimeSpan as TimeSpans}
-use Rattle.nbfx_values.specs.declared.content.ArrayKind.TheVariants.{Uuid as Uuids}
-use Rattle.nbfx_values.specs.declared.scalars.Scalar.{Scalar}
-use Rattle.nbfx_values.specs.declared.scalars.Scalar.TheVariants.{Number, Truth, Float, Double}
-use Rattle.nbfx_values.specs.declared.scalars.Scalar.TheVariants.{Decimal, DateTime, TimeSpan, Uuid}
+use Rattle.nbfx_values.specs.declared.content.ArrayKind.TheVariants.{Double as Doubles}
+use Rattle.nbfx_values.specs.declared.content.ArrayKind.TheVariants.{Float as Floats, Int16, Int32}
+use Rattle.nbfx_values.specs.declared.content.ArrayKind.TheVariants.{Int64, TimeSpan as TimeSpans}
+use Rattle.nbfx_values.specs.declared.scalars.Scalar.TheVariants.{DateTime, Decimal, Double, Float}
+use Rattle.nbfx_values.specs.declared.scalars.Scalar.TheVariants.{Number, TimeSpan, Truth, Uuid}
 use Rattle.nbfx_values.specs.Items.{are_texts, fits_kind, is_valid_array, is_valid_attribute}
 use Rattle.nbfx_values.specs.Scalars.{is_number, is_signed, is_valid_scalar}
 

@@ -1,32 +1,25 @@
 -- One value, by its first token and all that is behind it.
-use Rattle.std.proofs.Common.{◌≡◌, ◌∙◌, ◌<◌, ◌≤◌, ◌^◌, ◌-◌, ◌==◌, ◌⊎◌, inl, inr, ℕ, suc, List, []}
-use Rattle.std.proofs.Common.{◌∷◌, length, Bool, true, false, ◌&&◌, if◌then◌else◌, Option, None}
-use Rattle.std.proofs.Common.{Some, Result, Ok, Err, refl, ap, arith, subst, nat_le}
-use Rattle.std.specs.Option.{ok_or}
-use Rattle.std.proofs.lemmas.Bool.{cases_lt, eq-eqb, le-leb, lt-leb}
-use Rattle.nbfx_values.specs.declared.scalars.Scalar.{Scalar}
-use Rattle.nbfx_values.specs.declared.scalars.Value.{Value}
-use Rattle.nbfx_values.specs.declared.scalars.Value.TheVariants.{One, List as ListOf}
-use Rattle.nbfx_values.specs.Scalars.{is_valid_scalar}
-use Rattle.line_notation.specs.declared.reader.LineKind.{LineKind}
+use Rattle.std.proofs.Common.{◌≡◌, ℕ, suc, ◌-◌, ◌^◌, ◌<◌, ◌≤◌, Bool, true, false, ◌&&◌, ◌⊎◌, List}
+use Rattle.std.proofs.Common.{[], ◌∷◌, length, if◌then◌else◌, nat_le, ◌==◌, Some, None, Ok, Err}
+use Rattle.std.proofs.Common.{Option, Result, ok_or, refl, ap, ◌∙◌, subst, inl, inr, arith, eq-eqb}
+use Rattle.std.proofs.{Common.le-leb, lemmas.Bool.cases_lt, lemmas.Bool.lt-leb}
+use Rattle.nbfx_values.specs.declared.scalars.{Scalar.Scalar, Value.Value}
+use Rattle.nbfx_values.specs.declared.scalars.Value.TheVariants.{List as ListOf, One}
+use Rattle.{nbfx_values.specs.Scalars.is_valid_scalar, line_notation.proofs.GatherSteps.fewer-left}
+use Rattle.line_notation.specs.declared.{reader.LineKind.LineKind, values.JudgedToken.JudgedToken}
 use Rattle.line_notation.specs.declared.reader.LineKind.TheVariants.{BadText, OutOfRange}
-use Rattle.line_notation.specs.declared.values.Holder.TheVariants as holders
-use Rattle.line_notation.specs.declared.values.JudgedToken.{JudgedToken}
-use Rattle.line_notation.specs.declared.values.JudgedToken.TheVariants as tokens
-use Rattle.line_notation.specs.declared.words.Stop.{Stop}
-use Rattle.line_notation.specs.declared.words.Stop.TheVariants.{NotALine, Memory}
+use Rattle.line_notation.specs.declared.words.Stop.{Stop, TheVariants.Memory, TheVariants.NotALine}
 use Rattle.line_notation.specs.Judging.{are_scalars, has_good_text, have_good_texts, scalars_of}
-use Rattle.line_notation.specs.Options.{◌>>=◌}
+use Rattle.line_notation.specs.{Options.◌>>=◌, Steps.Finds, Steps.Stops, Values.Written}
 use Rattle.line_notation.specs.Parts.{gathered_in, judged_scalar, judged_scalars, judged_token}
 use Rattle.line_notation.specs.Parts.{judged_token_at, judged_value, judged_value_in, kept, mapped}
 use Rattle.line_notation.specs.Parts.{value_behind, value_from}
-use Rattle.line_notation.specs.Steps.{Finds, Stops}
-use Rattle.line_notation.specs.Values.{Token, scalar, listed, Written, no_more, one, list, behind}
-use Rattle.line_notation.specs.Values.{first, how_many, if_one, taken, token_at, tokens_within}
-use Rattle.line_notation.specs.Values.{values_in}
-use Rattle.line_notation.proofs.GatherFacts.{Few, eqb-other, how_many-behind, put}
-use Rattle.line_notation.proofs.GatherSteps.{fewer-left}
+use Rattle.line_notation.specs.Values.{behind, first, how_many, if_one, list, listed, no_more, one}
+use Rattle.line_notation.specs.Values.{scalar, taken, Token, token_at, tokens_within, values_in}
+use Rattle.line_notation.proofs.GatherFacts.{eqb-other, Few, how_many-behind, put}
 use Rattle.line_notation.proofs.TokenFacts.{is_judged, not_judged, values_in-few, values_in-step}
+use Rattle.line_notation.specs.declared.values.Holder.TheVariants as holders
+use Rattle.line_notation.specs.declared.values.JudgedToken.TheVariants as tokens
 
 -- where all are taken
 first-all : (more : Written) → first (how_many more) more ≡ more

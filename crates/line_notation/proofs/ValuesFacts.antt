@@ -1,16 +1,13 @@
 -- Values out of words.
-use Rattle.std.proofs.Common.{◌≡◌, ◌∙◌, ℕ, List, ◌∷◌, Option, None, Some, Result, refl, ap}
+use Rattle.std.proofs.Common.{◌≡◌, ℕ, List, ◌∷◌, Some, None, Option, Result, refl, ap, ◌∙◌}
 use Rattle.nbfx_values.specs.declared.scalars.Scalar.{Scalar}
-use Rattle.line_notation.specs.declared.reader.LineKind.{LineKind}
-use Rattle.line_notation.specs.declared.scalars.ScalarKind.{ScalarKind}
-use Rattle.line_notation.specs.declared.scalars.ScalarKind.TheVariants as kinds
-use Rattle.line_notation.specs.declared.words.Stop.{Stop}
-use Rattle.line_notation.specs.declared.words.Stop.TheVariants.{NotALine, Memory}
-use Rattle.line_notation.specs.Options.{◌>>=◌}
+use Rattle.line_notation.specs.declared.{reader.LineKind.LineKind, scalars.ScalarKind.ScalarKind}
+use Rattle.line_notation.specs.declared.words.Stop.{Stop, TheVariants.Memory, TheVariants.NotALine}
+use Rattle.line_notation.specs.{Options.◌>>=◌, Steps.Stops}
 use Rattle.line_notation.specs.Parts.{as_token, judged_at, judged_token_at}
 use Rattle.line_notation.specs.Scalars.{scalar_at, scalar_kind_in, scalar_kind_word}
-use Rattle.line_notation.specs.Steps.{Stops}
 use Rattle.line_notation.specs.Values.{plain_at, scalar, token_at}
+use Rattle.line_notation.specs.declared.scalars.ScalarKind.TheVariants as kinds
 
 token-judged : (read : Option (Scalar × List (List ℕ))) → judged_token_at
     (read >>= λ s. Some (scalar s.0, s.1)) ≡ as_token (judged_at read)

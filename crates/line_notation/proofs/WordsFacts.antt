@@ -1,17 +1,14 @@
 -- The words of a line.
-use Rattle.std.specs.Prelude.{◌↔◌}
-use Rattle.std.specs.List.{prefix_len}
-use Rattle.std.proofs.Common.{Option, None, Some, IsTrue, is_some, option_map, ◌≡◌, ◌∙◌, ◌<◌, ◌≤◌}
-use Rattle.std.proofs.Common.{◌+◌, ◌^◌, ◌==◌, ◌⊎◌, inl, inr, ℕ, suc, List, [], ◌∷◌, ◌++◌, length}
-use Rattle.std.proofs.Common.{take, drop, take_while, get_or, Bool, true, false, not, ◌&&◌}
-use Rattle.std.proofs.Common.{if◌then◌else◌, refl, sym, ap, subst, append-nil, drop-cons, arith}
-use Rattle.std.proofs.lemmas.Bool.{and_parts, cases_lt, eqb-true, not-true}
-use Rattle.std.proofs.lemmas.List.{drop_all}
-use Rattle.std.proofs.lemmas.List.Folds.{length-prefix_len}
+use Rattle.std.proofs.Common.{◌≡◌, ℕ, suc, ◌+◌, ◌^◌, ◌<◌, ◌≤◌, Bool, true, false, not, ◌&&◌, ◌⊎◌}
+use Rattle.std.proofs.Common.{◌↔◌, List, [], ◌∷◌, ◌++◌, length, get_or, take, drop, is_some}
+use Rattle.std.proofs.Common.{if◌then◌else◌, IsTrue, ◌==◌, Some, None, Option, option_map}
+use Rattle.std.proofs.Common.{take_while, sym, refl, ap, ◌∙◌, subst, inl, inr, append-nil, arith}
+use Rattle.std.{proofs.Common.drop-cons, proofs.Common.eqb-true, specs.List.prefix_len}
+use Rattle.std.proofs.lemmas.Bool.{and_parts, cases_lt, not-true}
+use Rattle.std.proofs.lemmas.List.{drop_all, Folds.length-prefix_len}
 use Rattle.std.proofs.lemmas.List.Sums.{prefix_len-le-length, prefix_len_stops}
-use Rattle.line_notation.specs.Steps.{CutsWord, words_behind}
+use Rattle.line_notation.specs.{Steps.CutsWord, Steps.words_behind, Words.words_of}
 use Rattle.line_notation.specs.Words.{goes_on_within, is_bare, onto_first, words_from, words_left}
-use Rattle.line_notation.specs.Words.{words_of}
 
 -- bytes before the first word
 abbrev pub prepended : List ℕ → List (List ℕ) → List (List ℕ)

@@ -1,12 +1,10 @@
 -- Worked cases: the document of an envelope, line by line.
-use Rattle.std.proofs.Common.{◌≡◌, ℕ, List, [], ◌∷◌, codes, refl, None, pos}
-use Rattle.nbfx_values.specs.declared.content.Item.{Item}
-use Rattle.nbfx_values.specs.declared.content.Item.TheVariants.{Start, Xmlns, Attr, Text, Close}
+use Rattle.std.proofs.Common.{◌≡◌, ℕ, List, [], ◌∷◌, pos, None, codes, refl}
+use Rattle.nbfx_values.specs.declared.{content.Item.Item, scalars.Value.TheVariants.One}
+use Rattle.nbfx_values.specs.declared.content.Item.TheVariants.{Attr, Close, Start, Text, Xmlns}
 use Rattle.nbfx_values.specs.declared.scalars.Scalar.TheVariants.{Number, Text as TextOf, UniqueId}
-use Rattle.nbfx_values.specs.declared.scalars.Value.TheVariants.{One}
-use Rattle.line_notation.specs.Lines.{lines_of}
-use Rattle.line_notation.specs.LineReaderState.{documents_of, standing, going}
-use Rattle.line_notation.proofs.OnLiterals.{lines_on_literals}
+use Rattle.line_notation.specs.LineReaderState.{documents_of, going, standing}
+use Rattle.line_notation.{specs.Lines.lines_of, proofs.OnLiterals.lines_on_literals}
 
 identifier : List ℕ
 identifier = 0x33 ∷ 0x22 ∷ 0x11 ∷ 0x00 ∷ 0x55 ∷ 0x44 ∷ 0x77 ∷ 0x66 ∷ 0x88 ∷ 0x99 ∷ 0xAA ∷ 0xBB

@@ -1,19 +1,16 @@
 -- Worked cases: each refusal, and of two the one that goes first.
-use Rattle.std.proofs.Common.{◌≡◌, ℕ, List, [], ◌∷◌, ◌++◌, true, Option, None, Some, Result, Ok}
-use Rattle.std.proofs.Common.{Err, codes, map, refl}
+use Rattle.std.proofs.Common.{◌≡◌, ℕ, true, List, [], ◌∷◌, ◌++◌, map, Some, None, Ok, Err, codes}
+use Rattle.std.proofs.Common.{Option, Result, refl}
 use Rattle.nbfx_values.specs.declared.content.ArrayItem.{ArrayItem}
-use Rattle.nbfx_values.specs.declared.content.ArrayKind.TheVariants as arrays
-use Rattle.nbfx_values.specs.declared.content.Item.{Item}
-use Rattle.nbfx_values.specs.declared.content.Item.TheVariants.{Start, Text}
-use Rattle.nbfx_values.specs.declared.scalars.Scalar.TheVariants.{Truth}
-use Rattle.nbfx_values.specs.declared.scalars.Value.TheVariants.{One}
-use Rattle.line_notation.specs.declared.reader.LineFault.{LineFault}
-use Rattle.line_notation.specs.declared.reader.LineFault.TheVariants.{Bad}
+use Rattle.nbfx_values.specs.declared.content.Item.{Item, TheVariants.Start, TheVariants.Text}
+use Rattle.nbfx_values.specs.declared.scalars.{Scalar.TheVariants.Truth, Value.TheVariants.One}
+use Rattle.line_notation.specs.declared.reader.LineFault.{LineFault, TheVariants.Bad}
 use Rattle.line_notation.specs.declared.reader.LineKind.{LineKind}
-use Rattle.line_notation.specs.declared.reader.LineKind.TheVariants.{NotALine, BadText, OutOfRange}
-use Rattle.line_notation.specs.declared.reader.LineKind.TheVariants.{OutOfPlace, Cut}
+use Rattle.line_notation.specs.declared.reader.LineKind.TheVariants.{BadText, Cut, NotALine}
+use Rattle.line_notation.specs.declared.reader.LineKind.TheVariants.{OutOfPlace, OutOfRange}
 use Rattle.line_notation.specs.LineReaderState.{ending, failed, on, outcome, standing}
 use Rattle.line_notation.proofs.OnLiterals.{lines_on_literals}
+use Rattle.nbfx_values.specs.declared.content.ArrayKind.TheVariants as arrays
 
 -- behind a root, behind a text in it, and within an array there
 abbrev root : List Item

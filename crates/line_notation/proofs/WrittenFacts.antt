@@ -1,22 +1,20 @@
 -- Words write values exactly where these are read out of them.
-use Rattle.std.proofs.Common.{◌≡◌, ◌∙◌, ◌==◌, ◌<◌, ◌≤◌, ℕ, suc, zero, List, [], ◌∷◌, ◌++◌, length}
-use Rattle.std.proofs.Common.{Bool, true, false, if◌then◌else◌, nat_le, nat_lt, None, Some, refl}
-use Rattle.std.proofs.Common.{sym, ap, subst, append_assoc, append-nil, arith, codes}
-use Rattle.std.specs.Str.{bytes_eq}
-use Rattle.std.proofs.lemmas.Bool.{eq-eqb, eqb-true, le-leb, leb-true, lt-ltb, ltb-true}
+use Rattle.std.proofs.Common.{◌≡◌, ℕ, zero, suc, ◌<◌, ◌≤◌, Bool, true, false, List, [], ◌∷◌, ◌++◌}
+use Rattle.std.proofs.Common.{length, if◌then◌else◌, nat_lt, nat_le, ◌==◌, Some, None, codes}
+use Rattle.std.proofs.Common.{bytes_eq, sym, refl, ap, ◌∙◌, subst, append_assoc, append-nil, arith}
+use Rattle.std.proofs.Common.{ltb-true, lt-ltb, eq-eqb, eqb-true, le-leb, leb-true}
 use Rattle.std.proofs.lemmas.Slice.Eq.{bytes_eq-Decides}
 use Rattle.nbfx_values.specs.declared.scalars.Scalar.{Scalar}
 use Rattle.line_notation.specs.Numerals.{IsNatural, natural_in}
-use Rattle.line_notation.specs.Options.{◌>>=◌}
-use Rattle.line_notation.specs.Scalars.{scalar_at, scalar_kind_in}
-use Rattle.line_notation.specs.Values.{AreSomeValues, AreValues, IsOneValue, Token, Written, behind}
-use Rattle.line_notation.specs.Values.{count_at, first, how_many, if_one, if_some, list, listed}
-use Rattle.line_notation.specs.Values.{no_more, one, plain_at, scalar, taken, token_at}
-use Rattle.line_notation.specs.Values.{tokens_within, value_in, values_in}
+use Rattle.line_notation.specs.{Options.◌>>=◌, Scalars.scalar_at, Scalars.scalar_kind_in}
+use Rattle.line_notation.specs.Values.{AreSomeValues, AreValues, behind, count_at, first, how_many}
+use Rattle.line_notation.specs.Values.{if_one, if_some, IsOneValue, list, listed, no_more, one}
+use Rattle.line_notation.specs.Values.{plain_at, scalar, taken, Token, token_at, tokens_within}
+use Rattle.line_notation.specs.Values.{value_in, values_in, Written}
 use Rattle.line_notation.proofs.GatherFacts.{put, some_same}
 use Rattle.line_notation.proofs.NaturalFacts.{natural-natural_in, natural_in-natural}
 use Rattle.line_notation.proofs.ScalarFacts.{IsScalarFront, plain-is, scalar-token}
-use Rattle.line_notation.proofs.TokenFacts.{Shortens, found, token_at-shortens, values_in-step}
+use Rattle.line_notation.proofs.TokenFacts.{found, Shortens, token_at-shortens, values_in-step}
 
 -- values in front of others
 abbrev appended : Written → Written → Written

@@ -1,22 +1,16 @@
 -- What the words behind each keyword say, read and judged at once, for private calls.
-use Rattle.std.specs.Prelude.{ℕ, List, [], ◌∷◌, Option, None, Some, Result, Ok, Err, nat_lt}
-use Rattle.std.specs.Prelude.{if◌then◌else◌}
-use Rattle.nbfx_values.specs.declared.content.ArrayKind.{ArrayKind}
-use Rattle.nbfx_values.specs.declared.content.Item.TheVariants.{Start, Xmlns, Attr, Text, Comment}
-use Rattle.nbfx_values.specs.declared.content.Item.TheVariants.{Close}
-use Rattle.nbfx_values.specs.declared.scalars.Scalar.{Scalar}
-use Rattle.nbfx_values.specs.declared.scalars.Value.{Value}
-use Rattle.line_notation.specs.declared.line.Keyword.{Keyword}
-use Rattle.line_notation.specs.declared.line.Line.{Line}
-use Rattle.line_notation.specs.declared.line.Line.TheVariants as says
-use Rattle.line_notation.specs.declared.reader.LineKind.{LineKind}
-use Rattle.line_notation.specs.declared.reader.LineKind.TheVariants.{OutOfPlace}
-use Rattle.line_notation.specs.Forms.{array_kind_in, form_behind}
+use Rattle.std.specs.Prelude.{ℕ, List, [], ◌∷◌, if◌then◌else◌, nat_lt, Some, None, Ok, Err, Option}
+use Rattle.std.specs.Prelude.{Result}
+use Rattle.nbfx_values.specs.declared.content.{ArrayKind.ArrayKind, Item.TheVariants.Xmlns}
+use Rattle.nbfx_values.specs.declared.content.Item.TheVariants.{Attr, Close, Comment, Start, Text}
+use Rattle.nbfx_values.specs.declared.scalars.{Scalar.Scalar, Value.Value}
+use Rattle.line_notation.specs.declared.line.{Keyword.Keyword, Line.Line}
+use Rattle.line_notation.specs.declared.reader.LineKind.{LineKind, TheVariants.OutOfPlace}
+use Rattle.line_notation.specs.{Forms.array_kind_in, Forms.form_behind, Scalars.one_word}
 use Rattle.line_notation.specs.Judging.{begun_array, judged}
-use Rattle.line_notation.specs.Options.{alone, ◌>>=◌}
+use Rattle.line_notation.specs.{Options.alone, Options.◌>>=◌, Parts.judged_value_in, Parts.mapped}
 use Rattle.line_notation.specs.Parts.{both, gathered_in, holder_of, judged_text_in, judged_texts_at}
-use Rattle.line_notation.specs.Parts.{judged_value_in, mapped}
-use Rattle.line_notation.specs.Scalars.{one_word}
+use Rattle.line_notation.specs.declared.line.Line.TheVariants as says
 
 -- what the form behind a keyword says, if there is one
 abbrev pub judged_behind : Option ArrayKind → Keyword → List (List ℕ)

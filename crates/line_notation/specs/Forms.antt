@@ -1,17 +1,13 @@
 -- The forms of a line.
-use Rattle.std.specs.Prelude.{◌≡◌, ℕ, List, [], ◌∷◌, Option, None, Some, codes}
-use Rattle.std.specs.List.{find}
-use Rattle.std.specs.Str.{bytes_eq}
+use Rattle.std.specs.Prelude.{◌≡◌, ℕ, List, [], ◌∷◌, Some, None, codes, Option, find, bytes_eq}
 use Rattle.nbfx_values.specs.declared.content.ArrayKind.{ArrayKind}
-use Rattle.nbfx_values.specs.declared.content.ArrayKind.TheVariants as arrays
-use Rattle.line_notation.specs.declared.line.Keyword.{Keyword}
-use Rattle.line_notation.specs.declared.line.Keyword.TheVariants as keywords
-use Rattle.line_notation.specs.Options.{alone, ◌>>=◌}
+use Rattle.line_notation.specs.{declared.line.Keyword.Keyword, Scalars.one_word}
+use Rattle.line_notation.specs.{Options.alone, Options.◌>>=◌, Values.values_in, Values.Written}
 use Rattle.line_notation.specs.Quoted.{IsQuoted, quoted, quoted_in}
-use Rattle.line_notation.specs.Scalars.{one_word}
-use Rattle.line_notation.specs.Values.{AreSomeValues, IsOneValue, Written, if_some, value_in}
-use Rattle.line_notation.specs.Values.{value_words, values_in}
+use Rattle.line_notation.specs.Values.{AreSomeValues, if_some, IsOneValue, value_in, value_words}
 use Rattle.line_notation.specs.Words.{next_in, spaced, words_of}
+use Rattle.nbfx_values.specs.declared.content.ArrayKind.TheVariants as arrays
+use Rattle.line_notation.specs.declared.line.Keyword.TheVariants as keywords
 
 -- what a line says, before it is judged
 pub data Form : Type 0 where

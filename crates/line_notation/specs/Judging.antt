@@ -1,24 +1,19 @@
 -- What a line of a form is refused for by itself, and what it says else.
-use Rattle.std.specs.Prelude.{ℕ, List, [], ◌∷◌, ◌++◌, Bool, true, false, not, ◌&&◌, Option, None}
-use Rattle.std.specs.Prelude.{Some, Result, Ok, Err, if◌then◌else◌}
-use Rattle.std.specs.Str.{is_utf8}
-use Rattle.nbfx_values.specs.declared.content.ArrayItem.{ArrayItem}
-use Rattle.nbfx_values.specs.declared.content.ArrayKind.{ArrayKind}
-use Rattle.nbfx_values.specs.declared.content.Item.TheVariants.{Start, Xmlns, Attr}
-use Rattle.nbfx_values.specs.declared.content.Item.TheVariants.{Text as TextItem, Comment, Close}
-use Rattle.nbfx_values.specs.declared.scalars.Scalar.{Scalar}
-use Rattle.nbfx_values.specs.declared.scalars.Scalar.TheVariants.{Text, QName}
-use Rattle.nbfx_values.specs.declared.scalars.Value.{Value}
-use Rattle.nbfx_values.specs.declared.scalars.Value.TheVariants.{One, List as ListOf}
+use Rattle.std.specs.Prelude.{ℕ, Bool, true, false, not, ◌&&◌, List, [], ◌∷◌, ◌++◌, if◌then◌else◌}
+use Rattle.std.specs.Prelude.{Some, None, Ok, Err, Option, Result}
+use Rattle.{std.specs.Str.is_utf8, line_notation.specs.declared.line.Line.Line}
+use Rattle.nbfx_values.specs.declared.content.{ArrayItem.ArrayItem, ArrayKind.ArrayKind}
+use Rattle.nbfx_values.specs.declared.content.Item.TheVariants.{Attr, Close, Comment, Start}
+use Rattle.nbfx_values.specs.declared.content.Item.TheVariants.{Text as TextItem, Xmlns}
+use Rattle.nbfx_values.specs.declared.scalars.Scalar.{Scalar, TheVariants.QName, TheVariants.Text}
+use Rattle.nbfx_values.specs.{declared.scalars.Value.Value, Scalars.is_valid_scalar}
+use Rattle.nbfx_values.specs.declared.scalars.Value.TheVariants.{List as ListOf, One}
 use Rattle.nbfx_values.specs.Items.{are_texts, fits_kind}
-use Rattle.nbfx_values.specs.Scalars.{is_valid_scalar}
-use Rattle.line_notation.specs.declared.line.Line.{Line}
+use Rattle.line_notation.specs.declared.reader.LineKind.{LineKind, TheVariants.OutOfRange}
+use Rattle.line_notation.specs.declared.reader.LineKind.TheVariants.{BadText, OutOfPlace}
+use Rattle.line_notation.specs.Forms.{array, attr, close, comment, Form, ns, start, text, values}
+use Rattle.line_notation.specs.Values.{list, no_more, one, Written}
 use Rattle.line_notation.specs.declared.line.Line.TheVariants as says
-use Rattle.line_notation.specs.declared.reader.LineKind.{LineKind}
-use Rattle.line_notation.specs.declared.reader.LineKind.TheVariants.{BadText, OutOfRange}
-use Rattle.line_notation.specs.declared.reader.LineKind.TheVariants.{OutOfPlace}
-use Rattle.line_notation.specs.Forms.{Form, start, ns, attr, text, comment, array, values, close}
-use Rattle.line_notation.specs.Values.{Written, no_more, one, list}
 
 -- whether a value's text, if it has one, is UTF-8
 abbrev pub has_good_text : Scalar → Bool

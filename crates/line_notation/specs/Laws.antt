@@ -1,19 +1,15 @@
 -- What holds of lines, forms and documents by the definitions alone.
-use Rattle.std.specs.Prelude.{◌≡◌, ◌↔◌, ◌+◌, ◌++◌, ℕ, List, [], ◌∷◌, true, Option, None, Some, Ok}
-use Rattle.std.specs.Prelude.{Err, length, map}
-use Rattle.std.specs.List.{list_all}
-use Rattle.nbfx_values.specs.declared.content.ArrayItem.{ArrayItem}
-use Rattle.nbfx_values.specs.declared.content.Item.{Item}
-use Rattle.nbfx_values.specs.Documents.{IsDocument}
-use Rattle.nbfx_values.specs.Items.{is_valid_item}
-use Rattle.line_notation.specs.declared.reader.LineFault.{LineFault}
-use Rattle.line_notation.specs.declared.reader.LineFault.TheVariants.{Bad}
+use Rattle.std.specs.Prelude.{◌≡◌, ℕ, ◌+◌, true, ◌↔◌, List, [], ◌∷◌, ◌++◌, map, length, Some, None}
+use Rattle.std.specs.{Prelude.Ok, Prelude.Err, Prelude.Option, List.list_all}
+use Rattle.nbfx_values.specs.declared.content.{ArrayItem.ArrayItem, Item.Item}
+use Rattle.nbfx_values.specs.{Documents.IsDocument, Items.is_valid_item}
+use Rattle.line_notation.specs.declared.reader.LineFault.{LineFault, TheVariants.Bad}
 use Rattle.line_notation.specs.declared.reader.LineKind.{LineKind}
-use Rattle.line_notation.specs.Forms.{Form, array, IsLine, form_of}
+use Rattle.line_notation.specs.Forms.{array, Form, form_of, IsLine}
+use Rattle.line_notation.specs.LineReaderState.{after, documents_of, ending, failed, going, outcome}
+use Rattle.line_notation.specs.LineReaderState.{Standing, standing}
 use Rattle.line_notation.specs.Lines.{AreLines, AreLinesOf, attribute_form, cut, forms_of}
-use Rattle.line_notation.specs.Lines.{has_no_feed, lines_of, items_text}
-use Rattle.line_notation.specs.LineReaderState.{Standing, after, documents_of, ending, failed}
-use Rattle.line_notation.specs.LineReaderState.{going, outcome, standing}
+use Rattle.line_notation.specs.Lines.{has_no_feed, items_text, lines_of}
 
 -- a line has the form that is read out of it, and no other
 abbrev pub HaveOneForm : Type 0

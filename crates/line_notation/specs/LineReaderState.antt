@@ -1,27 +1,19 @@
 -- Where a reader stands behind some lines, and what a line brings there.
-use Rattle.std.specs.Prelude.{◌≡◌, ◌+◌, ◌<◌, ◌^◌, ℕ, Bool, true, false, if◌then◌else◌, List, []}
-use Rattle.std.specs.Prelude.{◌∷◌, ◌++◌, Option, None, Some, Result, Ok, Err}
-use Rattle.std.specs.Option.{option_map}
-use Rattle.nbfx_values.specs.declared.content.ArrayItem.{ArrayItem}
-use Rattle.nbfx_values.specs.declared.content.ArrayKind.{ArrayKind}
-use Rattle.nbfx_values.specs.declared.content.AttrItem.{AttrItem}
+use Rattle.std.specs.Prelude.{◌≡◌, ℕ, ◌+◌, ◌^◌, ◌<◌, Bool, true, false, List, [], ◌∷◌, ◌++◌}
+use Rattle.std.specs.Prelude.{if◌then◌else◌, Some, None, Ok, Err, Option, Result, option_map}
+use Rattle.nbfx_values.specs.declared.content.{ArrayItem.ArrayItem, ArrayKind.ArrayKind, Item.Item}
+use Rattle.nbfx_values.specs.declared.content.AttrItem.{AttrItem, TheVariants.Attr as AttrOn}
 use Rattle.nbfx_values.specs.declared.content.AttrItem.TheVariants.{Xmlns as DeclaresOn}
-use Rattle.nbfx_values.specs.declared.content.AttrItem.TheVariants.{Attr as AttrOn}
-use Rattle.nbfx_values.specs.declared.content.Item.{Item}
-use Rattle.nbfx_values.specs.declared.content.Item.TheVariants.{Xmlns, Attr, Array}
-use Rattle.nbfx_values.specs.declared.position.Position.{Position}
-use Rattle.nbfx_values.specs.declared.position.Position.TheVariants.{Before, Within, After}
-use Rattle.nbfx_values.specs.Positions.{position_of}
-use Rattle.line_notation.specs.declared.line.Line.{Line}
-use Rattle.line_notation.specs.declared.line.Line.TheVariants as says
-use Rattle.line_notation.specs.declared.reader.LineFault.{LineFault}
+use Rattle.nbfx_values.specs.declared.content.Item.TheVariants.{Array, Attr, Xmlns}
+use Rattle.nbfx_values.specs.{declared.position.Position.Position, Positions.position_of}
+use Rattle.nbfx_values.specs.declared.position.Position.TheVariants.{After, Before, Within}
+use Rattle.line_notation.specs.declared.{line.Line.Line, reader.LineStep.LineStep}
+use Rattle.line_notation.specs.declared.reader.{LineFault.LineFault, LineKind.LineKind}
 use Rattle.line_notation.specs.declared.reader.LineFault.TheVariants.{Bad, Memory}
-use Rattle.line_notation.specs.declared.reader.LineKind.{LineKind}
-use Rattle.line_notation.specs.declared.reader.LineKind.TheVariants.{NotALine, OutOfPlace, Cut}
-use Rattle.line_notation.specs.declared.reader.LineStep.{LineStep}
-use Rattle.line_notation.specs.declared.reader.LineStep.TheVariants.{More, Done}
-use Rattle.line_notation.specs.Forms.{Form, form_of}
-use Rattle.line_notation.specs.Judging.{judged}
+use Rattle.line_notation.specs.declared.reader.LineKind.TheVariants.{Cut, NotALine, OutOfPlace}
+use Rattle.line_notation.specs.declared.reader.LineStep.TheVariants.{Done, More}
+use Rattle.line_notation.specs.{Forms.Form, Forms.form_of, Judging.judged}
+use Rattle.line_notation.specs.declared.line.Line.TheVariants as says
 
 -- refused, or behind so many lines, with the items of the unfinished document and the array that is
 -- open

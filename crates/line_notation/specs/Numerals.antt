@@ -1,18 +1,13 @@
 -- Numbers as words: in decimal digits without zeros in front, and in a fixed number of hexadecimal
 -- digits.
-use Rattle.std.specs.Prelude.{◌≡◌, ℕ, suc, zero, List, [], ◌∷◌, length, ℤ, pos, negsuc, Bool, false}
-use Rattle.std.specs.Prelude.{nat_lt, not, ◌==◌, ◌&&◌, ◌||◌, Option, None, Some, Ok, Err, Result}
-use Rattle.std.specs.Prelude.{slice_index, if◌then◌else◌}
-use Rattle.std.specs.Char.{is_ascii_digit}
-use Rattle.std.specs.Fmt.{digits_onto}
+use Rattle.std.specs.Prelude.{◌≡◌, ℕ, zero, suc, Bool, false, not, ◌&&◌, ◌||◌, List, [], ◌∷◌}
+use Rattle.std.specs.Prelude.{length, ℤ, pos, negsuc, is_some, if◌then◌else◌, nat_lt, ◌==◌}
+use Rattle.std.specs.Prelude.{slice_index, Some, None, Ok, Err, Option, Result, option_map}
+use Rattle.std.specs.{Char.is_ascii_digit, Fmt.digits_onto, List.list_all}
 use Rattle.std.specs.Int.{Width, byte_len, from_be_bytes, to_be_bytes}
-use Rattle.std.specs.List.{list_all}
-use Rattle.std.specs.Option.{option_map}
 use Rattle.std.specs.Str.Parse.{IsNumeral, digits_value}
 use Rattle.hex.specs.Hex.{decode_of, decode_sized, encode_lower}
-use Rattle.line_notation.specs.Options.{◌>>=◌}
-use Rattle.line_notation.specs.Quoted.{digit_in}
-use Rattle.std.specs.Prelude.{is_some}
+use Rattle.line_notation.specs.{Options.◌>>=◌, Quoted.digit_in}
 
 -- the digits of a number, of which the first is 0 only where it is the only one
 pub record IsNatural (n : ℕ) (word : List ℕ) : Type 0 where

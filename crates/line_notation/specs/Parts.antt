@@ -1,31 +1,23 @@
 -- The parts of a line, read and judged at once, for private calls.
-use Rattle.std.specs.Prelude.{ℕ, zero, suc, true, false, ◌&&◌, ◌+◌, ◌-◌, ◌^◌, ◌++◌, List, [], ◌∷◌}
-use Rattle.std.specs.Prelude.{ℤ, pos, Bool, Option, None, Some, Result, Ok, Err, nat_le, ◌≤◌, ◌==◌}
-use Rattle.std.specs.Prelude.{not, if◌then◌else◌}
-use Rattle.std.specs.List.{list_all}
-use Rattle.std.specs.Str.{is_utf8}
-use Rattle.nbfx_values.specs.declared.scalars.Scalar.{Scalar}
-use Rattle.nbfx_values.specs.Items.{fits_kind}
+use Rattle.std.specs.Prelude.{ℕ, zero, suc, ◌+◌, ◌-◌, ◌^◌, ◌≤◌, Bool, true, false, not, ◌&&◌, List}
+use Rattle.std.specs.Prelude.{[], ◌∷◌, ◌++◌, ℤ, pos, if◌then◌else◌, nat_le, ◌==◌, Some, None, Ok}
+use Rattle.std.specs.{Prelude.Err, Prelude.Option, Prelude.Result, List.list_all, Str.is_utf8}
+use Rattle.nbfx_values.specs.{declared.content.ArrayKind.ArrayKind, Items.fits_kind}
+use Rattle.nbfx_values.specs.declared.scalars.{Scalar.Scalar, Value.Value}
+use Rattle.nbfx_values.specs.declared.scalars.Value.TheVariants.{List as ListOf, One}
 use Rattle.nbfx_values.specs.Scalars.{is_between, is_valid_scalar, least_signed}
-use Rattle.line_notation.specs.declared.reader.LineKind.{LineKind}
+use Rattle.line_notation.specs.{declared.reader.LineKind.LineKind, Options.◌>>=◌, Scalars.one_word}
 use Rattle.line_notation.specs.declared.reader.LineKind.TheVariants.{BadText, OutOfRange}
-use Rattle.line_notation.specs.declared.values.Gathering.{Gathering}
-use Rattle.line_notation.specs.declared.values.Holder.{Holder}
-use Rattle.line_notation.specs.declared.values.Holder.TheVariants as holders
-use Rattle.line_notation.specs.declared.values.JudgedToken.{JudgedToken}
-use Rattle.line_notation.specs.declared.values.JudgedToken.TheVariants as tokens
-use Rattle.line_notation.specs.declared.values.Tally.{Tally}
-use Rattle.nbfx_values.specs.declared.content.ArrayKind.{ArrayKind}
-use Rattle.nbfx_values.specs.declared.scalars.Value.{Value}
-use Rattle.nbfx_values.specs.declared.scalars.Value.TheVariants.{One, List as ListOf}
+use Rattle.line_notation.specs.declared.values.{Gathering.Gathering, Tally.Tally}
+use Rattle.line_notation.specs.declared.values.{Holder.Holder, JudgedToken.JudgedToken}
 use Rattle.line_notation.specs.Judging.{are_in_range, are_scalars, has_good_text, have_good_texts}
 use Rattle.line_notation.specs.Judging.{scalars_of, value_said}
 use Rattle.line_notation.specs.Numerals.{integer_in, natural_in}
-use Rattle.line_notation.specs.Options.{◌>>=◌}
 use Rattle.line_notation.specs.Quoted.{pair_in, quoted_in}
-use Rattle.line_notation.specs.Scalars.{one_word}
-use Rattle.line_notation.specs.Values.{Token, Written, no_more, one, list, how_many, listed, scalar}
-use Rattle.line_notation.specs.Values.{value_in, values_in}
+use Rattle.line_notation.specs.Values.{how_many, list, listed, no_more, one, scalar, Token}
+use Rattle.line_notation.specs.Values.{value_in, values_in, Written}
+use Rattle.line_notation.specs.declared.values.Holder.TheVariants as holders
+use Rattle.line_notation.specs.declared.values.JudgedToken.TheVariants as tokens
 
 -- a value, where a test holds of it
 abbrev pub kept : {A : Type 0} → LineKind → (A → Bool) → A → Result A LineKind

@@ -1,28 +1,20 @@
 -- What a reader makes of what a line says, for private calls.
-use Rattle.std.specs.Prelude.{◌≡◌, ℕ, List, [], Bool, ◌&&◌, Option, None, Some, Result, Ok, Err}
-use Rattle.std.specs.Prelude.{nat_lt, length, IsTrue}
-use Rattle.std.specs.List.{list_all}
-use Rattle.nbfx_values.specs.declared.content.ArrayItem.{ArrayItem}
-use Rattle.nbfx_values.specs.declared.content.ArrayKind.{ArrayKind}
-use Rattle.nbfx_values.specs.declared.content.Item.{Item}
+use Rattle.std.specs.Prelude.{◌≡◌, ℕ, Bool, ◌&&◌, List, [], length, IsTrue, nat_lt, Some, None, Ok}
+use Rattle.std.specs.{Prelude.Err, Prelude.Option, Prelude.Result, List.list_all}
+use Rattle.nbfx_values.specs.declared.content.{ArrayItem.ArrayItem, ArrayKind.ArrayKind, Item.Item}
 use Rattle.nbfx_values.specs.Documents.{IsDocument}
 use Rattle.nbfx_values.specs.Items.{are_texts, fits_kind, is_valid_attribute, is_valid_item}
-use Rattle.line_notation.specs.declared.line.Keyword.{Keyword}
-use Rattle.line_notation.specs.declared.line.Line.{Line}
-use Rattle.line_notation.specs.declared.line.Line.TheVariants as says
-use Rattle.line_notation.specs.declared.placing.Leads.{Leads}
-use Rattle.line_notation.specs.declared.placing.Leads.TheVariants.{On, ToTheEnd}
-use Rattle.line_notation.specs.declared.placing.Refusal.{Refusal}
+use Rattle.line_notation.specs.declared.line.{Keyword.Keyword, Line.Line}
+use Rattle.line_notation.specs.declared.placing.Leads.{Leads, TheVariants.On, TheVariants.ToTheEnd}
+use Rattle.line_notation.specs.declared.{placing.Refusal.Refusal, words.Stop.Stop}
 use Rattle.line_notation.specs.declared.placing.Refusal.TheVariants.{Kind, Memory}
-use Rattle.line_notation.specs.declared.reader.LineFault.{LineFault}
-use Rattle.line_notation.specs.declared.reader.LineFault.TheVariants as faults
-use Rattle.line_notation.specs.declared.reader.LineFault.TheVariants.{Bad}
-use Rattle.line_notation.specs.declared.reader.LineKind.{LineKind}
-use Rattle.line_notation.specs.declared.reader.LineKind.TheVariants.{NotALine}
-use Rattle.line_notation.specs.declared.words.Stop.{Stop}
-use Rattle.line_notation.specs.declared.words.Stop.TheVariants as stops
+use Rattle.line_notation.specs.declared.reader.LineFault.{LineFault, TheVariants.Bad}
+use Rattle.line_notation.specs.declared.reader.LineKind.{LineKind, TheVariants.NotALine}
 use Rattle.line_notation.specs.BehindKeywords.{judged_behind}
-use Rattle.line_notation.specs.LineReaderState.{Placed, led, on, ends, kind_of}
+use Rattle.line_notation.specs.LineReaderState.{ends, kind_of, led, on, Placed}
+use Rattle.line_notation.specs.declared.line.Line.TheVariants as says
+use Rattle.line_notation.specs.declared.reader.LineFault.TheVariants as faults
+use Rattle.line_notation.specs.declared.words.Stop.TheVariants as stops
 
 -- where a step of reading stopped
 abbrev pub stopped : Stop → Refusal

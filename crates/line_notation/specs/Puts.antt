@@ -1,12 +1,9 @@
 -- The words that are put.
-use Rattle.std.specs.Prelude.{◌≤◌, ℕ, List, ◌∷◌}
-use Rattle.std.specs.Fmt.{decimal, signed_decimal}
-use Rattle.std.specs.List.{flat_map}
-use Rattle.hex.specs.Hex.{encode_lower}
-use Rattle.line_notation.specs.declared.puts.Word.{Word}
-use Rattle.line_notation.specs.declared.puts.Word.TheVariants.{Plain, Quoted, Natural, Integer}
+use Rattle.std.specs.Prelude.{ℕ, ◌≤◌, List, ◌∷◌, decimal, flat_map}
+use Rattle.{std.specs.Fmt.signed_decimal, hex.specs.Hex.encode_lower}
+use Rattle.line_notation.specs.declared.puts.Word.{Word, TheVariants.Quoted}
 use Rattle.line_notation.specs.declared.puts.Word.TheVariants.{Digits, DigitsInQuotes, Identifier}
-use Rattle.line_notation.specs.declared.puts.Word.TheVariants.{Letter}
+use Rattle.line_notation.specs.declared.puts.Word.TheVariants.{Integer, Letter, Natural, Plain}
 use Rattle.line_notation.specs.Quoted.{quoted}
 use Rattle.line_notation.specs.Scalars.{digits_in_quotes, identifier_word, letter_word}
 

@@ -1,10 +1,8 @@
 -- A text in quotes: as it is put, in every way that it may be written, and how it is read.
-use Rattle.std.specs.Prelude.{◌≡◌, ℕ, ◌+◌, ◌-◌, ◌*◌, ◌/◌, ◌%◌, ◌<◌, List, [], ◌∷◌, ◌++◌, Bool}
-use Rattle.std.specs.Prelude.{false, not, nat_lt, nat_le, ◌==◌, ◌&&◌, ◌⊎◌, IsTrue, length, take}
-use Rattle.std.specs.Prelude.{drop, slice_index, Option, None, Some, if◌then◌else◌}
-use Rattle.std.specs.Fmt.{digit_glyph}
-use Rattle.std.specs.List.{flat_map}
-use Rattle.line_notation.specs.Options.{◌>>=◌}
+use Rattle.std.specs.Prelude.{◌≡◌, ℕ, ◌+◌, ◌-◌, ◌*◌, ◌/◌, ◌%◌, ◌<◌, Bool, false, not, ◌&&◌, ◌⊎◌}
+use Rattle.std.specs.Prelude.{List, [], ◌∷◌, ◌++◌, length, take, drop, if◌then◌else◌, IsTrue}
+use Rattle.std.specs.Prelude.{nat_lt, nat_le, ◌==◌, slice_index, Some, None, Option, flat_map}
+use Rattle.{std.specs.Fmt.digit_glyph, line_notation.specs.Options.◌>>=◌}
 
 -- a byte that a quoted text shows as it is: a printable one of ASCII other than the quote and the
 -- backslash

@@ -1,15 +1,13 @@
 -- Which lines are refused, by what they say. Of several reasons the first holds.
-use Rattle.std.specs.Prelude.{◌≡◌, ℕ, List, [], ◌∷◌, ◌++◌, true, false, Option, None, Some, Err}
-use Rattle.std.specs.Prelude.{◌↔◌}
-use Rattle.nbfx_values.specs.declared.content.ArrayItem.{ArrayItem}
-use Rattle.nbfx_values.specs.declared.content.Item.{Item}
-use Rattle.nbfx_values.specs.declared.content.Item.TheVariants.{Start, Xmlns, Attr, Text, Comment}
-use Rattle.nbfx_values.specs.declared.content.Item.TheVariants.{Array, Close}
-use Rattle.nbfx_values.specs.Documents.{IsFront}
-use Rattle.line_notation.specs.declared.reader.LineKind.TheVariants.{NotALine, BadText, OutOfRange}
-use Rattle.line_notation.specs.declared.reader.LineKind.TheVariants.{OutOfPlace, Cut, WrongCount}
-use Rattle.line_notation.specs.Forms.{Form, start, ns, attr, text, comment, array, values, close}
-use Rattle.line_notation.specs.Forms.{IsLine}
+use Rattle.std.specs.Prelude.{◌≡◌, ℕ, true, false, ◌↔◌, List, [], ◌∷◌, ◌++◌, Some, None, Err}
+use Rattle.std.specs.Prelude.{Option}
+use Rattle.nbfx_values.specs.{declared.content.ArrayItem.ArrayItem, Documents.IsFront}
+use Rattle.nbfx_values.specs.declared.content.Item.{Item, TheVariants.Text, TheVariants.Xmlns}
+use Rattle.nbfx_values.specs.declared.content.Item.TheVariants.{Array, Attr, Close, Comment, Start}
+use Rattle.line_notation.specs.declared.reader.LineKind.TheVariants.{BadText, Cut, NotALine}
+use Rattle.line_notation.specs.declared.reader.LineKind.TheVariants.{OutOfPlace, OutOfRange}
+use Rattle.line_notation.specs.{declared.reader.LineKind.TheVariants.WrongCount, Forms.values}
+use Rattle.line_notation.specs.Forms.{array, attr, close, comment, Form, IsLine, ns, start, text}
 use Rattle.line_notation.specs.Judging.{has_bad_text, is_out_of_range, scalars_of, value_said}
 use Rattle.line_notation.specs.LineReaderState.{is_passed_over, kind_of, outcome}
 

@@ -1,27 +1,21 @@
 -- The words of one value: as they are put, in every way that they may be written, and how they are
 -- read.
-use Rattle.std.specs.Prelude.{◌≡◌, ◌≤◌, ◌+◌, ◌-◌, ℕ, List, [], ◌∷◌, ◌++◌, Bool, true, false, nat_lt}
-use Rattle.std.specs.Prelude.{nat_le, ◌&&◌, IsTrue, Option, None, Some, codes, if◌then◌else◌}
-use Rattle.std.specs.Fmt.{decimal, signed_decimal}
-use Rattle.std.specs.Int.{w32, w64}
-use Rattle.std.specs.List.{find}
-use Rattle.std.specs.Str.{bytes_eq}
-use Rattle.hex.specs.Hex.{encode_lower}
-use Rattle.uuid.specs.Parts.{swap_fields}
-use Rattle.uuid.specs.Text.{hyphenated_text, lower, parsed}
-use Rattle.nbfx_values.specs.declared.scalars.Dec.{Dec}
-use Rattle.nbfx_values.specs.declared.scalars.Scalar.{Scalar}
-use Rattle.nbfx_values.specs.declared.scalars.Scalar.TheVariants.{Number, Truth, Float, Double}
-use Rattle.nbfx_values.specs.declared.scalars.Scalar.TheVariants.{Decimal, DateTime, TimeSpan, Text}
-use Rattle.nbfx_values.specs.declared.scalars.Scalar.TheVariants.{Bytes, UniqueId, Uuid, QName}
+use Rattle.std.specs.Prelude.{◌≡◌, ℕ, ◌+◌, ◌-◌, ◌≤◌, Bool, true, false, ◌&&◌, List, [], ◌∷◌, ◌++◌}
+use Rattle.std.specs.Prelude.{if◌then◌else◌, IsTrue, nat_lt, nat_le, Some, None, codes, decimal}
+use Rattle.std.specs.Prelude.{Option, find, bytes_eq}
+use Rattle.std.specs.{Fmt.signed_decimal, Int.w32, Int.w64}
+use Rattle.{hex.specs.Hex.encode_lower, line_notation.specs.Words.next_in}
+use Rattle.uuid.specs.{Parts.swap_fields, Text.hyphenated_text, Text.lower, Text.parsed}
+use Rattle.nbfx_values.specs.declared.scalars.{Dec.Dec, Scalar.Scalar}
+use Rattle.nbfx_values.specs.declared.scalars.Scalar.TheVariants.{Bytes, DateTime, Decimal, Double}
+use Rattle.nbfx_values.specs.declared.scalars.Scalar.TheVariants.{Float, Number, QName, Text}
+use Rattle.nbfx_values.specs.declared.scalars.Scalar.TheVariants.{TimeSpan, Truth, UniqueId, Uuid}
 use Rattle.nbfx_values.specs.Scalars.{are_bytes, is_identifier, is_unsigned}
-use Rattle.line_notation.specs.declared.scalars.ScalarKind.{ScalarKind}
+use Rattle.line_notation.specs.{declared.scalars.ScalarKind.ScalarKind, Options.◌>>=◌}
+use Rattle.line_notation.specs.Numerals.{bytes_in, hexadecimal, hexadecimal_in, integer_in}
+use Rattle.line_notation.specs.Numerals.{IsInteger, IsNatural, natural_in}
+use Rattle.line_notation.specs.Quoted.{between_quotes, IsQuoted, quoted, quoted_in}
 use Rattle.line_notation.specs.declared.scalars.ScalarKind.TheVariants as kinds
-use Rattle.line_notation.specs.Numerals.{IsInteger, IsNatural, bytes_in, hexadecimal}
-use Rattle.line_notation.specs.Numerals.{hexadecimal_in, integer_in, natural_in}
-use Rattle.line_notation.specs.Options.{◌>>=◌}
-use Rattle.line_notation.specs.Quoted.{IsQuoted, between_quotes, quoted, quoted_in}
-use Rattle.line_notation.specs.Words.{next_in}
 
 abbrev pub truth_word : Bool → List ℕ
 truth_word true = codes "true"

@@ -1,11 +1,9 @@
 -- What a step of reading a line gives.
-use Rattle.std.specs.Prelude.{◌≡◌, ◌≤◌, ℕ, List, [], ◌∷◌, ◌++◌, true, Option, None, Some, Result}
-use Rattle.std.specs.Prelude.{Ok, Err, length, take, drop}
+use Rattle.std.specs.Prelude.{◌≡◌, ℕ, ◌≤◌, true, List, [], ◌∷◌, ◌++◌, length, take, drop, Some}
+use Rattle.std.specs.Prelude.{None, Ok, Err, Option, Result}
 use Rattle.std.specs.List.{list_all}
-use Rattle.line_notation.specs.declared.words.Stop.{Stop}
-use Rattle.line_notation.specs.declared.words.Stop.TheVariants.{NotALine, Memory}
-use Rattle.line_notation.specs.Quoted.{is_plain}
-use Rattle.line_notation.specs.Words.{words_left, words_of}
+use Rattle.line_notation.specs.declared.words.Stop.{Stop, TheVariants.Memory, TheVariants.NotALine}
+use Rattle.line_notation.specs.{Quoted.is_plain, Words.words_left, Words.words_of}
 
 abbrev pub Stops : {A : Type 0} → Stop → Option A → Type 0
 Stops NotALine read = read ≡ None

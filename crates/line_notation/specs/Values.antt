@@ -1,14 +1,11 @@
 -- The words of values, among which are lists.
-use Rattle.std.specs.Prelude.{◌≡◌, ◌<◌, ℕ, zero, suc, List, [], ◌∷◌, ◌++◌, length, nat_le, nat_lt}
-use Rattle.std.specs.Prelude.{◌==◌, Option, None, Some, codes, if◌then◌else◌}
-use Rattle.std.specs.Str.{bytes_eq}
-use Rattle.nbfx_values.specs.declared.scalars.Scalar.{Scalar}
-use Rattle.nbfx_values.specs.declared.scalars.Value.{Value}
-use Rattle.nbfx_values.specs.declared.scalars.Value.TheVariants.{One, List as ListOf}
-use Rattle.line_notation.specs.Numerals.{IsNatural, count_digits, natural_in}
-use Rattle.line_notation.specs.Options.{◌>>=◌}
+use Rattle.std.specs.Prelude.{◌≡◌, ℕ, zero, suc, ◌<◌, List, [], ◌∷◌, ◌++◌, length, if◌then◌else◌}
+use Rattle.std.specs.Prelude.{nat_lt, nat_le, ◌==◌, Some, None, codes, Option, bytes_eq}
+use Rattle.nbfx_values.specs.declared.scalars.{Scalar.Scalar, Value.Value}
+use Rattle.nbfx_values.specs.declared.scalars.Value.TheVariants.{List as ListOf, One}
+use Rattle.line_notation.specs.Numerals.{count_digits, IsNatural, natural_in}
+use Rattle.line_notation.specs.{Options.◌>>=◌, Words.next_in}
 use Rattle.line_notation.specs.Scalars.{IsScalar, scalar_at, scalar_kind_in, scalar_words}
-use Rattle.line_notation.specs.Words.{next_in}
 
 -- values as they are written, each with what comes behind it. A list may stand in a list
 pub data Written : Type 0 where

@@ -1,12 +1,12 @@
 // Words that go out.
-ghost use Rattle.std.specs.Prelude.{◌≡◌, ◌≤◌, ◌<◌, ◌^◌, ◌∷◌, ◌++◌, ◌+◌, [], false, true, length, take, take_while, All};
+ghost use Rattle.std.specs.Prelude.{◌≡◌, ◌≤◌, ◌<◌, ◌^◌, ◌∷◌, ◌++◌, ◌+◌, ◌*◌, [], false, true, length, take, take_while, All};
 ghost use Rattle.std.specs.Fmt.{digit_glyph};
 ghost use Rattle.std.specs.List.{flat_map, list_all};
 ghost use Rattle.hex.specs.Hex.{encode_lower};
 ghost use Rattle.io_edges.specs.Puts.{Puts};
 ghost use Rattle.line_notation.specs.Lines.{with_line_feed};
 ghost use Rattle.line_notation.specs.Puts.{joined_words, IsPuttable, spaced_word, spaced_words, word_bytes};
-ghost use Rattle.line_notation.specs.Quoted.{escape, is_plain, quoted, quoted_byte};
+ghost use Rattle.line_notation.specs.Quoted.{is_plain, quoted, quoted_byte};
 ghost use Rattle.line_notation.specs.Scalars.{digits_in_quotes, identifier_word, letter_word};
 
 use crate::decimals::{put_integer, put_natural};
@@ -66,13 +66,6 @@ fn digit(bits: u8) -> u8
     } else {
         b'a' + (bits - 10)
     }
-}
-
-// Puts a backslash and the byte's digits.
-fn put_escape<K: Sink>(byte: u8, sink: &mut K) -> Result<(), SinkFault>
-    ensures { Puts K.written K.held K.faults K.may_want sink.old sink.new (escape byte) result }
-{
-    put_bytes(&[b'\\', digit(byte / 16), digit(byte % 16)], sink)
 }
 
 // Whether a quoted text shows each byte as it is. No byte ends the loop, so that it goes over many
@@ -151,7 +144,42 @@ fn are_plain(bytes: &[u8]) -> bool
     }
 }
 
-// Puts what a text has between its quotes, by pieces that are plain or escaped.
+// So many bytes of a text are spelled on the stack and then put at once.
+const PIECE: usize = 64;
+
+// Spells a few bytes as a quoted text shows them, at the front of a piece, and answers how far.
+fn spell(bytes: &[u8], piece: &mut [u8]) -> usize
+    requires { 3 * length bytes.now ≤ length piece.old }
+    ensures within { result ≤ length piece.new }
+    ensures spelled { take result piece.new ≡ flat_map quoted_byte bytes.now }
+{
+    let mut end = 0;
+    for byte in bytes {
+        if is_plain(*byte) {
+            piece[end] = *byte;
+            end += 1;
+        } else {
+            piece[end] = b'\\';
+            piece[end + 1] = digit(*byte / 16);
+            piece[end + 2] = digit(*byte % 16);
+            end += 3;
+        }
+    }
+    end
+}
+
+// Puts a few bytes as a quoted text shows them, by one put.
+fn put_piece<K: Sink>(bytes: &[u8], sink: &mut K) -> Result<(), SinkFault>
+    requires { length bytes.now ≤ PIECE }
+    ensures { Puts K.written K.held K.faults K.may_want sink.old sink.new
+        (flat_map quoted_byte bytes.now) result }
+{
+    let mut piece = [0; 3 * PIECE];
+    let end = spell(bytes, &mut piece);
+    put_bytes(&piece[..end], sink)
+}
+
+// Puts what a text has between its quotes: many plain bytes as they stand, others by pieces.
 #[inline(never)]
 fn put_pieces<K: Sink>(bytes: &[u8], sink: &mut K) -> Result<(), SinkFault>
     ensures { Puts K.written K.held K.faults K.may_want sink.old sink.new
@@ -160,9 +188,9 @@ fn put_pieces<K: Sink>(bytes: &[u8], sink: &mut K) -> Result<(), SinkFault>
     let mut rest = bytes;
     while !rest.is_empty() {
         let plain = plain_count(rest);
-        if plain == 0 {
-            let (escaped, behind) = rest.split_at(1);
-            put_escape(escaped[0], sink)?;
+        if plain < PIECE {
+            let (piece, behind) = rest.split_at(rest.len().min(PIECE));
+            put_piece(piece, sink)?;
             rest = behind;
         } else {
             let (shown, behind) = rest.split_at(plain);
@@ -211,6 +239,7 @@ pub fn quote<K: Sink>(text: &str, sink: &mut K) -> Result<(), SinkFault>
     put_bytes(b"\"", sink)
 }
 
+// So many bytes are encoded as digits and then put at once.
 const CHUNK: usize = 32;
 
 // Puts the hexadecimal digits of a few bytes.

@@ -1,11 +1,9 @@
 -- An integer at the front of some bytes is read byte by byte.
-use Rattle.std.proofs.Common.{◌≡◌, ℕ, ◌+◌, ◌<◌, List, [], ◌∷◌, ◌++◌, length, take, drop, get_or}
-use Rattle.std.proofs.Common.{sym, ap, ◌∙◌, arith}
-use Rattle.std.proofs.lemmas.List.{take_more, take-append-drop, length-take-le}
-use Rattle.unit_streams.specs.Front.{whole, wrong, ReadsFront}
-use Rattle.unit_streams.proofs.Peeling.{peels_front}
-use Rattle.multibyte_ints.specs.Integer.{int_at}
-use Rattle.multibyte_ints.proofs.IntegerBytes.{int_peels}
+use Rattle.std.proofs.Common.{◌≡◌, ℕ, ◌+◌, ◌<◌, List, [], ◌∷◌, ◌++◌, length, get_or, take, drop}
+use Rattle.std.proofs.Common.{sym, ap, ◌∙◌, arith, take-append-drop, length-take-le}
+use Rattle.{std.proofs.lemmas.List.take_more, unit_streams.proofs.Peeling.peels_front}
+use Rattle.unit_streams.specs.Front.{ReadsFront, whole, wrong}
+use Rattle.multibyte_ints.{specs.Integer.int_at, proofs.IntegerBytes.int_peels}
 
 reads : ReadsFront int_at
 reads = peels_front int_at int_peels

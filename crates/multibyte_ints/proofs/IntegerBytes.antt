@@ -1,18 +1,14 @@
 -- What one more byte makes of an integer that has begun, so that integers are read byte by byte.
-use Rattle.std.proofs.Common.{◌≡◌, ℕ, suc, ◌+◌, ◌*◌, ◌%◌, ◌^◌, ◌<◌, ◌≤◌, ◌⊎◌, inl, inr, List, []}
-use Rattle.std.proofs.Common.{◌∷◌, ◌++◌, length, take, get_or, sym, ◌∙◌, ap, arith, length-append}
-use Rattle.std.specs.Prelude.{⊤}
-use Rattle.std.proofs.Math.ListN.{get_or-append}
-use Rattle.std.proofs.Math.Seq.{get_or-append_seam}
-use Rattle.std.proofs.lemmas.List.{take_all, take-append-le}
-use Rattle.std.proofs.lemmas.Bool.Decides.{leb_tells}
-use Rattle.unit_streams.specs.Front.{begun, whole, wrong, ReadsFront}
+use Rattle.std.proofs.Common.{◌≡◌, ℕ, suc, ◌+◌, ◌*◌, ◌%◌, ◌^◌, ◌<◌, ◌≤◌, ◌⊎◌, List, [], ◌∷◌, ◌++◌}
+use Rattle.std.proofs.Common.{length, get_or, take, sym, ap, ◌∙◌, inl, inr, arith, length-append}
+use Rattle.std.proofs.{Common.take_all, Math.ListN.get_or-append, Math.Seq.get_or-append_seam}
+use Rattle.{std.specs.Prelude.⊤, unit_streams.proofs.Taken.at_last}
+use Rattle.std.proofs.lemmas.{Bool.Decides.leb_tells, List.take-append-le}
 use Rattle.unit_streams.proofs.Peeling.{extent, IsPeeling, peels_front}
-use Rattle.unit_streams.proofs.Taken.{at_last}
-use Rattle.multibyte_ints.specs.Integer.{value_of, int_at}
-use Rattle.multibyte_ints.specs.Laws.{FifthIsAbove}
+use Rattle.unit_streams.specs.Front.{begun, ReadsFront, whole, wrong}
+use Rattle.multibyte_ints.specs.{Integer.int_at, Integer.value_of, Laws.FifthIsAbove}
+use Rattle.multibyte_ints.proofs.IntegerFacts.{Begun, begun_is, cases, EndsAt, whole_is, wrong_is}
 use Rattle.multibyte_ints.proofs.Values.{value_of_more}
-use Rattle.multibyte_ints.proofs.IntegerFacts.{Begun, EndsAt, begun_is, whole_is, wrong_is, cases}
 
 -- what is known of the places of an integer that has begun
 pub begun_from : (b : List ℕ) → int_at b ≡ begun → Begun b

@@ -1,13 +1,11 @@
 -- The integer at the front of some bytes, by the places of the bytes.
-use Rattle.std.proofs.Common.{◌≡◌, ℕ, ◌+◌, ◌<◌, ◌≤◌, List, length, take, get_or, true, false, ◌⊎◌}
-use Rattle.std.proofs.Common.{inl, inr, arith}
-use Rattle.std.specs.Prelude.{nat_le}
+use Rattle.std.proofs.Common.{◌≡◌, ℕ, ◌+◌, ◌<◌, ◌≤◌, true, false, ◌⊎◌, List, length, get_or, take}
+use Rattle.std.proofs.Common.{nat_le, inl, inr, arith}
+use Rattle.std.proofs.lemmas.Bool.Decides.{leb_tells, nat_tests}
 use Rattle.std.proofs.lemmas.List.Sums.{prefix_len-le-length, prefix_len_is, prefix_len_passes}
-use Rattle.std.proofs.lemmas.List.Sums.{prefix_len_stops}
-use Rattle.std.proofs.lemmas.Bool.Decides.{nat_tests, leb_tells}
+use Rattle.{std.proofs.lemmas.List.Sums.prefix_len_stops, multibyte_ints.specs.Laws.FifthIsAbove}
 use Rattle.unit_streams.specs.Front.{begun, whole, wrong}
-use Rattle.multibyte_ints.specs.Integer.{value_of, continued_len, int_ending_at, int_at}
-use Rattle.multibyte_ints.specs.Laws.{FifthIsAbove}
+use Rattle.multibyte_ints.specs.Integer.{continued_len, int_at, int_ending_at, value_of}
 
 -- each byte says that another follows, and there are fewer than five
 pub record Begun (b : List ℕ) : Type 0 where

@@ -1,15 +1,13 @@
 -- The integer at the front is the one that is spelled there.
-use Rattle.std.proofs.Common.{◌≡◌, ℕ, ◌+◌, ◌-◌, ◌^◌, ◌<◌, ◌≤◌, List, ◌++◌, length, take, drop}
-use Rattle.std.proofs.Common.{get_or, inl, inr, sym, ◌∙◌, ap, subst, arith, length-append, ◌∷◌, []}
-use Rattle.std.proofs.lemmas.List.{length-take-le, take_all, take-append-drop}
-use Rattle.std.proofs.Math.Seq.{take-append_seam}
-use Rattle.std.proofs.lemmas.Bool.Decides.{leb_tells}
-use Rattle.unit_streams.specs.Front.{begun, whole}
-use Rattle.unit_streams.proofs.Taken.{none_goes_on}
-use Rattle.multibyte_ints.specs.Integer.{value_of, int_at, Spells}
-use Rattle.multibyte_ints.proofs.Values.{value_of_five, value_of_fifth, value_of_four}
-use Rattle.multibyte_ints.proofs.IntegerFacts.{EndsAt, whole_is}
+use Rattle.std.proofs.Common.{◌≡◌, ℕ, ◌+◌, ◌-◌, ◌^◌, ◌<◌, ◌≤◌, List, [], ◌∷◌, ◌++◌, length, get_or}
+use Rattle.std.proofs.Common.{take, drop, sym, ap, ◌∙◌, subst, inl, inr, arith, length-append}
+use Rattle.std.proofs.Common.{take-append-drop, length-take-le, take_all}
+use Rattle.std.proofs.{Math.Seq.take-append_seam, lemmas.Bool.Decides.leb_tells}
+use Rattle.unit_streams.{proofs.Taken.none_goes_on, specs.Front.begun, specs.Front.whole}
+use Rattle.multibyte_ints.specs.Integer.{int_at, Spells, value_of}
 use Rattle.multibyte_ints.proofs.IntegerBytes.{begun_from, ended_from, ends, int_reads_front}
+use Rattle.multibyte_ints.proofs.IntegerFacts.{EndsAt, whole_is}
+use Rattle.multibyte_ints.proofs.Values.{value_of_fifth, value_of_five, value_of_four}
 
 small_enough : (b : List ℕ) (j : ℕ) → EndsAt j b → length b ≡ j + 1 → value_of b < 2 ^ 31
 small_enough b j w len =

@@ -1,19 +1,16 @@
 -- What a reader of integers stands for after one more byte, and what it answers.
-use Rattle.std.proofs.Common.{◌≡◌, ℕ, ◌+◌, ◌*◌, ◌%◌, ◌^◌, ◌<◌, ◌≤◌, ◌≢◌, List, [], ◌∷◌, ◌++◌}
-use Rattle.std.proofs.Common.{length, sym, ◌∙◌, ap, subst, ◌⊎◌, inl, inr, arith, length-append}
-use Rattle.std.specs.Prelude.{◌↔◌}
-use Rattle.std.proofs.Math.Nat.{pow-le-pow_right, mul-le-mul_left}
+use Rattle.std.proofs.Common.{◌≡◌, ℕ, ◌+◌, ◌*◌, ◌%◌, ◌^◌, ◌<◌, ◌≤◌, ◌≢◌, ◌⊎◌, ◌↔◌, List, [], ◌∷◌}
+use Rattle.std.proofs.Common.{◌++◌, length, sym, ap, ◌∙◌, subst, inl, inr, arith, length-append}
+use Rattle.std.proofs.Math.Nat.{mul-le-mul_left, pow-le-pow_right}
 use Rattle.std.proofs.lemmas.Bool.Decides.{leb_tells}
-use Rattle.multibyte_ints.specs.declared.integer.IntReader.{IntReader}
-use Rattle.multibyte_ints.specs.declared.integer.State.TheVariants.{Within, Refused}
-use Rattle.multibyte_ints.specs.declared.integer.IntStep.{IntStep}
-use Rattle.multibyte_ints.specs.declared.integer.IntStep.TheVariants.{More, Done, Bad}
 use Rattle.unit_streams.specs.Front.{begun, whole, wrong}
-use Rattle.multibyte_ints.specs.Integer.{Spells, value_of, int_at}
-use Rattle.multibyte_ints.specs.Reader.{StandsFor, AnswersAt}
-use Rattle.multibyte_ints.proofs.Values.{value_of_more}
-use Rattle.multibyte_ints.proofs.IntegerBytes.{int_peels, int_reads_front, begun_from, goes_on}
-use Rattle.multibyte_ints.proofs.IntegerBytes.{fails_at_fifth, ends}
+use Rattle.multibyte_ints.specs.declared.integer.{IntReader.IntReader, IntStep.IntStep}
+use Rattle.multibyte_ints.specs.declared.integer.IntStep.TheVariants.{Bad, Done, More}
+use Rattle.multibyte_ints.specs.declared.integer.State.TheVariants.{Refused, Within}
+use Rattle.multibyte_ints.specs.Integer.{int_at, Spells, value_of}
+use Rattle.multibyte_ints.specs.Reader.{AnswersAt, StandsFor}
+use Rattle.multibyte_ints.proofs.IntegerBytes.{begun_from, ends, fails_at_fifth, goes_on, int_peels}
+use Rattle.multibyte_ints.proofs.{IntegerBytes.int_reads_front, Values.value_of_more}
 use Rattle.multibyte_ints.proofs.IntegerLaws.{spells_from_all, whole_from_all}
 
 -- the value with one more byte stays below 2 ^ 31

@@ -1,9 +1,8 @@
 -- The shortest spelling is one, and no other has a last byte that isn't 0.
 use Rattle.std.proofs.Common.{◌≡◌, ℕ, zero, suc, ◌+◌, ◌-◌, ◌/◌, ◌%◌, ◌^◌, ◌<◌, ◌≤◌, List, [], ◌∷◌}
 use Rattle.std.proofs.Common.{length, get_or, refl, ap, inl, inr, arith}
-use Rattle.std.proofs.Math.Nat.{pow-succ'}
-use Rattle.std.proofs.lemmas.Bool.Decides.{leb_tells}
-use Rattle.multibyte_ints.specs.Integer.{value_of, shortest, shortest_within, Spells, IsBytes}
+use Rattle.std.proofs.{Math.Nat.pow-succ', lemmas.Bool.Decides.leb_tells}
+use Rattle.multibyte_ints.specs.Integer.{IsBytes, shortest, shortest_within, Spells, value_of}
 
 -- a spelling of n by at most k + 1 bytes, whose last byte isn't 0 where there are more than one
 record IsShortest (k n : ℕ) (b : List ℕ) : Type 0 where

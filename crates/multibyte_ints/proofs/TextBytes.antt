@@ -1,19 +1,16 @@
 -- What one more byte makes of a string that has begun, so that strings are read byte by byte.
-use Rattle.std.proofs.Common.{◌≡◌, ℕ, suc, ◌+◌, ◌<◌, ◌≤◌, ◌⊎◌, inl, inr, List, [], ◌∷◌, ◌++◌}
-use Rattle.std.proofs.Common.{length, take, drop, sym, ◌∙◌, ap, arith, length-append, length-drop}
-use Rattle.std.specs.Str.{is_utf8}
-use Rattle.std.proofs.lemmas.Bool.{cases_Bool}
-use Rattle.std.proofs.lemmas.Bool.Decides.{leb_tells}
-use Rattle.std.proofs.lemmas.List.{take-append-le, drop-append-le}
-use Rattle.unit_streams.specs.Front.{begun, whole, ReadsFront}
+use Rattle.std.proofs.Common.{◌≡◌, ℕ, suc, ◌+◌, ◌<◌, ◌≤◌, ◌⊎◌, List, [], ◌∷◌, ◌++◌, length, take}
+use Rattle.std.proofs.Common.{drop, sym, ap, ◌∙◌, inl, inr, arith, length-append, length-drop}
+use Rattle.std.proofs.lemmas.Bool.{cases_Bool, Decides.leb_tells}
+use Rattle.std.proofs.lemmas.List.{drop-append-le, take-append-le}
+use Rattle.{std.specs.Str.is_utf8, unit_streams.proofs.Taken.at_last}
 use Rattle.unit_streams.proofs.Peeling.{extent, IsPeeling, peels_front}
-use Rattle.unit_streams.proofs.Taken.{at_last}
-use Rattle.multibyte_ints.specs.Integer.{int_at}
-use Rattle.multibyte_ints.specs.Text.{string_at}
+use Rattle.unit_streams.specs.Front.{begun, ReadsFront, whole}
+use Rattle.multibyte_ints.specs.{Integer.int_at, Text.string_at}
 use Rattle.multibyte_ints.proofs.IntegerBytes.{int_peels, int_reads_front}
-use Rattle.multibyte_ints.proofs.TextFacts.{int_begun_is, int_wrong_is, above_is, waiting_is}
-use Rattle.multibyte_ints.proofs.TextFacts.{text_is, no_text_is, int_begun, int_wrong, above}
-use Rattle.multibyte_ints.proofs.TextFacts.{waiting, text, no_text, string_cases}
+use Rattle.multibyte_ints.proofs.TextFacts.{above, above_is, int_begun, int_begun_is, int_wrong}
+use Rattle.multibyte_ints.proofs.TextFacts.{int_wrong_is, no_text, no_text_is, string_cases, text}
+use Rattle.multibyte_ints.proofs.TextFacts.{text_is, waiting, waiting_is}
 
 -- the text behind j bytes is the same in a longer list
 same_text : (b more : List ℕ) (n j : ℕ) → j + n ≤ length b → take n (drop j (b ++ more))

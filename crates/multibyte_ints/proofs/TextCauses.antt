@@ -1,16 +1,12 @@
 -- The causes of a wrong string.
-use Rattle.std.proofs.Common.{◌≡◌, ℕ, ◌+◌, ◌<◌, List, take, drop, false, sym, ◌∙◌, ap, arith}
-use Rattle.std.specs.Prelude.{IsUtf8}
-use Rattle.std.specs.Str.{is_utf8}
-use Rattle.std.proofs.lemmas.Bool.{false_from_ne_true}
+use Rattle.std.proofs.Common.{◌≡◌, ℕ, ◌+◌, ◌<◌, false, List, take, drop, IsUtf8, sym, ap, ◌∙◌}
+use Rattle.std.{proofs.Common.arith, proofs.lemmas.Bool.false_from_ne_true, specs.Str.is_utf8}
 use Rattle.std.proofs.lemmas.Str.{IsUtf8-from_is_utf8, is_utf8-from_IsUtf8}
 use Rattle.unit_streams.specs.Front.{whole, wrong}
-use Rattle.multibyte_ints.specs.Integer.{int_at}
-use Rattle.multibyte_ints.specs.Text.{bad_int, too_long, bad_utf8, string_at}
-use Rattle.multibyte_ints.specs.Laws.{IsBadText}
-use Rattle.multibyte_ints.proofs.TextFacts.{int_wrong_is, above_is, no_text_is, StringCase}
-use Rattle.multibyte_ints.proofs.TextFacts.{int_begun, int_wrong, above, waiting, text, no_text}
-use Rattle.multibyte_ints.proofs.TextFacts.{string_cases}
+use Rattle.multibyte_ints.{specs.Integer.int_at, specs.Laws.IsBadText, proofs.TextFacts.waiting}
+use Rattle.multibyte_ints.specs.Text.{bad_int, bad_utf8, string_at, too_long}
+use Rattle.multibyte_ints.proofs.TextFacts.{above, above_is, int_begun, int_wrong, int_wrong_is}
+use Rattle.multibyte_ints.proofs.TextFacts.{no_text, no_text_is, string_cases, StringCase, text}
 
 by_int : (limit : ℕ) (b : List ℕ) (k : ℕ) → string_at limit b ≡ wrong bad_int k → StringCase limit b
     → int_at b ≡ wrong tt k

@@ -1,13 +1,11 @@
 -- The string at the front of some bytes, case by case.
-use Rattle.std.proofs.Common.{◌≡◌, ℕ, ◌+◌, ◌<◌, ◌≤◌, List, length, take, drop, Bool, true, false}
+use Rattle.std.proofs.Common.{◌≡◌, ℕ, ◌+◌, ◌<◌, ◌≤◌, Bool, true, false, List, length, take, drop}
 use Rattle.std.proofs.Common.{refl, inl, inr, arith}
-use Rattle.std.specs.Prelude.{⊤}
-use Rattle.std.specs.Str.{is_utf8}
+use Rattle.std.specs.{Prelude.⊤, Str.is_utf8}
 use Rattle.std.proofs.lemmas.Bool.Decides.{leb_tells, nat_tests}
-use Rattle.unit_streams.specs.Front.{Front, begun, whole, wrong}
-use Rattle.multibyte_ints.specs.Integer.{int_at}
-use Rattle.multibyte_ints.specs.Text.{bad_int, too_long, bad_utf8, string_at, text_behind, text_at}
-use Rattle.multibyte_ints.specs.Text.{text_ending_at}
+use Rattle.unit_streams.specs.Front.{begun, Front, whole, wrong}
+use Rattle.multibyte_ints.specs.{Integer.int_at, Text.text_ending_at, Text.too_long}
+use Rattle.multibyte_ints.specs.Text.{bad_int, bad_utf8, string_at, text_at, text_behind}
 
 pub int_begun_is : (limit : ℕ) (b : List ℕ) → int_at b ≡ begun → string_at limit b ≡ begun
 unfolding string_at text_behind

@@ -1,20 +1,16 @@
 -- The text at the front is the one whose string stands there.
-use Rattle.std.proofs.Common.{◌≡◌, ℕ, ◌+◌, ◌^◌, ◌<◌, ◌≤◌, List, [], ◌++◌, length, take, drop, true}
-use Rattle.std.proofs.Common.{refl, sym, ◌∙◌, ap, arith, length-append, length-drop}
-use Rattle.std.specs.Prelude.{IsUtf8}
-use Rattle.std.specs.Str.{is_utf8}
+use Rattle.std.proofs.Common.{◌≡◌, ℕ, ◌+◌, ◌^◌, ◌<◌, ◌≤◌, true, List, [], ◌++◌, length, take, drop}
+use Rattle.std.proofs.Common.{IsUtf8, sym, refl, ap, ◌∙◌, arith, length-append, length-drop}
+use Rattle.std.{proofs.Common.take-append-drop, proofs.Common.length-take-le, specs.Str.is_utf8}
+use Rattle.std.proofs.Math.Seq.{drop-append_seam, take-add, take-length}
 use Rattle.std.proofs.lemmas.Str.{IsUtf8-from_is_utf8, is_utf8-from_IsUtf8}
-use Rattle.std.proofs.lemmas.List.{length-take-le, take-append-drop}
-use Rattle.std.proofs.Math.Seq.{take-add, drop-append_seam, take-length}
-use Rattle.unit_streams.specs.Front.{whole}
-use Rattle.unit_streams.proofs.Taken.{none_goes_on}
-use Rattle.multibyte_ints.specs.Integer.{Spells, shortest, int_at}
+use Rattle.unit_streams.{proofs.Taken.none_goes_on, specs.Front.whole}
+use Rattle.multibyte_ints.specs.Integer.{int_at, shortest, Spells}
 use Rattle.multibyte_ints.specs.Text.{IsString, string_at, string_bytes_of}
 use Rattle.multibyte_ints.proofs.IntegerLaws.{spells_from_whole, whole_then}
-use Rattle.multibyte_ints.proofs.ShortestLaws.{shortest_spells}
-use Rattle.multibyte_ints.proofs.TextFacts.{text_is, int_begun, int_wrong, above, waiting, text}
-use Rattle.multibyte_ints.proofs.TextFacts.{no_text, string_cases}
-use Rattle.multibyte_ints.proofs.TextBytes.{string_reads_front}
+use Rattle.multibyte_ints.proofs.{ShortestLaws.shortest_spells, TextBytes.string_reads_front}
+use Rattle.multibyte_ints.proofs.TextFacts.{above, int_begun, int_wrong, no_text, string_cases}
+use Rattle.multibyte_ints.proofs.TextFacts.{text, text_is, waiting}
 
 text_len : (b : List ℕ) (n j : ℕ) → j + n ≤ length b → length (take n (drop j b)) ≡ n
 text_len b n j within = length-take-le n (drop j b) (simp length-drop (omega arith))

@@ -1,32 +1,25 @@
 -- What a reader of strings stands for after each of its steps.
-use Rattle.std.proofs.Common.{◌≡◌, ℕ, ◌+◌, ◌-◌, ◌<◌, ◌≤◌, List, [], ◌∷◌, ◌++◌, length, take, drop}
-use Rattle.std.proofs.Common.{get_or, Bool, true, false, refl, sym, ◌∙◌, ap, subst, arith}
-use Rattle.std.proofs.Common.{length-append, length-drop, append_assoc}
-use Rattle.std.specs.Prelude.{if◌then◌else◌, Result, Ok, Err, MatchResult, IsUtf8}
-use Rattle.std.specs.Result.{result_unwrap_or}
-use Rattle.std.proofs.Common.{Bor}
-use Rattle.std.specs.Str.{is_utf8}
-use Rattle.std.proofs.lemmas.List.{take_more, take_all, length-take-le, drop-append-le}
+use Rattle.std.proofs.Common.{◌≡◌, ℕ, ◌+◌, ◌-◌, ◌<◌, ◌≤◌, Bool, true, false, List, [], ◌∷◌, ◌++◌}
+use Rattle.std.proofs.Common.{length, get_or, take, drop, if◌then◌else◌, Ok, Err, IsUtf8, Result}
+use Rattle.std.proofs.Common.{MatchResult, sym, refl, ap, ◌∙◌, subst, append_assoc, arith}
+use Rattle.std.proofs.Common.{length-append, length-drop, length-take-le, take_all, Bor}
 use Rattle.std.proofs.Math.Seq.{drop-length, take-add}
-use Rattle.multibyte_ints.specs.declared.text.Part.{Part}
-use Rattle.multibyte_ints.specs.declared.text.Part.TheVariants.{Length, Text, Answered}
-use Rattle.multibyte_ints.specs.declared.text.StringReader.{StringReader}
-use Rattle.multibyte_ints.specs.declared.text.StringStep.{StringStep}
-use Rattle.multibyte_ints.specs.declared.text.StringStep.TheVariants.{More, Done, BadInt, TooLong}
-use Rattle.multibyte_ints.specs.declared.text.StringStep.TheVariants.{BadUtf8}
-use Rattle.unit_streams.specs.Front.{begun, whole, wrong}
-use Rattle.multibyte_ints.specs.Integer.{int_at}
-use Rattle.multibyte_ints.specs.Text.{bad_int, too_long, bad_utf8, string_at}
-use Rattle.multibyte_ints.specs.Reader.{StandsFor}
-use Rattle.multibyte_ints.specs.TextPart.{Waits, InLengthAllUsed, InTextAllUsed, step_of}
-use Rattle.multibyte_ints.specs.TextPart.{is_settled}
-use Rattle.multibyte_ints.specs.TextReader.{StringStandsFor, StringAnswersAt, Reached, Rests}
-use Rattle.multibyte_ints.specs.TextReader.{InLength, InText, EndsAtInt, text_of}
+use Rattle.std.proofs.lemmas.List.{drop-append-le, take_more}
+use Rattle.std.specs.{Result.result_unwrap_or, Str.is_utf8}
 use Rattle.unit_streams.proofs.Taken.{all_taken, whole_then, wrong_then}
+use Rattle.unit_streams.specs.Front.{begun, whole, wrong}
+use Rattle.multibyte_ints.specs.declared.text.{Part.Part, StringReader.StringReader}
+use Rattle.multibyte_ints.specs.declared.text.Part.TheVariants.{Answered, Length, Text}
+use Rattle.multibyte_ints.specs.declared.text.StringStep.{StringStep, TheVariants.TooLong}
+use Rattle.multibyte_ints.specs.declared.text.StringStep.TheVariants.{BadInt, BadUtf8, Done, More}
+use Rattle.multibyte_ints.specs.{Integer.int_at, Reader.StandsFor, TextPart.Waits}
+use Rattle.multibyte_ints.specs.Text.{bad_int, bad_utf8, string_at, too_long}
+use Rattle.multibyte_ints.specs.TextPart.{InLengthAllUsed, InTextAllUsed, is_settled, step_of}
+use Rattle.multibyte_ints.specs.TextReader.{EndsAtInt, InLength, InText, Reached, Rests}
+use Rattle.multibyte_ints.specs.TextReader.{StringAnswersAt, StringStandsFor, text_of}
 use Rattle.multibyte_ints.proofs.IntegerBytes.{int_peels, int_reads_front, wrong_at_last}
-use Rattle.multibyte_ints.proofs.TextFacts.{int_begun_is, int_wrong_is, waiting_is, text_is}
-use Rattle.multibyte_ints.proofs.TextFacts.{no_text_is}
-use Rattle.multibyte_ints.proofs.TextBytes.{string_reads_front}
+use Rattle.multibyte_ints.proofs.{TextBytes.string_reads_front, TextFacts.waiting_is}
+use Rattle.multibyte_ints.proofs.TextFacts.{int_begun_is, int_wrong_is, no_text_is, text_is}
 
 reached_at_start : (r : StringReader) (part : Part) → part ≡ Length → StandsFor r.length []
     → Reached r [] part × Waits part

@@ -1,9 +1,8 @@
 -- What the seven-bit groups of some bytes add up to.
 use Rattle.std.proofs.Common.{◌≡◌, ℕ, ◌+◌, ◌*◌, ◌%◌, ◌^◌, ◌<◌, ◌≤◌, List, [], ◌∷◌, ◌++◌, length}
-use Rattle.std.proofs.Common.{get_or, sym, take, subst, ◌∙◌, ap, arith}
-use Rattle.std.proofs.Math.Nat.{pow-succ', pow-le-pow_right}
-use Rattle.std.proofs.lemmas.List.{length-take-le, take_all, take_more}
-use Rattle.std.proofs.lemmas.Nat.{mod_below}
+use Rattle.std.proofs.Common.{get_or, take, sym, ap, ◌∙◌, subst, arith, length-take-le, take_all}
+use Rattle.std.proofs.Math.Nat.{pow-le-pow_right, pow-succ'}
+use Rattle.std.proofs.lemmas.{List.take_more, Nat.mod_below}
 use Rattle.multibyte_ints.specs.Integer.{value_of}
 
 pub value_of-append : (xs ys : List ℕ) → value_of (xs ++ ys) ≡ value_of xs + 128 ^ length xs *

@@ -1,13 +1,11 @@
 -- The groups of seven bits, one after the other.
 use Rattle.std.proofs.Common.{◌≡◌, ℕ, zero, suc, ◌+◌, ◌-◌, ◌/◌, ◌%◌, ◌^◌, ◌<◌, ◌≤◌, List, [], ◌∷◌}
-use Rattle.std.proofs.Common.{◌++◌, length, take, drop, set, refl, sym, ap, ◌∙◌, inl, inr, arith}
-use Rattle.std.proofs.Common.{append_assoc, length-append, length-drop, add-one}
+use Rattle.std.proofs.Common.{◌++◌, length, take, drop, set, sym, refl, ap, ◌∙◌, inl, inr}
+use Rattle.std.proofs.Common.{append_assoc, add-one, arith, length-append, length-drop}
+use Rattle.std.proofs.Common.{length-take-le, drop-drop, take_at, drop-set-lt}
 use Rattle.std.proofs.Math.Nat.{pow-succ'}
-use Rattle.std.proofs.lemmas.List.{take_more_set, drop-set-lt, drop-drop, set_split, length-take-le}
-use Rattle.std.proofs.lemmas.List.{take_at}
-use Rattle.std.proofs.lemmas.Bool.Decides.{leb_tells}
-use Rattle.multibyte_ints.specs.Integer.{shortest, shortest_within}
-use Rattle.multibyte_ints.specs.Text.{string_bytes_of}
+use Rattle.std.proofs.lemmas.{Bool.Decides.leb_tells, List.set_split, List.take_more_set}
+use Rattle.multibyte_ints.specs.{Integer.shortest, Integer.shortest_within, Text.string_bytes_of}
 
 last_group : (k n : ℕ) → n < 128 → shortest_within k n ≡ n ∷ []
 unfolding shortest_within

@@ -1,9 +1,8 @@
 -- What is answered to bytes at whose front an integer is read.
 use Rattle.std.specs.Prelude.{◌≡◌, ℕ, ◌^◌, ◌<◌, List}
 use Rattle.unit_streams.specs.Front.{begun, whole, wrong}
-use Rattle.multibyte_ints.specs.declared.front.IntRead.{IntRead}
-use Rattle.multibyte_ints.specs.declared.front.IntRead.TheVariants.{More, Done, Bad}
-use Rattle.multibyte_ints.specs.Integer.{int_at}
+use Rattle.multibyte_ints.specs.{declared.front.IntRead.IntRead, Integer.int_at}
+use Rattle.multibyte_ints.specs.declared.front.IntRead.TheVariants.{Bad, Done, More}
 
 -- what stands there
 abbrev pub StandsAtFront : List ℕ → IntRead → Type 0

@@ -1,7 +1,6 @@
 -- What a reader of integers has of one.
-use Rattle.std.specs.Prelude.{ℕ}
-use Rattle.multibyte_ints.specs.declared.integer.State.{State}
-use Rattle.multibyte_ints.specs.declared.integer.State.TheVariants.{Within, Refused}
+use Rattle.{std.specs.Prelude.ℕ, multibyte_ints.specs.declared.integer.State.State}
+use Rattle.multibyte_ints.specs.declared.integer.State.TheVariants.{Refused, Within}
 
 -- how many bytes
 abbrev pub count_of : State → ℕ

@@ -1,11 +1,10 @@
 -- The variable-length integer (MC-NBFX's MultiByteInt31, MC-NMF's record size): one to five bytes
 -- with seven value bits each, least significant first, where the top bit says that another byte
 -- follows.
-use Rattle.std.specs.Prelude.{◌≡◌, ℕ, zero, suc, ◌+◌, ◌-◌, ◌*◌, ◌/◌, ◌%◌, ◌^◌, ◌<◌, ◌≤◌, List, []}
-use Rattle.std.specs.Prelude.{◌∷◌, length, take, slice_index, ◌==◌, nat_lt, nat_le, ◌&&◌}
-use Rattle.std.specs.Prelude.{if◌then◌else◌, ⊤}
-use Rattle.std.specs.List.{prefix_len}
-use Rattle.unit_streams.specs.Front.{Front, begun, whole, wrong}
+use Rattle.std.specs.Prelude.{◌≡◌, ℕ, zero, suc, ◌+◌, ◌-◌, ◌*◌, ◌/◌, ◌%◌, ◌^◌, ◌<◌, ◌≤◌, ◌&&◌, List}
+use Rattle.std.specs.Prelude.{[], ◌∷◌, length, take, if◌then◌else◌, nat_lt, nat_le, ◌==◌}
+use Rattle.std.specs.{Prelude.slice_index, Prelude.⊤, List.prefix_len}
+use Rattle.unit_streams.specs.Front.{begun, Front, whole, wrong}
 
 -- the low seven bits of each byte, the byte at i times 128 ^ i, added up
 unfoldable pub value_of : List ℕ → ℕ

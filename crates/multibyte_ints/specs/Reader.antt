@@ -1,12 +1,11 @@
 -- What a reader of integers stands for, and what it answers. A reader doesn't keep the bytes that
 -- it used.
-use Rattle.std.specs.Prelude.{◌≡◌, ℕ, List, [], length, ◌⊎◌}
-use Rattle.multibyte_ints.specs.declared.integer.IntReader.{IntReader}
-use Rattle.multibyte_ints.specs.declared.integer.State.TheVariants.{Within, Refused}
-use Rattle.multibyte_ints.specs.declared.integer.IntStep.{IntStep}
-use Rattle.multibyte_ints.specs.declared.integer.IntStep.TheVariants.{More, Done, Bad}
+use Rattle.std.specs.Prelude.{◌≡◌, ℕ, ◌⊎◌, List, [], length}
 use Rattle.unit_streams.specs.Front.{begun, whole, wrong}
-use Rattle.multibyte_ints.specs.Integer.{value_of, int_at}
+use Rattle.multibyte_ints.specs.declared.integer.{IntReader.IntReader, IntStep.IntStep}
+use Rattle.multibyte_ints.specs.declared.integer.IntStep.TheVariants.{Bad, Done, More}
+use Rattle.multibyte_ints.specs.declared.integer.State.TheVariants.{Refused, Within}
+use Rattle.multibyte_ints.specs.Integer.{int_at, value_of}
 
 -- an integer has begun, whose bytes are so many and add up to this
 pub record Holds (reader : IntReader) (p : List ℕ) : Type 0 where

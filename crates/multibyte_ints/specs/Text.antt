@@ -1,9 +1,8 @@
 -- The string of MC-NMF and MC-NBFX: an integer n, and then n bytes of UTF-8.
-use Rattle.std.specs.Prelude.{◌≡◌, ℕ, ◌+◌, List, ◌++◌, length, take, drop, nat_lt, if◌then◌else◌, ⊤}
-use Rattle.std.specs.Prelude.{IsUtf8}
-use Rattle.std.specs.Str.{is_utf8}
-use Rattle.unit_streams.specs.Front.{Front, begun, whole, wrong}
-use Rattle.multibyte_ints.specs.Integer.{Spells, shortest, int_at}
+use Rattle.std.specs.Prelude.{◌≡◌, ℕ, ◌+◌, List, ◌++◌, length, take, drop, if◌then◌else◌, nat_lt}
+use Rattle.std.specs.{Prelude.IsUtf8, Prelude.⊤, Str.is_utf8}
+use Rattle.unit_streams.specs.Front.{begun, Front, whole, wrong}
+use Rattle.multibyte_ints.specs.Integer.{int_at, shortest, Spells}
 
 -- the bytes b are a string of the text s
 pub record IsString (s b : List ℕ) : Type 0 where

@@ -1,9 +1,8 @@
 -- What a reader of strings waits for.
 use Rattle.std.specs.Prelude.{◌≡◌, ℕ, ◌<◌, Bool, true, false}
 use Rattle.multibyte_ints.specs.declared.text.Part.{Part}
-use Rattle.multibyte_ints.specs.declared.text.Part.TheVariants.{Length, Text, Answered}
-use Rattle.multibyte_ints.specs.declared.text.StringStep.{StringStep}
-use Rattle.multibyte_ints.specs.declared.text.StringStep.TheVariants.{More}
+use Rattle.multibyte_ints.specs.declared.text.Part.TheVariants.{Answered, Length, Text}
+use Rattle.multibyte_ints.specs.declared.text.StringStep.{StringStep, TheVariants.More}
 
 -- how many bytes of the text are still to come
 abbrev pub left_of : Part → ℕ

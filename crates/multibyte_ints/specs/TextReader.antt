@@ -1,17 +1,13 @@
 -- What a reader of strings stands for, and what it answers. It keeps the text alone of the bytes
 -- that it used.
 use Rattle.std.specs.Prelude.{◌≡◌, ℕ, ◌+◌, ◌≤◌, List, [], ◌++◌, length, drop, vec_len}
-use Rattle.multibyte_ints.specs.declared.text.Part.{Part}
-use Rattle.multibyte_ints.specs.declared.text.Part.TheVariants.{Length, Text, Answered}
-use Rattle.multibyte_ints.specs.declared.text.StringReader.{StringReader}
-use Rattle.multibyte_ints.specs.declared.text.StringStep.{StringStep}
-use Rattle.multibyte_ints.specs.declared.text.StringStep.TheVariants.{More, Done, BadInt, TooLong}
-use Rattle.multibyte_ints.specs.declared.text.StringStep.TheVariants.{BadUtf8}
-use Rattle.unit_streams.specs.Front.{Front, begun, whole, wrong}
-use Rattle.multibyte_ints.specs.Integer.{int_at}
-use Rattle.multibyte_ints.specs.Text.{StringFault, bad_int, too_long, bad_utf8, string_at}
-use Rattle.multibyte_ints.specs.Reader.{StandsFor}
-use Rattle.multibyte_ints.specs.TextPart.{Waits}
+use Rattle.unit_streams.specs.Front.{begun, Front, whole, wrong}
+use Rattle.multibyte_ints.specs.declared.text.{Part.Part, StringReader.StringReader}
+use Rattle.multibyte_ints.specs.declared.text.Part.TheVariants.{Answered, Length, Text}
+use Rattle.multibyte_ints.specs.declared.text.StringStep.{StringStep, TheVariants.TooLong}
+use Rattle.multibyte_ints.specs.declared.text.StringStep.TheVariants.{BadInt, BadUtf8, Done, More}
+use Rattle.multibyte_ints.specs.{Integer.int_at, Reader.StandsFor, TextPart.Waits}
+use Rattle.multibyte_ints.specs.Text.{bad_int, bad_utf8, string_at, StringFault, too_long}
 
 -- the greatest length of a text that the reader takes
 unfoldable pub limit_of : StringReader → ℕ

@@ -1,43 +1,32 @@
 -- Unrefused units that lead to the end of a document are a payload.
-use Rattle.std.proofs.Common.{false, ◌≡◌, ℕ, zero, suc, ◌+◌, ◌-◌, ◌≤◌, List, [], ◌∷◌, ◌++◌, length}
-use Rattle.std.proofs.Common.{take, drop, Option, Some, None, refl, sym, ap, ◌∙◌, subst, arith}
-use Rattle.std.proofs.Common.{append_assoc, append-nil, length-append}
-use Rattle.std.specs.Prelude.{◌==◌, if◌then◌else◌}
-use Rattle.std.proofs.lemmas.Bool.{ne_eqb}
-use Rattle.std.proofs.lemmas.List.{length-take-le, take-append-drop}
+use Rattle.std.proofs.Common.{◌≡◌, ℕ, zero, suc, ◌+◌, ◌-◌, ◌≤◌, false, List, [], ◌∷◌, ◌++◌, length}
+use Rattle.std.proofs.Common.{take, drop, if◌then◌else◌, ◌==◌, Some, None, Option, sym, refl, ap}
+use Rattle.std.proofs.Common.{◌∙◌, subst, append_assoc, append-nil, arith, length-append}
+use Rattle.std.proofs.Common.{take-append-drop, length-take-le, ne_eqb}
 use Rattle.unit_streams.specs.Front.{begun, whole, wrong}
-use Rattle.unit_streams.specs.Parts.{seen, ◌>>=◌}
-use Rattle.unit_streams.specs.Units.{Counted, UnitsLead}
-use Rattle.multibyte_ints.specs.Integer.{Spells}
-use Rattle.multibyte_ints.specs.Text.{IsString}
-use Rattle.nbfx_values.specs.Positions.{position_of}
-use Rattle.nbfx_values.specs.declared.content.Item.{Item}
-use Rattle.nbfx_values.specs.declared.position.Position.{Position}
-use Rattle.nbfx_values.specs.declared.position.Position.TheVariants as positions
-use Rattle.nbfx_values.specs.declared.refusals.Reason.{Reason}
-use Rattle.nbfx_values.specs.declared.session.Kind.{Kind}
-use Rattle.nbfx_values.specs.declared.session.Kind.TheVariants.{Plain, Session}
+use Rattle.unit_streams.specs.{Parts.seen, Parts.◌>>=◌, Units.Counted, Units.UnitsLead}
+use Rattle.multibyte_ints.specs.{Integer.Spells, Text.IsString}
 use Rattle.nbfx_values.proofs.Walks.{position_of-document}
-use Rattle.nbfx_records.specs.declared.nodes.Node.{Node}
+use Rattle.nbfx_values.specs.declared.{content.Item.Item, position.Position.Position}
+use Rattle.nbfx_values.specs.{declared.refusals.Reason.Reason, Positions.position_of}
+use Rattle.nbfx_values.specs.declared.session.Kind.{Kind, TheVariants.Plain, TheVariants.Session}
+use Rattle.nbfx_records.proofs.{MeaningFacts.meanings_are_found, NodeBytes.records_are_read}
+use Rattle.nbfx_records.specs.declared.nodes.{Node.Node, NodePlace.TheVariants.AfterRoot}
 use Rattle.nbfx_records.specs.declared.nodes.RecordFault.TheVariants.{TrailingBytes}
-use Rattle.nbfx_records.specs.declared.nodes.NodePlace.TheVariants.{AfterRoot}
-use Rattle.nbfx_records.specs.RecordAtFront.{node_at}
-use Rattle.nbfx_records.specs.Shapes.{shape_at}
-use Rattle.nbfx_records.proofs.MeaningFacts.{meanings_are_found}
-use Rattle.nbfx_records.proofs.NodeBytes.{records_are_read}
-use Rattle.nbfx_decoder.specs.declared.section.Section.{Section}
-use Rattle.nbfx_decoder.specs.declared.section.Section.TheVariants.{TableSize, Strings, Nodes}
-use Rattle.nbfx_decoder.specs.Faults.{reason_of}
-use Rattle.nbfx_decoder.specs.Payload.{Settings, Situation, PayloadUnit, table_size, table_string}
-use Rattle.nbfx_decoder.specs.Payload.{node, after, beginning, cut_at, payload, place_of, refusal}
-use Rattle.nbfx_decoder.specs.Payload.{refusal_from, refused, room_for, table_in, unit_in, unit_of}
+use Rattle.nbfx_records.specs.Payloads.{AreRecords, AreStrings, IsOpening, IsPayload}
+use Rattle.nbfx_records.specs.Payloads.{IsRecordMeaning, no_record, record_then}
+use Rattle.nbfx_records.specs.{RecordAtFront.node_at, Shapes.shape_at}
+use Rattle.nbfx_decoder.specs.{declared.section.Section.Section, Faults.reason_of, Payload.unit_of}
+use Rattle.nbfx_decoder.specs.declared.section.Section.TheVariants.{Nodes, Strings, TableSize}
+use Rattle.nbfx_decoder.specs.Payload.{after, beginning, cut_at, node, payload, PayloadUnit}
+use Rattle.nbfx_decoder.specs.Payload.{place_of, refusal, refusal_from, refused, room_for, Settings}
+use Rattle.nbfx_decoder.specs.Payload.{Situation, table_in, table_size, table_string, unit_in}
 use Rattle.nbfx_decoder.specs.Sections.{first_section, section_of}
-use Rattle.nbfx_records.specs.Payloads.{AreRecords, no_record, record_then, AreStrings, IsOpening}
-use Rattle.nbfx_records.specs.Payloads.{IsPayload, IsRecordMeaning}
-use Rattle.nbfx_decoder.specs.Tables.{TableString, table_integer, table_string_at}
+use Rattle.nbfx_decoder.specs.Tables.{table_integer, table_string_at, TableString}
 use Rattle.nbfx_decoder.proofs.TableBytes.{just_integer, just_string}
-use Rattle.nbfx_decoder.proofs.UnitCases.{UnitCase, a_node, a_size, a_string, NodeCase, adds}
-use Rattle.nbfx_decoder.proofs.UnitCases.{refuses, node_case, unit_case}
+use Rattle.nbfx_decoder.proofs.UnitCases.{a_node, a_size, a_string, adds, node_case, NodeCase}
+use Rattle.nbfx_decoder.proofs.UnitCases.{refuses, unit_case, UnitCase}
+use Rattle.nbfx_values.specs.declared.position.Position.TheVariants as positions
 
 -- a refusal at an offset is one
 unrefused : (from : ℕ) (r : Option Reason) → refusal_from from r ≡ None → r ≡ None

@@ -1,23 +1,15 @@
 -- A decoder takes the bytes of a piece, one unit after the other.
-use Rattle.std.proofs.Common.{◌≡◌, ℕ, ◌+◌, ◌-◌, ◌<◌, List, ◌++◌, length, take, drop, None, Result}
-use Rattle.std.proofs.Common.{Ok, Err, refl, sym, ap, ◌∙◌, subst, arith, append_assoc}
-use Rattle.std.proofs.Common.{length-append, length-drop}
-use Rattle.std.specs.Prelude.{IsErrAnd}
-use Rattle.std.proofs.lemmas.Result.{err_from_is_err_and}
-use Rattle.std.proofs.Math.Seq.{take-add}
-use Rattle.std.proofs.lemmas.List.{take_all, length-take-le}
-use Rattle.unit_streams.specs.Grammar.{standing}
-use Rattle.unit_streams.specs.Judging.{refusal_at}
-use Rattle.unit_streams.specs.Going.{IsGoing, IsQuiet}
-use Rattle.unit_streams.proofs.Passing.{going_refusal, refusal_from}
-use Rattle.unit_streams.proofs.Quiet.{quiet_joined}
-use Rattle.nbfx_decoder.specs.declared.decoder.Decoder.{Decoder}
-use Rattle.nbfx_decoder.specs.declared.faults.UnitFault.{UnitFault}
-use Rattle.nbfx_decoder.specs.declared.faults.UnitFault.TheVariants.{Refused, Memory}
-use Rattle.nbfx_decoder.specs.Payload.{Settings, payload}
-use Rattle.nbfx_decoder.specs.Units.{HasStrings}
-use Rattle.nbfx_decoder.specs.DecoderState.{Reached, situation_of, from_of}
-use Rattle.nbfx_decoder.specs.Taking.{TakeAnswers, AllAnswers}
+use Rattle.std.proofs.Common.{◌≡◌, ℕ, ◌+◌, ◌-◌, ◌<◌, List, ◌++◌, length, take, drop, IsErrAnd, None}
+use Rattle.std.proofs.Common.{Ok, Err, Result, sym, refl, ap, ◌∙◌, subst, append_assoc, arith}
+use Rattle.std.proofs.Common.{length-append, length-drop, length-take-le, take_all}
+use Rattle.std.proofs.{Math.Seq.take-add, lemmas.Result.err_from_is_err_and}
+use Rattle.unit_streams.proofs.{Passing.going_refusal, Passing.refusal_from, Quiet.quiet_joined}
+use Rattle.unit_streams.specs.{Going.IsGoing, Going.IsQuiet, Grammar.standing, Judging.refusal_at}
+use Rattle.nbfx_decoder.specs.declared.{decoder.Decoder.Decoder, faults.UnitFault.UnitFault}
+use Rattle.nbfx_decoder.specs.declared.faults.UnitFault.TheVariants.{Memory, Refused}
+use Rattle.nbfx_decoder.specs.DecoderState.{from_of, Reached, situation_of}
+use Rattle.nbfx_decoder.specs.Payload.{payload, Settings}
+use Rattle.nbfx_decoder.specs.{Taking.AllAnswers, Taking.TakeAnswers, Units.HasStrings}
 
 -- so many bytes of y are taken behind p
 pub record HasTaken (d : Decoder) (x : Settings) (strings : List (List ℕ)) (p y : List ℕ)

@@ -1,32 +1,24 @@
 -- A node means two items at most, and no more values than it has bytes.
-use Rattle.std.proofs.Common.{◌≡◌, ℕ, ◌+◌, ◌<◌, ◌≤◌, List, [], ◌∷◌, ◌++◌, length, true, false, inl}
-use Rattle.std.proofs.Common.{inr, ap, ◌∙◌, arith, length-append}
-use Rattle.std.specs.Prelude.{sum_by, if◌then◌else◌}
-use Rattle.std.specs.Int.{Width, w16, w32, w64, byte_len}
-use Rattle.std.proofs.lemmas.List.Sums.{sum_by-cons}
-use Rattle.nbfx_values.specs.declared.content.ArrayKind.{ArrayKind}
-use Rattle.nbfx_values.specs.declared.content.ArrayKind.TheVariants as arrays
-use Rattle.nbfx_values.specs.declared.content.AttrItem.{AttrItem}
-use Rattle.nbfx_values.specs.declared.content.Item.{Item}
-use Rattle.nbfx_values.specs.declared.scalars.Scalar.{Scalar}
-use Rattle.nbfx_values.specs.declared.scalars.Value.{Value}
+use Rattle.std.proofs.Common.{◌≡◌, ℕ, ◌+◌, ◌<◌, ◌≤◌, true, false, List, [], ◌∷◌, ◌++◌, length}
+use Rattle.std.proofs.Common.{if◌then◌else◌, sum_by, ap, ◌∙◌, inl, inr, arith, length-append, w16}
+use Rattle.std.proofs.{Common.w32, Common.w64, lemmas.List.Sums.sum_by-cons}
+use Rattle.std.specs.Int.{Width, byte_len}
 use Rattle.string_tables.specs.StringTable.{StringTable}
-use Rattle.nbfx_records.specs.declared.nodes.AttrNode.{AttrNode}
-use Rattle.nbfx_records.specs.declared.nodes.AttrNode.TheVariants as attribute_nodes
-use Rattle.nbfx_records.specs.declared.nodes.Node.{Node}
-use Rattle.nbfx_records.specs.declared.nodes.Node.TheVariants.{EndElement, Comment, Array}
-use Rattle.nbfx_records.specs.declared.nodes.Node.TheVariants.{Attribute, Xmlns, Element, Text}
-use Rattle.nbfx_records.specs.declared.nodes.RawScalar.{RawScalar}
-use Rattle.nbfx_records.specs.declared.nodes.RawScalar.TheVariants.{Known}
-use Rattle.nbfx_records.specs.declared.nodes.RawValue.{RawValue}
-use Rattle.nbfx_records.specs.declared.nodes.RawValue.TheVariants.{One, List as ListOf}
-use Rattle.nbfx_records.specs.Kinds.{text_kind_in}
-use Rattle.nbfx_records.specs.Meaning.{EachMeans, Means, PartMeans, ScalarMeans, ValueMeans}
-use Rattle.nbfx_records.specs.Records.{AreAttrNodes, AreCells, IsFixed, IsNode, array_byte}
-use Rattle.nbfx_records.specs.Records.{SpellsAs, SpellsLast, SpellsList, SpellScalars, SpellsScalar}
-use Rattle.nbfx_records.specs.Records.{SpellsValue}
+use Rattle.nbfx_values.specs.declared.content.{ArrayKind.ArrayKind, AttrItem.AttrItem, Item.Item}
+use Rattle.nbfx_values.specs.declared.scalars.{Scalar.Scalar, Value.Value}
 use Rattle.nbfx_records.proofs.ScalarBytes.{spelled_back}
+use Rattle.nbfx_records.specs.declared.nodes.{AttrNode.AttrNode, Node.Node, RawValue.RawValue}
+use Rattle.nbfx_records.specs.declared.nodes.Node.TheVariants.{Array, Attribute, Comment, Element}
+use Rattle.nbfx_records.specs.declared.nodes.Node.TheVariants.{EndElement, Text, Xmlns}
+use Rattle.nbfx_records.specs.declared.nodes.RawScalar.{RawScalar, TheVariants.Known}
+use Rattle.nbfx_records.specs.declared.nodes.RawValue.TheVariants.{List as ListOf, One}
+use Rattle.nbfx_records.specs.{Kinds.text_kind_in, Records.SpellsValue}
+use Rattle.nbfx_records.specs.Meaning.{EachMeans, Means, PartMeans, ScalarMeans, ValueMeans}
+use Rattle.nbfx_records.specs.Records.{AreAttrNodes, AreCells, array_byte, IsFixed, IsNode}
+use Rattle.nbfx_records.specs.Records.{SpellsAs, SpellScalars, SpellsLast, SpellsList, SpellsScalar}
 use Rattle.nbfx_decoder.specs.Values.{attribute_values, value_count, values_of}
+use Rattle.nbfx_values.specs.declared.content.ArrayKind.TheVariants as arrays
+use Rattle.nbfx_records.specs.declared.nodes.AttrNode.TheVariants as attribute_nodes
 
 -- as many as there are of what they are meant by
 each_as_many : {A B : Type 0} (M : A → B → Type 0) (xs : List A) (ys : List B) → EachMeans M xs ys

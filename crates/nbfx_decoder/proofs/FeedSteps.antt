@@ -1,25 +1,21 @@
 -- What the next bytes of a payload are answered with, and what they leave.
-use Rattle.std.proofs.Common.{◌≡◌, ℕ, ◌+◌, ◌<◌, ◌≤◌, ◌^◌, List, [], ◌++◌, length, take, Some, None}
-use Rattle.std.proofs.Common.{Ok, Err, refl, sym, ap, ◌∙◌, subst, arith, length-append}
-use Rattle.unit_streams.specs.Judging.{refusal_at, answer, goes_on, offends}
-use Rattle.unit_streams.specs.Going.{IsQuiet}
-use Rattle.unit_streams.proofs.Answers.{answers_are_first}
-use Rattle.nbfx_decoder.specs.declared.decoder.Decoder.{Decoder}
-use Rattle.nbfx_decoder.specs.declared.faults.DecodeFault.{DecodeFault}
-use Rattle.nbfx_decoder.specs.declared.faults.DecodeFault.TheVariants as decode_faults
-use Rattle.nbfx_decoder.specs.declared.faults.UnitFault.{UnitFault}
-use Rattle.nbfx_decoder.specs.declared.faults.UnitFault.TheVariants.{Refused, Memory}
-use Rattle.nbfx_decoder.specs.Answers.{ShowsFault}
-use Rattle.nbfx_decoder.specs.Payload.{refusal, payload}
-use Rattle.nbfx_decoder.specs.DecoderState.{IsPlacedAt, settings_of, taken_of, situation_of}
-use Rattle.nbfx_decoder.specs.DecoderState.{from_of, StandsFor, FailedBehind, FailedWithin, ShownBy}
-use Rattle.nbfx_decoder.specs.DecoderState.{FeedAnswers}
-use Rattle.nbfx_decoder.specs.Taking.{AllAnswers}
-use Rattle.nbfx_decoder.specs.Units.{HasStrings, KeepsTable, KeepsSettings}
+use Rattle.std.proofs.Common.{◌≡◌, ℕ, ◌+◌, ◌^◌, ◌<◌, ◌≤◌, List, [], ◌++◌, length, take, Some, None}
+use Rattle.std.proofs.Common.{Ok, Err, sym, refl, ap, ◌∙◌, subst, arith, length-append}
+use Rattle.unit_streams.{proofs.Answers.answers_are_first, specs.Going.IsQuiet}
+use Rattle.unit_streams.specs.Judging.{answer, goes_on, offends, refusal_at}
+use Rattle.nbfx_decoder.specs.{declared.decoder.Decoder.Decoder, Taking.AllAnswers}
+use Rattle.nbfx_decoder.specs.declared.faults.{DecodeFault.DecodeFault, UnitFault.UnitFault}
+use Rattle.nbfx_decoder.specs.declared.faults.UnitFault.TheVariants.{Memory, Refused}
+use Rattle.nbfx_decoder.specs.{Answers.ShowsFault, Payload.payload, Payload.refusal}
+use Rattle.nbfx_decoder.specs.DecoderState.{FailedBehind, FailedWithin, FeedAnswers, from_of}
+use Rattle.nbfx_decoder.specs.DecoderState.{IsPlacedAt, settings_of, ShownBy, situation_of}
+use Rattle.nbfx_decoder.specs.DecoderState.{StandsFor, taken_of}
+use Rattle.nbfx_decoder.specs.Units.{HasStrings, KeepsSettings, KeepsTable}
 use Rattle.nbfx_decoder.proofs.AllSteps.{going_unrefused}
 use Rattle.nbfx_decoder.proofs.Keeping.{keeps_settings, settings_through, strings_kept}
-use Rattle.nbfx_decoder.proofs.StandsFacts.{settings_kept, stands_as, stands_of, failed_of}
-use Rattle.nbfx_decoder.proofs.StandsFacts.{counts_taken, taken_is, still_pending}
+use Rattle.nbfx_decoder.proofs.StandsFacts.{counts_taken, failed_of, settings_kept, stands_as}
+use Rattle.nbfx_decoder.proofs.StandsFacts.{stands_of, still_pending, taken_is}
+use Rattle.nbfx_decoder.specs.declared.faults.DecodeFault.TheVariants as decode_faults
 
 module _ (d mid : Decoder) (strings : List (List ℕ)) (p y : List ℕ) (h : StandsFor d strings p)
     (kept : KeepsSettings d.units mid.units) where

@@ -1,10 +1,8 @@
 -- What a caller knows that feeds a payload in pieces.
-use Rattle.std.proofs.Common.{◌≡◌, ℕ, ◌+◌, ◌-◌, ◌≤◌, List, ◌++◌, length, take, drop, ◌∙◌, sym}
-use Rattle.std.proofs.Common.{arith, length-append, length-drop}
-use Rattle.std.proofs.lemmas.List.{length-take-le}
-use Rattle.nbfx_decoder.specs.declared.decoder.Decoder.{Decoder}
-use Rattle.nbfx_decoder.specs.DecoderState.{settings_of, taken_of, StandsFor}
-use Rattle.nbfx_decoder.proofs.StandsFacts.{taken_is}
+use Rattle.std.proofs.Common.{◌≡◌, ℕ, ◌+◌, ◌-◌, ◌≤◌, List, ◌++◌, length, take, drop, sym, ◌∙◌}
+use Rattle.std.proofs.Common.{arith, length-append, length-drop, length-take-le}
+use Rattle.nbfx_decoder.{specs.declared.decoder.Decoder.Decoder, proofs.StandsFacts.taken_is}
+use Rattle.nbfx_decoder.specs.DecoderState.{settings_of, StandsFor, taken_of}
 
 -- it has fed so many bytes
 abbrev pub HasFed : Decoder → ℕ → Type 0

@@ -1,47 +1,35 @@
 -- What the end of a payload is answered with, and what it leaves.
-use Rattle.std.proofs.Common.{◌≡◌, ℕ, suc, ◌+◌, ◌↔◌, ◌⊎◌, inl, inr, List, [], ◌∷◌, ◌++◌, length}
-use Rattle.std.proofs.Common.{take, Option, Some, None, Result, Ok, Err, refl, sym, ap, ◌∙◌, subst}
-use Rattle.std.proofs.Common.{arith}
-use Rattle.unit_streams.specs.Front.{Front, begun, whole, wrong}
-use Rattle.unit_streams.specs.Parts.{◌>>=◌, seen}
-use Rattle.unit_streams.specs.Judging.{ending_at}
-use Rattle.unit_streams.proofs.Standing.{standing_keeps}
-use Rattle.nbfx_values.specs.Documents.{IsDocument}
+use Rattle.std.proofs.Common.{◌≡◌, ℕ, suc, ◌+◌, ◌⊎◌, ◌↔◌, List, [], ◌∷◌, ◌++◌, length, take, Some}
+use Rattle.std.proofs.Common.{None, Ok, Err, Option, Result, sym, refl, ap, ◌∙◌, subst, inl, inr}
+use Rattle.{std.proofs.Common.arith, unit_streams.proofs.Standing.standing_keeps}
+use Rattle.unit_streams.specs.Front.{begun, Front, whole, wrong}
+use Rattle.unit_streams.specs.{Judging.ending_at, Parts.seen, Parts.◌>>=◌}
 use Rattle.nbfx_values.proofs.Walks.{document-position, position_of-document}
-use Rattle.nbfx_values.specs.Positions.{position_of}
-use Rattle.nbfx_values.specs.declared.content.Item.{Item}
-use Rattle.nbfx_values.specs.declared.position.Position.{Position}
-use Rattle.nbfx_values.specs.declared.position.Position.TheVariants as positions
+use Rattle.nbfx_values.specs.declared.{content.Item.Item, position.Position.Position}
 use Rattle.nbfx_values.specs.declared.refusals.Reason.TheVariants.{DocumentCut}
-use Rattle.nbfx_records.specs.declared.nodes.Node.{Node}
-use Rattle.nbfx_records.specs.declared.nodes.RecordFault.{RecordFault}
-use Rattle.nbfx_records.specs.declared.nodes.NodePlace.TheVariants.{AfterRoot}
-use Rattle.nbfx_records.specs.Shapes.{shape_at}
+use Rattle.nbfx_values.specs.{Documents.IsDocument, Positions.position_of}
+use Rattle.nbfx_records.specs.declared.nodes.{Node.Node, NodePlace.TheVariants.AfterRoot}
+use Rattle.nbfx_records.specs.{declared.nodes.RecordFault.RecordFault, Shapes.shape_at}
 use Rattle.nbfx_records.specs.RecordAtFront.{node_at}
-use Rattle.nbfx_decoder.specs.declared.decoder.Decoder.{Decoder}
-use Rattle.nbfx_decoder.specs.declared.faults.DecodeFault.{DecodeFault}
-use Rattle.nbfx_decoder.specs.declared.faults.DecodeFault.TheVariants as decode_faults
-use Rattle.nbfx_decoder.specs.declared.faults.UnitFault.TheVariants.{Refused, Memory}
-use Rattle.nbfx_decoder.specs.Answers.{ShowsFault}
-use Rattle.nbfx_decoder.specs.declared.section.Section.{Section}
-use Rattle.nbfx_decoder.specs.declared.section.Section.TheVariants.{TableSize, Strings, Nodes}
-use Rattle.nbfx_decoder.specs.Sections.{first_section}
-use Rattle.nbfx_decoder.specs.Faults.{reason_of}
-use Rattle.nbfx_decoder.specs.Payload.{Settings, Situation, PayloadUnit, node, place_of, unit_of}
-use Rattle.nbfx_decoder.specs.Payload.{unit_in, refusal, after, cut_at, payload}
-use Rattle.nbfx_decoder.specs.DecoderState.{IsPlacedAt, settings_of, situation_of, from_of}
-use Rattle.nbfx_decoder.specs.DecoderState.{begun_of, StandsFor, FailedBehind, FinishAnswers}
-use Rattle.nbfx_decoder.specs.Units.{KeepsTable}
-use Rattle.nbfx_decoder.specs.Laws.{MayBegin, IsUnrefused, IsWholePayload}
+use Rattle.nbfx_decoder.specs.declared.{decoder.Decoder.Decoder, faults.DecodeFault.DecodeFault}
+use Rattle.nbfx_decoder.specs.declared.faults.UnitFault.TheVariants.{Memory, Refused}
+use Rattle.nbfx_decoder.specs.{declared.section.Section.Section, Faults.reason_of}
+use Rattle.nbfx_decoder.specs.declared.section.Section.TheVariants.{Nodes, Strings, TableSize}
+use Rattle.nbfx_decoder.specs.{Answers.ShowsFault, Sections.first_section, Units.KeepsTable}
+use Rattle.nbfx_decoder.specs.DecoderState.{begun_of, FailedBehind, FinishAnswers, from_of}
+use Rattle.nbfx_decoder.specs.DecoderState.{IsPlacedAt, settings_of, situation_of, StandsFor}
+use Rattle.nbfx_decoder.specs.Laws.{IsUnrefused, IsWholePayload, MayBegin}
+use Rattle.nbfx_decoder.specs.Payload.{after, cut_at, node, payload, PayloadUnit, place_of, refusal}
+use Rattle.nbfx_decoder.specs.Payload.{Settings, Situation, unit_in, unit_of}
 use Rattle.nbfx_decoder.proofs.Keeping.{keeps_settings, strings_kept}
-use Rattle.nbfx_decoder.proofs.Readable.{readable}
-use Rattle.nbfx_decoder.proofs.Sound.{keeps_within}
 use Rattle.nbfx_decoder.proofs.PayloadAnswers.{finished_where_whole, strings_behind}
-use Rattle.nbfx_decoder.proofs.PayloadReasons.{refused_where_shown}
-use Rattle.nbfx_decoder.proofs.UnitCases.{UnitCase, a_size, a_string, a_node, unit_case}
-use Rattle.nbfx_decoder.proofs.StandsFacts.{settings_kept, stands_as, reached_of, items_here}
-use Rattle.nbfx_decoder.proofs.StandsFacts.{failed_of, payload_small, depth_some, counts_taken}
-use Rattle.nbfx_decoder.proofs.StandsFacts.{stands_first}
+use Rattle.nbfx_decoder.proofs.{PayloadReasons.refused_where_shown, Readable.readable}
+use Rattle.nbfx_decoder.proofs.{Sound.keeps_within, StandsFacts.stands_first}
+use Rattle.nbfx_decoder.proofs.StandsFacts.{counts_taken, depth_some, failed_of, items_here}
+use Rattle.nbfx_decoder.proofs.StandsFacts.{payload_small, reached_of, settings_kept, stands_as}
+use Rattle.nbfx_decoder.proofs.UnitCases.{a_node, a_size, a_string, unit_case, UnitCase}
+use Rattle.nbfx_values.specs.declared.position.Position.TheVariants as positions
+use Rattle.nbfx_decoder.specs.declared.faults.DecodeFault.TheVariants as decode_faults
 
 -- before the nodes there are no items
 abbrev pub NodesOrNone : Situation → Type 0

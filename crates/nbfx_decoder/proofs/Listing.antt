@@ -1,51 +1,38 @@
 -- What a list says, value by value, where all of it is there.
-use denote.Ref.{Bor}
-use Rattle.std.proofs.Common.{◌≡◌, ℕ, List, [], ◌∷◌, ◌++◌, Bool, true, false, Option, Some, None}
-use Rattle.std.proofs.Common.{Result, Ok, Err, refl, sym, ap, ◌∙◌, subst}
-use Rattle.std.specs.Prelude.{IfOk, IsTrue, ◌&&◌}
-use Rattle.std.specs.List.{list_all}
-use Rattle.std.specs.Str.{is_utf8}
-use Rattle.std.specs.Option.{option_map, option_and_then}
-use Rattle.std.proofs.lemmas.Bool.{and_parts}
-use Rattle.std.proofs.lemmas.List.{append-nil}
-use Rattle.nbfx_values.specs.Scalars.{is_valid_scalar}
-use Rattle.nbfx_values.specs.declared.content.Item.TheVariants as items
-use Rattle.nbfx_values.specs.declared.scalars.Scalar.{Scalar}
-use Rattle.nbfx_values.specs.declared.scalars.Value.TheVariants as said_values
+use Rattle.std.proofs.Common.{◌≡◌, ℕ, Bool, true, false, ◌&&◌, List, [], ◌∷◌, ◌++◌, IfOk, IsTrue}
+use Rattle.std.proofs.Common.{Some, None, Ok, Err, Option, Result, option_map, option_and_then, sym}
+use Rattle.std.proofs.Common.{refl, ap, ◌∙◌, subst, append-nil, Bor}
+use Rattle.std.{proofs.lemmas.Bool.and_parts, specs.List.list_all, specs.Str.is_utf8}
+use Rattle.unit_streams.specs.declared.memory.Memory.{Memory}
 use Rattle.string_tables.specs.StringTable.{StringTable}
-use Rattle.nbfx_records.specs.declared.nodes.AttrNode.TheVariants as attribute_nodes
-use Rattle.nbfx_records.specs.declared.nodes.NameRef.{NameRef}
-use Rattle.nbfx_records.specs.declared.nodes.Node.{Node}
-use Rattle.nbfx_records.specs.declared.nodes.Node.TheVariants as nodes
-use Rattle.nbfx_records.specs.declared.nodes.RecordFault.{RecordFault}
-use Rattle.nbfx_records.specs.declared.nodes.RawScalar.{RawScalar}
-use Rattle.nbfx_records.specs.declared.nodes.RawValue.TheVariants as values
-use Rattle.nbfx_records.specs.Contents.{attribute_node, behind_texts, contents, each, judge, led}
-use Rattle.nbfx_records.specs.Contents.{name_is_text, scalar_is_text, scalar_judged, scalar_value}
-use Rattle.nbfx_records.specs.Contents.{scalars_judged}
-use Rattle.nbfx_records.specs.Meaning.{items_of, meant_scalar, name_text}
-use Rattle.nbfx_records.specs.Shapes.{ScalarShape, Shape, adds, attributes, has_text, several}
-use Rattle.nbfx_records.specs.Valid.{are_valid_names, is_valid_node, is_valid_raw}
+use Rattle.nbfx_values.specs.{declared.scalars.Scalar.Scalar, Scalars.is_valid_scalar}
 use Rattle.nbfx_records.proofs.JudgedFacts.{judged_more}
 use Rattle.nbfx_records.proofs.ValueBytes.{bound_some, mapped_some}
-use Rattle.nbfx_records.specs.declared.attributes.AttributePart.{AttributePart}
+use Rattle.nbfx_records.specs.{declared.attributes.AttributePart.AttributePart, Views.value_seen}
 use Rattle.nbfx_records.specs.declared.attributes.AttributePart.TheVariants.{Attribute as AttributeAt}
-use Rattle.nbfx_records.specs.declared.parts.NamePart.{NamePart}
-use Rattle.nbfx_records.specs.declared.parts.PrefixPart.{PrefixPart}
-use Rattle.nbfx_records.specs.declared.attributes.ValuePart.{ValuePart}
-use Rattle.nbfx_records.specs.declared.attributes.ValuePart.TheVariants.{List as ListAt}
-use Rattle.nbfx_records.specs.declared.records.RecordPart.{RecordPart}
-use Rattle.nbfx_records.specs.declared.records.RecordPart.TheVariants as records
+use Rattle.nbfx_records.specs.declared.attributes.ValuePart.{ValuePart, TheVariants.List as ListAt}
+use Rattle.nbfx_records.specs.declared.nodes.{NameRef.NameRef, Node.Node}
+use Rattle.nbfx_records.specs.declared.nodes.{RawScalar.RawScalar, RecordFault.RecordFault}
+use Rattle.nbfx_records.specs.declared.parts.{NamePart.NamePart, PrefixPart.PrefixPart}
+use Rattle.nbfx_records.specs.{declared.records.RecordPart.RecordPart, Contents.scalars_judged}
+use Rattle.nbfx_records.specs.Contents.{attribute_node, behind_texts, contents, each, judge, led}
+use Rattle.nbfx_records.specs.Contents.{name_is_text, scalar_is_text, scalar_judged, scalar_value}
+use Rattle.nbfx_records.specs.Meaning.{items_of, meant_scalar, name_text}
+use Rattle.nbfx_records.specs.Shapes.{adds, attributes, has_text, ScalarShape, several, Shape}
+use Rattle.nbfx_records.specs.Valid.{are_valid_names, is_valid_node, is_valid_raw}
 use Rattle.nbfx_records.specs.Views.{attribute_seen, listed, name_seen, prefix_seen, record_seen}
-use Rattle.nbfx_records.specs.Views.{value_seen}
-use Rattle.unit_streams.specs.declared.memory.Memory.{Memory}
-use Rattle.nbfx_decoder.specs.declared.meaning.Meant.{Meant}
-use Rattle.nbfx_decoder.specs.declared.meaning.Meant.TheVariants as meants
-use Rattle.nbfx_decoder.specs.Meant.{MeansAttribute, MeansValue, MeansValues, SaysAttribute}
-use Rattle.nbfx_decoder.specs.Meant.{SaysText, SaysValues, items_in}
+use Rattle.nbfx_decoder.specs.declared.{meaning.Meant.Meant, units.UnitReader.UnitReader}
+use Rattle.nbfx_decoder.specs.Meant.{items_in, MeansAttribute, MeansValue, MeansValues}
+use Rattle.nbfx_decoder.specs.Meant.{SaysAttribute, SaysText, SaysValues}
 use Rattle.nbfx_decoder.specs.Units.{IsSaid, MakesValid, MayMake, names_in}
-use Rattle.nbfx_decoder.specs.declared.units.UnitReader.{UnitReader}
-use Rattle.nbfx_decoder.proofs.MeaningFacts.{AreFound, all_more, one_more}
+use Rattle.nbfx_decoder.proofs.MeaningFacts.{all_more, AreFound, one_more}
+use Rattle.nbfx_values.specs.declared.content.Item.TheVariants as items
+use Rattle.nbfx_values.specs.declared.scalars.Value.TheVariants as said_values
+use Rattle.nbfx_records.specs.declared.nodes.AttrNode.TheVariants as attribute_nodes
+use Rattle.nbfx_records.specs.declared.nodes.Node.TheVariants as nodes
+use Rattle.nbfx_records.specs.declared.nodes.RawValue.TheVariants as values
+use Rattle.nbfx_records.specs.declared.records.RecordPart.TheVariants as records
+use Rattle.nbfx_decoder.specs.declared.meaning.Meant.TheVariants as meants
 
 -- a list that is judged well has a first value that is, and others
 record IsLed {B : Type 0} (t : Bool) (v : Option B) (ts : Bool) (vs : Option (List B))

@@ -1,17 +1,12 @@
 -- What is found of a list, one after the other.
-use Rattle.std.proofs.Common.{◌≡◌, ℕ, zero, suc, ◌<◌, List, [], ◌∷◌, ◌++◌, length, get_or, Bool}
-use Rattle.std.proofs.Common.{true, Option, Some, None, Result, Err, refl, sym, ap, ◌∙◌, subst}
-use Rattle.std.proofs.Common.{arith}
-use Rattle.std.specs.Prelude.{IsErrAnd, IsTrue}
-use Rattle.std.specs.List.{list_all}
-use Rattle.std.specs.Option.{option_map, option_and_then}
-use Rattle.std.proofs.lemmas.Bool.{and_parts, and_from}
-use Rattle.std.proofs.lemmas.Result.{err_from_is_err_and}
-use Rattle.nbfx_records.specs.Contents.{each}
-use Rattle.nbfx_records.proofs.ValueBytes.{mapped_some, bound_some}
-use Rattle.nbfx_decoder.specs.declared.meaning.Unmeant.{Unmeant}
-use Rattle.nbfx_decoder.specs.declared.meaning.Unmeant.TheVariants.{UnknownString, Memory}
-use Rattle.nbfx_decoder.specs.Meant.{Finds}
+use Rattle.std.proofs.Common.{◌≡◌, ℕ, zero, suc, ◌<◌, Bool, true, List, [], ◌∷◌, ◌++◌, length}
+use Rattle.std.proofs.Common.{get_or, IsErrAnd, IsTrue, Some, None, Err, Option, Result, option_map}
+use Rattle.std.proofs.Common.{option_and_then, sym, refl, ap, ◌∙◌, subst, arith}
+use Rattle.std.proofs.lemmas.{Bool.and_from, Bool.and_parts, Result.err_from_is_err_and}
+use Rattle.{std.specs.List.list_all, nbfx_records.specs.Contents.each}
+use Rattle.nbfx_records.proofs.ValueBytes.{bound_some, mapped_some}
+use Rattle.nbfx_decoder.specs.{declared.meaning.Unmeant.Unmeant, Meant.Finds}
+use Rattle.nbfx_decoder.specs.declared.meaning.Unmeant.TheVariants.{Memory, UnknownString}
 
 module _ {A B : Type 0} (f : A → Option B) where
   each_more : (xs : List A) (ys : List B) (x : A) (y : B) → each f xs ≡ Some ys → f x ≡ Some y

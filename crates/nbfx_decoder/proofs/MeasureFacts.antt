@@ -1,39 +1,29 @@
 -- What is counted of what a record means.
-use Rattle.std.proofs.Common.{◌≡◌, ℕ, ◌+◌, List, [], ◌∷◌, ◌++◌, length, Bool, true, false, Option}
-use Rattle.std.proofs.Common.{Some, None, Result, Ok, Err, refl, sym, ap, ◌∙◌, subst, arith}
-use Rattle.std.specs.Prelude.{sum_by, ◌&&◌, IsErrAnd}
-use Rattle.std.specs.List.{list_all}
-use Rattle.std.specs.Option.{option_map, option_and_then}
-use Rattle.std.proofs.lemmas.List.{append-nil}
-use Rattle.std.proofs.lemmas.List.Sums.{sum_by-append}
-use Rattle.std.proofs.lemmas.Result.{err_from_is_err_and}
-use Rattle.nbfx_values.specs.Measures.{attribute_content, array_content, capped, content_of}
+use Rattle.std.proofs.Common.{◌≡◌, ℕ, ◌+◌, Bool, true, false, ◌&&◌, List, [], ◌∷◌, ◌++◌, length}
+use Rattle.std.proofs.Common.{IsErrAnd, Some, None, Ok, Err, sum_by, Option, Result, option_map}
+use Rattle.std.proofs.Common.{option_and_then, sym, refl, ap, ◌∙◌, subst, append-nil, arith}
+use Rattle.std.proofs.lemmas.{List.Sums.sum_by-append, Result.err_from_is_err_and}
+use Rattle.{std.specs.List.list_all, string_tables.specs.StringTable.StringTable}
+use Rattle.nbfx_values.specs.declared.{content.ArrayItem.ArrayItem, scalars.Scalar.Scalar}
+use Rattle.nbfx_values.specs.Measures.{array_content, attribute_content, capped, content_of}
 use Rattle.nbfx_values.specs.Measures.{scalar_content, value_content}
-use Rattle.nbfx_values.specs.declared.content.ArrayItem.{ArrayItem}
-use Rattle.nbfx_values.specs.declared.content.AttrItem.TheVariants as attributes
-use Rattle.nbfx_values.specs.declared.content.Item.TheVariants as items
-use Rattle.nbfx_values.specs.declared.scalars.Scalar.{Scalar}
-use Rattle.string_tables.specs.StringTable.{StringTable}
-use Rattle.nbfx_records.specs.declared.nodes.ArrayNode.{ArrayNode}
-use Rattle.nbfx_records.specs.declared.nodes.AttrNode.{AttrNode}
-use Rattle.nbfx_records.specs.declared.nodes.AttrNode.TheVariants as attribute_nodes
-use Rattle.nbfx_records.specs.declared.nodes.NameRef.{NameRef}
-use Rattle.nbfx_records.specs.declared.nodes.Node.TheVariants as nodes
-use Rattle.nbfx_records.specs.declared.nodes.RecordFault.{RecordFault}
-use Rattle.nbfx_records.specs.declared.nodes.RecordFault.TheVariants as faults
-use Rattle.nbfx_records.specs.declared.nodes.RawValue.{RawValue}
-use Rattle.nbfx_records.specs.declared.nodes.NodeFault.{NodeFault}
-use Rattle.nbfx_records.specs.declared.nodes.NodeFault.TheVariants.{Record, Memory}
+use Rattle.nbfx_records.proofs.JudgedFacts.{all_judged, judged_more, unmade}
+use Rattle.nbfx_records.specs.declared.nodes.{ArrayNode.ArrayNode, NameRef.NameRef}
+use Rattle.nbfx_records.specs.declared.nodes.{AttrNode.AttrNode, NodeFault.NodeFault}
+use Rattle.nbfx_records.specs.declared.nodes.NodeFault.TheVariants.{Memory, Record}
+use Rattle.nbfx_records.specs.declared.nodes.{RawValue.RawValue, RecordFault.RecordFault}
 use Rattle.nbfx_records.specs.Contents.{array_of, attribute_is_text, attribute_node}
 use Rattle.nbfx_records.specs.Contents.{attribute_value, attributes_judged, behind_texts}
 use Rattle.nbfx_records.specs.Contents.{cell_values, each, judge, led}
-use Rattle.nbfx_records.specs.Judged.{Made, Makes}
-use Rattle.nbfx_records.specs.Shapes.{ArrayShape}
+use Rattle.nbfx_records.specs.{Judged.Made, Judged.Makes, Meaning.with_both, Shapes.ArrayShape}
 use Rattle.nbfx_records.specs.Meaning.{array_with, meant_array, meant_part, meant_value, name_text}
-use Rattle.nbfx_records.specs.Meaning.{with_both}
-use Rattle.nbfx_records.proofs.JudgedFacts.{all_judged, judged_more, unmade}
 use Rattle.nbfx_decoder.specs.Measuring.{Measured, Measures, sum_of, weigh_array, weigh_node}
 use Rattle.nbfx_decoder.specs.Measuring.{weigh_part, weigh_parts, weigh_value, weighed}
+use Rattle.nbfx_values.specs.declared.content.AttrItem.TheVariants as attributes
+use Rattle.nbfx_values.specs.declared.content.Item.TheVariants as items
+use Rattle.nbfx_records.specs.declared.nodes.AttrNode.TheVariants as attribute_nodes
+use Rattle.nbfx_records.specs.declared.nodes.Node.TheVariants as nodes
+use Rattle.nbfx_records.specs.declared.nodes.RecordFault.TheVariants as faults
 
 -- counts that stand still at the last number of 64 bits
 capped_sum : (m n k : ℕ) → k ≡ m + n → capped (capped m + capped n) ≡ capped k

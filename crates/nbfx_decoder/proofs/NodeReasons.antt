@@ -1,13 +1,11 @@
 -- Why a node is refused.
-use Rattle.std.proofs.Common.{◌≡◌, ◌≢◌, ℕ, List}
+use Rattle.std.proofs.Common.{◌≡◌, ℕ, ◌≢◌, List}
 use Rattle.unit_streams.specs.Front.{wrong}
-use Rattle.nbfx_records.specs.declared.nodes.RecordFault.{RecordFault}
-use Rattle.nbfx_records.specs.declared.nodes.RecordFault.TheVariants as faults
-use Rattle.nbfx_records.specs.RecordAtFront.{node_at}
 use Rattle.nbfx_records.proofs.FaultCauses.{wrong_by_part, wrong_by_text, wrong_by_value}
-use Rattle.nbfx_decoder.specs.Faults.{reason_of}
-use Rattle.nbfx_decoder.specs.Payload.{Settings, Situation}
-use Rattle.nbfx_decoder.specs.Reasons.{IsCaused, ShowsAtNode, node_place}
+use Rattle.nbfx_records.specs.{declared.nodes.RecordFault.RecordFault, RecordAtFront.node_at}
+use Rattle.nbfx_decoder.specs.{Faults.reason_of, Payload.Settings, Payload.Situation}
+use Rattle.nbfx_decoder.specs.Reasons.{IsCaused, node_place, ShowsAtNode}
+use Rattle.nbfx_records.specs.declared.nodes.RecordFault.TheVariants as faults
 
 module _ (x : Settings) (z : Situation) (bytes : List ℕ) where
   module _ (fault : RecordFault) (no_text : fault ≢ faults.BadUtf8)

@@ -1,21 +1,15 @@
 -- What the worked payloads stand on: the definitions that they unfold, a static table, quotas.
-use Rattle.std.proofs.Common.{ℕ, List, [], ◌∷◌}
-use Rattle.std.specs.Prelude.{⊤, codes}
-use Rattle.std.specs.Char.{encode_utf8}
-use Rattle.std.specs.Char.Utf16.{utf16_chars}
-use Rattle.std.specs.Str.{chars, is_utf8}
+use Rattle.std.proofs.Common.{ℕ, List, [], ◌∷◌, codes}
+use Rattle.std.specs.{Prelude.⊤, Char.encode_utf8, Char.Utf16.utf16_chars, Str.chars, Str.is_utf8}
 use Rattle.unit_streams.specs.Grammar.{peel, peeled, standing}
 use Rattle.unit_streams.specs.Judging.{ending_at, event_at, history, history_from, offence}
-use Rattle.unit_streams.specs.Judging.{refusal_at}
-use Rattle.unit_streams.specs.Parts.{◌>>=◌, many, repeated}
+use Rattle.unit_streams.specs.{Judging.refusal_at, Parts.many, Parts.repeated, Parts.◌>>=◌}
 use Rattle.multibyte_ints.specs.Integer.{int_at, int_ending_at, value_of}
-use Rattle.nbfx_values.specs.Limits.{limits, usual_limits}
-use Rattle.nbfx_values.specs.declared.session.Kind.{Kind}
-use Rattle.nbfx_records.specs.Kinds.{record_kind}
+use Rattle.nbfx_values.specs.{declared.session.Kind.Kind, Limits.limits, Limits.usual_limits}
+use Rattle.nbfx_records.specs.Contents.{contents, scalar_of}
+use Rattle.nbfx_records.specs.{Kinds.record_kind, RecordAtFront.node_at}
 use Rattle.nbfx_records.specs.Shapes.{array_at, record_at, shape_at}
-use Rattle.nbfx_records.specs.Contents.{scalar_of, contents}
-use Rattle.nbfx_records.specs.RecordAtFront.{node_at}
-use Rattle.nbfx_decoder.specs.Payload.{Settings, after, refused, unit_in}
+use Rattle.nbfx_decoder.specs.Payload.{after, refused, Settings, unit_in}
 use Rattle.nbfx_decoder.specs.Tables.{head_at, table_string_at}
 
 -- what a proof unfolds to compute payloads

@@ -1,30 +1,22 @@
 -- What pieces of a payload and its end are answered, by what their bytes show and spell.
-use Rattle.std.proofs.Common.{◌≡◌, ℕ, ◌-◌, ◌<◌, ◌≤◌, inl, inr, List, [], ◌++◌, length, take, Option}
-use Rattle.std.proofs.Common.{Some, None, refl, sym, ap, ◌∙◌, subst, arith}
-use Rattle.std.specs.Prelude.{Ok}
+use Rattle.std.proofs.Common.{◌≡◌, ℕ, ◌-◌, ◌<◌, ◌≤◌, List, [], ◌++◌, length, take, Some, None, Ok}
+use Rattle.std.proofs.Common.{Option, sym, refl, ap, ◌∙◌, subst, inl, inr, arith, take_all}
 use Rattle.std.proofs.Math.Seq.{take-append-add, take-length, take-nil}
-use Rattle.std.proofs.lemmas.List.{take-append-le, take_all}
-use Rattle.std.proofs.lemmas.Bool.{cases_lt}
-use Rattle.std.specs.Option.{option_or}
-use Rattle.unit_streams.specs.Front.{wrong_of}
-use Rattle.unit_streams.specs.Going.{IsQuiet}
-use Rattle.unit_streams.specs.Grammar.{at_start}
-use Rattle.unit_streams.specs.Judging.{answer, event_at, goes_on, offence, offends, refusal_at}
-use Rattle.unit_streams.proofs.Answers.{answers_are_first}
+use Rattle.std.proofs.lemmas.{Bool.cases_lt, List.take-append-le}
+use Rattle.{std.specs.Option.option_or, unit_streams.proofs.Standing.standing_nothing}
+use Rattle.unit_streams.proofs.{Answers.answers_are_first, Passing.refusal_from}
 use Rattle.unit_streams.proofs.Offences.{no_offence, unrefused_offence}
-use Rattle.unit_streams.proofs.Passing.{refusal_from}
-use Rattle.unit_streams.proofs.Standing.{standing_nothing}
-use Rattle.nbfx_values.specs.declared.content.Item.{Item}
-use Rattle.nbfx_values.specs.declared.refusals.Reason.{Reason}
+use Rattle.unit_streams.specs.{Front.wrong_of, Going.IsQuiet, Grammar.at_start}
+use Rattle.unit_streams.specs.Judging.{answer, event_at, goes_on, offence, offends, refusal_at}
+use Rattle.nbfx_values.specs.declared.{content.Item.Item, refusals.Reason.Reason}
+use Rattle.nbfx_decoder.specs.DecoderState.{FinishAnswers, situation_of}
 use Rattle.nbfx_decoder.specs.Laws.{FinishedWhereWhole, GoesOnUnrefused, GoesOnWhereNothing}
 use Rattle.nbfx_decoder.specs.Laws.{IsUnrefused, IsWholePayload, MayBegin, NothingIsRefused}
 use Rattle.nbfx_decoder.specs.Laws.{OffendsWhereShown, ShowsNothing, ShowsWithin}
-use Rattle.nbfx_decoder.specs.Payload.{NoEvent, Settings, payload, refusal}
-use Rattle.nbfx_decoder.specs.DecoderState.{FinishAnswers, situation_of}
+use Rattle.nbfx_decoder.specs.Payload.{NoEvent, payload, refusal, Settings}
 use Rattle.nbfx_decoder.proofs.PayloadLaws.{accepted_strings, payloads_are_accepted}
 use Rattle.nbfx_decoder.proofs.PayloadReasons.{nothing_unrefused, refused_where_shown}
-use Rattle.nbfx_decoder.proofs.PayloadReasons.{unrefused_nothing}
-use Rattle.nbfx_decoder.proofs.Readable.{readable}
+use Rattle.nbfx_decoder.proofs.{PayloadReasons.unrefused_nothing, Readable.readable}
 
 -- there are no events
 no_event : (o : Option NoEvent) → o ≡ None

@@ -1,34 +1,25 @@
 -- The bytes that have no offence are the payloads.
-use Rattle.std.proofs.Common.{◌≡◌, ℕ, List, [], ◌++◌, length, None, Some, refl, sym, ap, ◌∙◌, subst}
-use Rattle.std.proofs.Common.{arith, append-nil}
-use Rattle.std.specs.Prelude.{max}
-use Rattle.std.proofs.Math.Seq.{take-length}
-use Rattle.std.proofs.lemmas.List.{append_cancel_left}
-use Rattle.unit_streams.specs.Judging.{ending_at, offence, refusal_at}
-use Rattle.unit_streams.specs.Units.{UnitsLead, size_of, IsAccepted as UnitsAccept}
-use Rattle.unit_streams.proofs.Accepted.{accepted_or_offended}
-use Rattle.unit_streams.proofs.Along.{Passes, passes_between}
-use Rattle.unit_streams.proofs.Offences.{no_offence}
-use Rattle.unit_streams.proofs.Passing.{going_at}
+use Rattle.std.proofs.Common.{◌≡◌, ℕ, max, List, [], ◌++◌, length, Some, None, sym, refl, ap, ◌∙◌}
+use Rattle.std.proofs.Common.{subst, append-nil, arith}
+use Rattle.std.proofs.{Math.Seq.take-length, lemmas.List.append_cancel_left}
+use Rattle.unit_streams.proofs.{Accepted.accepted_or_offended, Passing.going_at}
+use Rattle.unit_streams.proofs.{Along.Passes, Along.passes_between, Offences.no_offence}
 use Rattle.unit_streams.proofs.Units.{short_below, units_of}
-use Rattle.nbfx_values.specs.Limits.{limits}
+use Rattle.unit_streams.specs.Judging.{ending_at, offence, refusal_at}
+use Rattle.unit_streams.specs.Units.{IsAccepted as UnitsAccept, size_of, UnitsLead}
+use Rattle.string_tables.specs.{SessionStrings.used_cost, StringTable.StringTable}
+use Rattle.{nbfx_values.proofs.Walks.document-position, nbfx_decoder.specs.Laws.table_before}
+use Rattle.nbfx_values.specs.declared.{content.Item.Item, session.Kind.Kind}
+use Rattle.nbfx_values.specs.{Limits.limits, Positions.position_of}
 use Rattle.nbfx_values.specs.Measures.{content_of, depth_of}
-use Rattle.nbfx_values.specs.Positions.{position_of}
-use Rattle.nbfx_values.specs.declared.content.Item.{Item}
-use Rattle.nbfx_values.specs.declared.position.Position.TheVariants as positions
-use Rattle.nbfx_values.specs.declared.session.Kind.{Kind}
-use Rattle.nbfx_values.proofs.Walks.{document-position}
-use Rattle.string_tables.specs.SessionStrings.{used_cost}
-use Rattle.string_tables.specs.StringTable.{StringTable}
-use Rattle.nbfx_decoder.specs.Laws.{IsDecoded, MayBegin, PayloadsAreAccepted, SpellsOneDocument}
-use Rattle.nbfx_decoder.specs.Laws.{table_before}
-use Rattle.nbfx_decoder.specs.Payload.{Settings, Situation, beginning, cut_at, payload}
 use Rattle.nbfx_records.specs.Payloads.{IsAdmitted, IsPayload}
 use Rattle.nbfx_decoder.specs.DecoderState.{begun_of, from_of, situation_of}
+use Rattle.nbfx_decoder.specs.Laws.{IsDecoded, MayBegin, PayloadsAreAccepted, SpellsOneDocument}
+use Rattle.nbfx_decoder.specs.Payload.{beginning, cut_at, payload, Settings, Situation}
 use Rattle.nbfx_decoder.proofs.AcceptedUnits.{AreAll, ends_after, nothing_begun, units_are_payload}
 use Rattle.nbfx_decoder.proofs.PayloadPasses.{behind_payload, payload_passes}
-use Rattle.nbfx_decoder.proofs.Readable.{readable}
-use Rattle.nbfx_decoder.proofs.Sound.{keeps_within}
+use Rattle.nbfx_decoder.proofs.{Readable.readable, Sound.keeps_within}
+use Rattle.nbfx_values.specs.declared.position.Position.TheVariants as positions
 
 module _ (x : Settings) (strings : List (List ℕ)) (bytes : List ℕ) where
   -- bytes without an offence

@@ -1,44 +1,30 @@
 -- The parts of a payload are units, none of which is refused.
 use Rattle.std.proofs.Common.{◌≡◌, ℕ, suc, ◌+◌, ◌-◌, ◌<◌, ◌≤◌, List, [], ◌∷◌, ◌++◌, length, Some}
-use Rattle.std.proofs.Common.{None, refl, sym, ap, ◌∙◌, subst, arith, append_assoc, append-nil}
-use Rattle.std.proofs.Common.{length-append}
-use Rattle.std.proofs.Math.Seq.{take-length}
-use Rattle.std.proofs.lemmas.List.Sums.{sum_by-append}
-use Rattle.unit_streams.specs.Front.{whole}
-use Rattle.unit_streams.specs.Parts.{seen}
-use Rattle.unit_streams.specs.Grammar.{IsReadable}
+use Rattle.std.proofs.Common.{None, sym, refl, ap, ◌∙◌, subst, append_assoc, append-nil, arith}
+use Rattle.std.proofs.{Common.length-append, Math.Seq.take-length, lemmas.List.Sums.sum_by-append}
 use Rattle.unit_streams.proofs.Along.{Passes, passes_none, passes_then, passes_unit}
-use Rattle.multibyte_ints.specs.Integer.{Spells}
-use Rattle.multibyte_ints.specs.Text.{IsString}
-use Rattle.nbfx_values.specs.Measures.{content_of, depth_of, item_content}
-use Rattle.nbfx_values.specs.Positions.{position_of}
-use Rattle.nbfx_values.specs.declared.content.Item.{Item}
-use Rattle.nbfx_values.specs.declared.position.Position.{Position}
-use Rattle.nbfx_values.specs.declared.position.Position.TheVariants as positions
-use Rattle.nbfx_values.specs.declared.refusals.Reason.{Reason}
-use Rattle.nbfx_values.specs.declared.session.Kind.{Kind}
-use Rattle.nbfx_values.specs.declared.session.Kind.TheVariants.{Plain, Session}
-use Rattle.nbfx_values.proofs.Heights.{most_open-append}
-use Rattle.nbfx_values.proofs.Walks.{document-position}
-use Rattle.string_tables.specs.SessionStrings.{used_cost}
-use Rattle.string_tables.specs.StringTable.{StringTable}
+use Rattle.unit_streams.specs.{Front.whole, Grammar.IsReadable, Parts.seen}
 use Rattle.string_tables.proofs.SessionFacts.{used_cost-append}
-use Rattle.nbfx_records.proofs.MeaningFacts.{meanings_are_found}
-use Rattle.nbfx_records.proofs.NodeBytes.{read_of_all}
-use Rattle.nbfx_decoder.specs.declared.section.Section.{Section}
-use Rattle.nbfx_decoder.specs.declared.section.Section.TheVariants.{TableSize, Strings, Nodes}
-use Rattle.nbfx_decoder.specs.Faults.{reason_of}
-use Rattle.nbfx_decoder.specs.Payload.{Settings, Situation, PayloadUnit, table_size, table_string}
-use Rattle.nbfx_decoder.specs.Payload.{node, after, beginning, payload, place_of, refusal}
-use Rattle.nbfx_decoder.specs.Payload.{refusal_from, refused, room_for, table_in, unit_in, unit_of}
-use Rattle.nbfx_decoder.specs.Sections.{first_section, section_of}
-use Rattle.nbfx_records.specs.Payloads.{AreRecords, no_record, record_then, AreStrings, IsAdmitted}
-use Rattle.nbfx_records.specs.Payloads.{IsOpening, IsPayload, IsRecordMeaning}
-use Rattle.nbfx_decoder.specs.Tables.{TableString}
-use Rattle.nbfx_decoder.proofs.AcceptedUnits.{some_left}
+use Rattle.string_tables.specs.{SessionStrings.used_cost, StringTable.StringTable}
+use Rattle.multibyte_ints.specs.{Integer.Spells, Text.IsString}
+use Rattle.nbfx_values.proofs.{Heights.most_open-append, Walks.document-position}
+use Rattle.nbfx_values.specs.declared.{content.Item.Item, position.Position.Position}
+use Rattle.nbfx_values.specs.{declared.refusals.Reason.Reason, Positions.position_of}
+use Rattle.nbfx_values.specs.declared.session.Kind.{Kind, TheVariants.Plain, TheVariants.Session}
+use Rattle.nbfx_values.specs.Measures.{content_of, depth_of, item_content}
+use Rattle.nbfx_records.proofs.{MeaningFacts.meanings_are_found, NodeBytes.read_of_all}
+use Rattle.nbfx_records.specs.Payloads.{AreRecords, AreStrings, IsAdmitted, IsOpening, IsPayload}
+use Rattle.nbfx_records.specs.Payloads.{IsRecordMeaning, no_record, record_then}
+use Rattle.nbfx_decoder.specs.{declared.section.Section.Section, Faults.reason_of}
+use Rattle.nbfx_decoder.specs.declared.section.Section.TheVariants.{Nodes, Strings, TableSize}
+use Rattle.nbfx_decoder.specs.Payload.{after, beginning, node, payload, PayloadUnit, place_of}
+use Rattle.nbfx_decoder.specs.Payload.{refusal, refusal_from, refused, room_for, Settings, unit_of}
+use Rattle.nbfx_decoder.specs.Payload.{Situation, table_in, table_size, table_string, unit_in}
+use Rattle.nbfx_decoder.specs.{Sections.first_section, Sections.section_of, Tables.TableString}
+use Rattle.nbfx_decoder.proofs.{AcceptedUnits.some_left, UnitCases.node_passes}
 use Rattle.nbfx_decoder.proofs.Places.{behind_stands, position_before}
 use Rattle.nbfx_decoder.proofs.TableBytes.{IsTableString, just_integer, just_string}
-use Rattle.nbfx_decoder.proofs.UnitCases.{node_passes}
+use Rattle.nbfx_values.specs.declared.position.Position.TheVariants as positions
 
 -- a front is no deeper, and has no more content
 front_depth : (before more : List Item) → depth_of before ≤ depth_of (before ++ more)

@@ -1,49 +1,37 @@
 -- Which bytes of a payload give each reason for refusing it.
-use Rattle.std.proofs.Common.{◌≡◌, ℕ, zero, suc, inl, inr, List, ◌++◌, length, take, Bool, true}
-use Rattle.std.proofs.Common.{false, Option, Some, None, refl, sym, ap, ◌∙◌, subst, arith}
-use Rattle.std.specs.Prelude.{nat_lt, if◌then◌else◌}
-use Rattle.std.proofs.Math.Seq.{take-length}
-use Rattle.std.proofs.lemmas.Bool.{ltb-true, lt-ltb}
-use Rattle.unit_streams.specs.Front.{Front, begun, whole, wrong}
-use Rattle.unit_streams.specs.Parts.{seen}
-use Rattle.unit_streams.specs.Judging.{ending_at, refusal_at}
+use Rattle.std.proofs.Common.{◌≡◌, ℕ, zero, suc, Bool, true, false, List, ◌++◌, length, take}
+use Rattle.std.proofs.Common.{if◌then◌else◌, nat_lt, Some, None, Option, sym, refl, ap, ◌∙◌, subst}
+use Rattle.std.proofs.Common.{inl, inr, arith, ltb-true, lt-ltb}
+use Rattle.{std.proofs.Math.Seq.take-length, unit_streams.proofs.Refusals.refusals_are_three}
+use Rattle.unit_streams.proofs.{Offences.offences_are_first, Standing.standing_length}
+use Rattle.unit_streams.specs.Front.{begun, Front, whole, wrong}
+use Rattle.unit_streams.specs.{Judging.ending_at, Judging.refusal_at, Parts.seen}
 use Rattle.unit_streams.specs.Refusals.{AreUnits, IsRefusedByBytes, IsRefusedByUnit}
-use Rattle.unit_streams.proofs.Offences.{offences_are_first}
-use Rattle.unit_streams.proofs.Refusals.{refusals_are_three}
-use Rattle.unit_streams.proofs.Standing.{standing_length}
-use Rattle.nbfx_values.specs.Measures.{content_of}
+use Rattle.nbfx_values.specs.declared.{content.Item.Item, position.Position.Position}
+use Rattle.nbfx_values.specs.{declared.refusals.Reason.Reason, Measures.content_of}
 use Rattle.nbfx_values.specs.Positions.{position_of}
-use Rattle.nbfx_values.specs.declared.content.Item.{Item}
-use Rattle.nbfx_values.specs.declared.position.Position.{Position}
-use Rattle.nbfx_values.specs.declared.position.Position.TheVariants as positions
-use Rattle.nbfx_values.specs.declared.refusals.Reason.{Reason}
-use Rattle.nbfx_values.specs.declared.refusals.Reason.TheVariants as reasons
-use Rattle.nbfx_records.specs.declared.nodes.Node.{Node}
-use Rattle.nbfx_records.specs.declared.nodes.RecordFault.{RecordFault}
-use Rattle.nbfx_records.specs.declared.nodes.RecordFault.TheVariants as faults
-use Rattle.nbfx_records.specs.Meaning.{items_of}
-use Rattle.nbfx_records.specs.Places.{Stands}
-use Rattle.nbfx_records.specs.RecordAtFront.{node_at}
-use Rattle.nbfx_records.specs.Records.{IsNode}
 use Rattle.nbfx_records.proofs.FaultCauses.{wrong_by_text, wrong_by_value}
 use Rattle.nbfx_records.proofs.MeaningFacts.{meanings_are_found, nothing_without_names}
 use Rattle.nbfx_records.proofs.NodeBytes.{read_of_all, records_are_read}
-use Rattle.nbfx_decoder.specs.declared.section.Section.{Section}
-use Rattle.nbfx_decoder.specs.declared.section.Section.TheVariants.{TableSize, Strings, Nodes}
-use Rattle.nbfx_decoder.specs.Faults.{reason_of}
-use Rattle.nbfx_decoder.specs.Laws.{CutWhereUnended, FirstReasonRefuses, RefusedWhereShown}
-use Rattle.nbfx_decoder.specs.Laws.{ShowsNothing}
-use Rattle.nbfx_decoder.specs.Payload.{Refusal, Settings, Situation, PayloadUnit, table_size}
-use Rattle.nbfx_decoder.specs.Payload.{table_string, node, cut_at, payload, reason_in, refusal}
-use Rattle.nbfx_decoder.specs.Payload.{refusal_from, refused, room_for, table_in, unit_in, unit_of}
-use Rattle.nbfx_decoder.specs.Reasons.{IsCutAt, Shows, ShowsAtNode, ShowsFrom, node_place}
+use Rattle.nbfx_records.specs.declared.nodes.{Node.Node, RecordFault.RecordFault}
+use Rattle.nbfx_records.specs.{Meaning.items_of, Places.Stands}
+use Rattle.nbfx_records.specs.{RecordAtFront.node_at, Records.IsNode}
+use Rattle.nbfx_decoder.specs.{declared.section.Section.Section, Faults.reason_of}
+use Rattle.nbfx_decoder.specs.declared.section.Section.TheVariants.{Nodes, Strings, TableSize}
 use Rattle.nbfx_decoder.specs.DecoderState.{from_of, situation_of}
-use Rattle.nbfx_decoder.specs.Tables.{table_integer, table_string_at}
+use Rattle.nbfx_decoder.specs.Laws.{CutWhereUnended, FirstReasonRefuses, RefusedWhereShown}
+use Rattle.nbfx_decoder.specs.{Laws.ShowsNothing, Tables.table_integer, Tables.table_string_at}
+use Rattle.nbfx_decoder.specs.Payload.{cut_at, node, payload, PayloadUnit, reason_in, Refusal}
+use Rattle.nbfx_decoder.specs.Payload.{refusal, refusal_from, refused, room_for, Settings, unit_of}
+use Rattle.nbfx_decoder.specs.Payload.{Situation, table_in, table_size, table_string, unit_in}
+use Rattle.nbfx_decoder.specs.Reasons.{IsCutAt, node_place, Shows, ShowsAtNode, ShowsFrom}
 use Rattle.nbfx_decoder.proofs.NodeReasons.{node_shows, part_wrong}
-use Rattle.nbfx_decoder.proofs.Readable.{readable}
+use Rattle.nbfx_decoder.proofs.{Readable.readable, TableReasons.string_shows}
 use Rattle.nbfx_decoder.proofs.TableReasons.{integer_shows, shows_integer, shows_string}
-use Rattle.nbfx_decoder.proofs.TableReasons.{string_shows}
-use Rattle.nbfx_decoder.proofs.UnitCases.{UnitCase, a_node, a_size, a_string, unit_case}
+use Rattle.nbfx_decoder.proofs.UnitCases.{a_node, a_size, a_string, unit_case, UnitCase}
+use Rattle.nbfx_values.specs.declared.position.Position.TheVariants as positions
+use Rattle.nbfx_values.specs.declared.refusals.Reason.TheVariants as reasons
+use Rattle.nbfx_records.specs.declared.nodes.RecordFault.TheVariants as faults
 
 seen_wrong : {A B R S : Type 0} (f : A → B) (h : R → S) (v : Front A R) (s : S) (k : ℕ) → seen f h v
     ≡ wrong s k → (r : R) × (v ≡ wrong r k) × (h r ≡ s)

@@ -1,27 +1,22 @@
 -- A node that stands where items lead means items that lead on from there, within the depth; and
 -- what leads on stands.
-use Rattle.std.proofs.Common.{◌≡◌, ℕ, zero, suc, ◌+◌, ◌≤◌, List, [], ◌∷◌, ◌++◌, Bool, true, false}
-use Rattle.std.proofs.Common.{Option, Some, None, refl, sym, ap, ◌∙◌, subst, arith}
-use Rattle.std.specs.Prelude.{max, nat_lt, if◌then◌else◌}
-use Rattle.std.specs.List.{list_all}
-use Rattle.std.proofs.lemmas.Bool.{and_parts, lt-ltb, ltb-true}
-use Rattle.nbfx_values.specs.declared.content.Item.{Item}
-use Rattle.nbfx_values.specs.declared.content.Item.TheVariants as items
-use Rattle.nbfx_values.specs.declared.position.Position.{Position}
-use Rattle.nbfx_values.specs.declared.position.Position.TheVariants as positions
-use Rattle.nbfx_values.specs.Items.{is_valid_item}
-use Rattle.nbfx_values.specs.Measures.{opened, opened_by, most_open, depth_of}
-use Rattle.nbfx_values.specs.Positions.{moved, open_count, position_from, position_of}
-use Rattle.nbfx_values.proofs.Heights.{most_open-append}
+use Rattle.std.proofs.Common.{◌≡◌, ℕ, zero, suc, ◌+◌, ◌≤◌, max, Bool, true, false, List, [], ◌∷◌}
+use Rattle.std.proofs.Common.{◌++◌, if◌then◌else◌, nat_lt, Some, None, Option, sym, refl, ap, ◌∙◌}
+use Rattle.std.proofs.Common.{subst, arith, ltb-true, lt-ltb}
+use Rattle.std.{proofs.lemmas.Bool.and_parts, specs.List.list_all}
+use Rattle.{string_tables.specs.StringTable.StringTable, nbfx_decoder.specs.Payload.place_of}
+use Rattle.nbfx_values.{proofs.Heights.most_open-append, specs.Items.is_valid_item}
 use Rattle.nbfx_values.proofs.Positions.{led, open-position, passed, position_from-append}
 use Rattle.nbfx_values.proofs.Positions.{position_from-none, stepped}
-use Rattle.string_tables.specs.StringTable.{StringTable}
-use Rattle.nbfx_records.specs.declared.nodes.Node.{Node}
-use Rattle.nbfx_records.specs.declared.nodes.Node.TheVariants.{EndElement, Comment, Array}
-use Rattle.nbfx_records.specs.declared.nodes.Node.TheVariants.{Attribute, Xmlns, Element, Text}
-use Rattle.nbfx_records.specs.Meaning.{Means, closing}
-use Rattle.nbfx_records.specs.Places.{Stands}
-use Rattle.nbfx_decoder.specs.Payload.{place_of}
+use Rattle.nbfx_values.specs.declared.{content.Item.Item, position.Position.Position}
+use Rattle.nbfx_values.specs.Measures.{depth_of, most_open, opened, opened_by}
+use Rattle.nbfx_values.specs.Positions.{moved, open_count, position_from, position_of}
+use Rattle.nbfx_records.specs.{declared.nodes.Node.Node, Places.Stands}
+use Rattle.nbfx_records.specs.declared.nodes.Node.TheVariants.{Array, Attribute, Comment, Element}
+use Rattle.nbfx_records.specs.declared.nodes.Node.TheVariants.{EndElement, Text, Xmlns}
+use Rattle.nbfx_records.specs.Meaning.{closing, Means}
+use Rattle.nbfx_values.specs.declared.content.Item.TheVariants as items
+use Rattle.nbfx_values.specs.declared.position.Position.TheVariants as positions
 
 -- one valid item
 one_leads : (q t : Position) (item : Item) (more : List Item) → more ≡ item ∷ []

@@ -1,28 +1,22 @@
 -- The units of a payload are known by their own bytes.
-use Rattle.std.proofs.Common.{◌≡◌, ℕ, zero, suc, ◌<◌, inl, List, [], refl, ap, arith}
-use Rattle.unit_streams.specs.Front.{begun, ReadsFront}
-use Rattle.unit_streams.specs.Parts.{some_bytes, seen, judged, judged_at, within}
-use Rattle.unit_streams.specs.Grammar.{IsReadable}
-use Rattle.unit_streams.proofs.Fronts.{reads_by}
-use Rattle.unit_streams.proofs.Parts.{reads_bytes, reads_then, reads_seen, reads_judged, then_begun}
-use Rattle.unit_streams.proofs.Peeling.{peels_front}
+use Rattle.std.proofs.Common.{◌≡◌, ℕ, zero, suc, ◌<◌, List, [], refl, ap, inl, arith}
+use Rattle.unit_streams.proofs.{Fronts.reads_by, Peeling.peels_front}
+use Rattle.unit_streams.proofs.Parts.{reads_bytes, reads_judged, reads_seen, reads_then, then_begun}
 use Rattle.unit_streams.proofs.Within.{reads_judged_at, reads_within, within_nothing}
-use Rattle.multibyte_ints.specs.Integer.{int_at}
-use Rattle.multibyte_ints.proofs.IntegerBytes.{int_peels}
-use Rattle.nbfx_values.specs.declared.content.Item.{Item}
-use Rattle.nbfx_values.specs.declared.refusals.Reason.{Reason}
+use Rattle.unit_streams.specs.{Front.begun, Front.ReadsFront, Grammar.IsReadable}
+use Rattle.unit_streams.specs.Parts.{judged, judged_at, seen, some_bytes, within}
+use Rattle.multibyte_ints.{proofs.IntegerBytes.int_peels, specs.Integer.int_at}
+use Rattle.nbfx_values.specs.declared.{content.Item.Item, refusals.Reason.Reason}
 use Rattle.nbfx_values.specs.declared.refusals.Reason.TheVariants.{BadInt, TableCut}
-use Rattle.nbfx_values.specs.Positions.{position_of}
-use Rattle.nbfx_records.specs.RecordAtFront.{node_at}
+use Rattle.{nbfx_values.specs.Positions.position_of, nbfx_records.specs.RecordAtFront.node_at}
 use Rattle.nbfx_records.proofs.ShapeFronts.{node_fronts, node_of_nothing}
-use Rattle.nbfx_decoder.specs.declared.section.Section.{Section}
-use Rattle.nbfx_decoder.specs.declared.section.Section.TheVariants.{TableSize, Strings, Nodes}
-use Rattle.nbfx_decoder.specs.Faults.{reason_of}
-use Rattle.nbfx_decoder.specs.Tables.{StringHead, table_integer, length_judged, head_at}
-use Rattle.nbfx_decoder.specs.Tables.{text_judged, table_text_at, table_string_at}
-use Rattle.nbfx_decoder.specs.Payload.{Settings, Situation, PayloadUnit, table_size, table_string}
-use Rattle.nbfx_decoder.specs.Payload.{node, refusal, place_of, room_for, node_behind, unit_of}
-use Rattle.nbfx_decoder.specs.Payload.{unit_in, payload}
+use Rattle.nbfx_decoder.specs.{declared.section.Section.Section, Faults.reason_of}
+use Rattle.nbfx_decoder.specs.declared.section.Section.TheVariants.{Nodes, Strings, TableSize}
+use Rattle.nbfx_decoder.specs.Payload.{node, node_behind, payload, PayloadUnit, place_of, refusal}
+use Rattle.nbfx_decoder.specs.Payload.{room_for, Settings, Situation, table_size, table_string}
+use Rattle.nbfx_decoder.specs.Payload.{unit_in, unit_of}
+use Rattle.nbfx_decoder.specs.Tables.{head_at, length_judged, StringHead, table_integer}
+use Rattle.nbfx_decoder.specs.Tables.{table_string_at, table_text_at, text_judged}
 
 -- an integer
 pub reads_integer : ReadsFront table_integer

@@ -1,57 +1,41 @@
 -- A whole record is read where it stands, and what it means is put behind the items.
-use Rattle.std.proofs.Common.{◌≡◌, ℕ, ◌+◌, ◌^◌, ◌<◌, ◌≤◌, List, [], ◌++◌, length, Option, Some}
-use Rattle.std.proofs.Common.{None, Result, Ok, Err, inr, refl, sym, ap, ◌∙◌, subst, arith}
-use Rattle.std.specs.Prelude.{IsErrAnd, IsTrue}
-use Rattle.std.proofs.lemmas.Result.{err_from_is_err_and}
-use Rattle.std.proofs.lemmas.List.{append-nil}
-use Rattle.std.proofs.lemmas.List.Sums.{sum_by-append}
+use Rattle.std.proofs.Common.{◌≡◌, ℕ, ◌+◌, ◌^◌, ◌<◌, ◌≤◌, List, [], ◌++◌, length, IsErrAnd, IsTrue}
+use Rattle.std.proofs.Common.{Some, None, Ok, Err, Option, Result, sym, refl, ap, ◌∙◌, subst, inr}
+use Rattle.std.proofs.Common.{append-nil, arith}
+use Rattle.std.proofs.lemmas.{List.Sums.sum_by-append, Result.err_from_is_err_and}
+use Rattle.{unit_streams.proofs.Fronts.whole_some, multibyte_ints.specs.Integer.IsBytes}
 use Rattle.unit_streams.specs.Front.{begun, whole, wrong}
-use Rattle.unit_streams.specs.Parts as parts
-use Rattle.unit_streams.proofs.Fronts.{whole_some}
-use Rattle.multibyte_ints.specs.Integer.{IsBytes}
-use Rattle.nbfx_values.specs.Measures.{capped, content_of, item_content}
-use Rattle.nbfx_values.specs.declared.content.Item.{Item}
-use Rattle.nbfx_values.specs.declared.refusals.Reason.TheVariants.{UnknownString, TooMuchContent}
 use Rattle.string_tables.specs.StringTable.{StringTable}
-use Rattle.nbfx_values.specs.declared.refusals.Reason.{Reason}
-use Rattle.nbfx_records.specs.declared.nodes.Node.{Node}
-use Rattle.nbfx_records.specs.declared.nodes.RecordFault.{RecordFault}
-use Rattle.nbfx_records.specs.declared.nodes.NodePlace.{NodePlace}
-use Rattle.nbfx_records.specs.declared.cursor.Stop.{Stop}
-use Rattle.nbfx_records.specs.declared.cursor.Stop.TheVariants as stops
-use Rattle.nbfx_records.specs.declared.nodes.NodeFault.{NodeFault}
-use Rattle.nbfx_records.specs.declared.nodes.NodeFault.TheVariants as node_faults
-use Rattle.nbfx_records.specs.Answers.{StopsBy}
-use Rattle.nbfx_records.specs.Asked as asked
-use Rattle.nbfx_records.specs.Contents.{contents}
-use Rattle.nbfx_records.specs.Places.{Stands}
-use Rattle.nbfx_records.specs.RecordAtFront.{node_at}
-use Rattle.nbfx_records.specs.Cursor.{IsWhole, Stops}
-use Rattle.nbfx_records.specs.Judged.{Makes}
-use Rattle.nbfx_records.specs.Meaning.{items_of}
-use Rattle.nbfx_records.proofs.ValueBytes.{mapped_some}
-use Rattle.nbfx_records.specs.Shapes.{Shape, ends_element, shape_at}
-use Rattle.nbfx_records.specs.declared.nodes.Node.TheVariants.{EndElement}
-use Rattle.nbfx_records.proofs.CursorFacts.{further_whole}
-use Rattle.nbfx_records.proofs.ShapeFronts.{reads_shape}
-use Rattle.nbfx_records.specs.Valid.{is_valid_node}
+use Rattle.nbfx_values.specs.declared.{content.Item.Item, refusals.Reason.Reason}
+use Rattle.nbfx_values.specs.declared.refusals.Reason.TheVariants.{TooMuchContent, UnknownString}
+use Rattle.nbfx_values.specs.Measures.{capped, content_of, item_content}
 use Rattle.nbfx_records.proofs.AnswerFacts.{stops_by, whole_node, whole_wrong}
-use Rattle.nbfx_records.proofs.ValidFacts.{reads_valid}
-use Rattle.nbfx_decoder.specs.declared.faults.UnitFault.{UnitFault}
-use Rattle.nbfx_decoder.specs.declared.faults.UnitFault.TheVariants.{Refused, Memory}
+use Rattle.nbfx_records.proofs.{CursorFacts.further_whole, ValidFacts.reads_valid}
+use Rattle.nbfx_records.proofs.{ShapeFronts.reads_shape, ValueBytes.mapped_some}
+use Rattle.nbfx_records.specs.declared.{cursor.Stop.Stop, nodes.RecordFault.RecordFault}
+use Rattle.nbfx_records.specs.declared.nodes.Node.{Node, TheVariants.EndElement}
+use Rattle.nbfx_records.specs.declared.nodes.{NodeFault.NodeFault, NodePlace.NodePlace}
+use Rattle.nbfx_records.specs.{Answers.StopsBy, Judged.Makes, Valid.is_valid_node}
+use Rattle.nbfx_records.specs.{Contents.contents, Cursor.IsWhole, Cursor.Stops, Places.Stands}
+use Rattle.nbfx_records.specs.{Meaning.items_of, RecordAtFront.node_at}
+use Rattle.nbfx_records.specs.Shapes.{ends_element, Shape, shape_at}
+use Rattle.nbfx_decoder.specs.{declared.faults.UnitFault.UnitFault, Faults.stopped, Faults.unmade}
+use Rattle.nbfx_decoder.specs.declared.faults.UnitFault.TheVariants.{Memory, Refused}
 use Rattle.nbfx_decoder.specs.declared.section.Section.TheVariants.{Nodes}
-use Rattle.nbfx_decoder.specs.declared.units.UnitRead.{UnitRead}
-use Rattle.nbfx_decoder.specs.declared.units.UnitReader.{UnitReader}
-use Rattle.nbfx_decoder.specs.Payload.{Settings, Situation, node, refused, unit_in}
-use Rattle.nbfx_decoder.specs.declared.units.UnitRead.TheVariants as units_read
-use Rattle.nbfx_decoder.specs.Units.{HasShape, IsAdded, IsAt, Judged, Judges, MayAdd, MayMake}
-use Rattle.nbfx_decoder.specs.Units.{RefusedAs, unfit, unnamed_in, too_much_in, KeepsTable}
-use Rattle.nbfx_decoder.specs.Units.{KeepsSettings, Reads, SayAnswers, StandsAt, UnitAnswers}
-use Rattle.nbfx_decoder.specs.Units.{names_in, place_in}
-use Rattle.nbfx_decoder.specs.Faults.{stopped, unmade}
+use Rattle.nbfx_decoder.specs.declared.units.{UnitRead.UnitRead, UnitReader.UnitReader}
 use Rattle.nbfx_decoder.specs.Measuring.{Measured, weigh_node, weighed}
+use Rattle.nbfx_decoder.specs.Payload.{node, refused, Settings, Situation, unit_in}
+use Rattle.nbfx_decoder.specs.Units.{HasShape, IsAdded, IsAt, Judged, Judges, KeepsSettings}
+use Rattle.nbfx_decoder.specs.Units.{KeepsTable, MayAdd, MayMake, names_in, place_in, Reads}
+use Rattle.nbfx_decoder.specs.Units.{RefusedAs, SayAnswers, StandsAt, too_much_in, unfit}
+use Rattle.nbfx_decoder.specs.Units.{UnitAnswers, unnamed_in}
 use Rattle.nbfx_decoder.proofs.UnitSteps.{node_stands, node_unread, node_waits, node_whole, passed}
 use Rattle.nbfx_decoder.proofs.UnitSteps.{too_much, unnamed}
+use Rattle.unit_streams.specs.Parts as parts
+use Rattle.nbfx_records.specs.declared.cursor.Stop.TheVariants as stops
+use Rattle.nbfx_records.specs.declared.nodes.NodeFault.TheVariants as node_faults
+use Rattle.nbfx_records.specs.Asked as asked
+use Rattle.nbfx_decoder.specs.declared.units.UnitRead.TheVariants as units_read
 
 -- a record of any shape has some bytes
 shape_of_nothing : (place : NodePlace) → shape_at place [] ≡ begun

@@ -1,22 +1,18 @@
 -- What a decoder shows, and that nothing of it changes where a document is handed back.
 use Rattle.std.proofs.Common.{◌≡◌, ℕ, ◌*◌, ◌≤◌, List, [], length, sym, ap, ◌∙◌, subst, arith}
 use Rattle.unit_streams.proofs.Standing.{standing_length}
-use Rattle.nbfx_values.specs.Measures.{capped, content_of, opened_by}
-use Rattle.nbfx_decoder.specs.declared.decoder.Decoder.{Decoder}
-use Rattle.nbfx_decoder.specs.declared.faults.DecodeFault.{DecodeFault}
-use Rattle.nbfx_decoder.specs.Payload.{Settings, payload}
-use Rattle.nbfx_decoder.specs.Values.{values_of}
-use Rattle.nbfx_decoder.specs.DecoderState.{IsPlacedAt, settings_of, situation_of, from_of}
-use Rattle.nbfx_decoder.specs.DecoderState.{begun_of, StandsFor, Failed, FailedBehind}
-use Rattle.nbfx_decoder.specs.Units.{HasStrings, KeepsTable}
 use Rattle.string_tables.specs.SessionStrings.{used_cost}
-use Rattle.nbfx_decoder.specs.Bounds.{KeepsWithin}
+use Rattle.nbfx_values.specs.Measures.{capped, content_of, opened_by}
+use Rattle.nbfx_decoder.specs.declared.{decoder.Decoder.Decoder, faults.DecodeFault.DecodeFault}
+use Rattle.nbfx_decoder.specs.{Bounds.KeepsWithin, Values.values_of}
+use Rattle.nbfx_decoder.specs.DecoderState.{begun_of, Failed, FailedBehind, from_of, IsPlacedAt}
+use Rattle.nbfx_decoder.specs.DecoderState.{settings_of, situation_of, StandsFor}
+use Rattle.nbfx_decoder.specs.Payload.{payload, Settings}
+use Rattle.nbfx_decoder.specs.Units.{HasStrings, KeepsTable}
 use Rattle.nbfx_decoder.proofs.Keeping.{keeps_settings, strings_kept}
-use Rattle.nbfx_decoder.proofs.Readable.{readable}
-use Rattle.nbfx_decoder.proofs.Sound.{keeps_within}
-use Rattle.nbfx_decoder.proofs.StandsFacts.{settings_kept, stands_as, reached_of, items_here}
-use Rattle.nbfx_decoder.proofs.StandsFacts.{stands_of, failed_of, content_most, depth_some}
-use Rattle.nbfx_decoder.proofs.StandsFacts.{counts_taken}
+use Rattle.nbfx_decoder.proofs.{Readable.readable, Sound.keeps_within, StandsFacts.stands_of}
+use Rattle.nbfx_decoder.proofs.StandsFacts.{content_most, counts_taken, depth_some, failed_of}
+use Rattle.nbfx_decoder.proofs.StandsFacts.{items_here, reached_of, settings_kept, stands_as}
 
 -- what the decoder shows of what it stands for
 module _ (d : Decoder) (strings : List (List ℕ)) (p : List ℕ) (h : StandsFor d strings p) where

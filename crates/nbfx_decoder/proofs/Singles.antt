@@ -1,17 +1,14 @@
 -- What is made of a record that is neither a list nor an array is neither.
-use Rattle.std.proofs.Common.{◌≡◌, List, ℕ, Bool, true, false, Option, Some, None, Ok, subst}
-use Rattle.std.specs.Option.{option_map}
-use Rattle.nbfx_records.specs.declared.nodes.AttrNode.TheVariants as attribute_nodes
-use Rattle.nbfx_records.specs.declared.nodes.NameRef.{NameRef}
-use Rattle.nbfx_records.specs.declared.nodes.Node.{Node}
-use Rattle.nbfx_records.specs.declared.nodes.Node.TheVariants as nodes
-use Rattle.nbfx_records.specs.declared.nodes.RawScalar.{RawScalar}
-use Rattle.nbfx_records.specs.declared.nodes.RawValue.TheVariants.{One}
+use Rattle.std.proofs.Common.{◌≡◌, ℕ, Bool, true, false, List, Some, None, Ok, Option, option_map}
+use Rattle.{std.proofs.Common.subst, nbfx_records.specs.Contents.scalar_value}
+use Rattle.nbfx_records.specs.declared.nodes.{NameRef.NameRef, Node.Node}
+use Rattle.nbfx_records.specs.declared.nodes.{RawScalar.RawScalar, RawValue.TheVariants.One}
 use Rattle.nbfx_records.specs.Contents.{attribute_node, contents, is_text, judge, node_of}
-use Rattle.nbfx_records.specs.Contents.{scalar_value}
-use Rattle.nbfx_records.specs.Shapes.{Shape, adds, attributes, begins_element, comments, declares}
-use Rattle.nbfx_records.specs.Shapes.{ends_element, has_text, one, repeats, several}
+use Rattle.nbfx_records.specs.Shapes.{adds, attributes, begins_element, comments, declares}
+use Rattle.nbfx_records.specs.Shapes.{ends_element, has_text, one, repeats, several, Shape}
 use Rattle.nbfx_decoder.specs.Units.{IsSingle, IsSingleShape}
+use Rattle.nbfx_records.specs.declared.nodes.AttrNode.TheVariants as attribute_nodes
+use Rattle.nbfx_records.specs.declared.nodes.Node.TheVariants as nodes
 
 found_in : (texts : Bool) (found : Option Node) (node : Node) → judge texts found ≡ Ok node
     → found ≡ Some node

@@ -1,39 +1,27 @@
 -- What bounds the situation behind any bytes of a payload.
-use Rattle.std.proofs.Common.{◌≡◌, ℕ, zero, suc, inl, inr, ◌+◌, ◌<◌, ◌≤◌, List, [], ◌∷◌, ◌++◌}
-use Rattle.std.proofs.Common.{length, take, drop, Some, refl, sym, ap, ◌∙◌, subst, arith}
-use Rattle.std.proofs.Common.{length-append}
-use Rattle.std.specs.Prelude.{IsUtf8, max}
-use Rattle.std.proofs.lemmas.List.{length-take-le, take-append-drop}
-use Rattle.std.proofs.lemmas.List.Sums.{sum_by-append}
-use Rattle.unit_streams.specs.Grammar.{at_start, standing, IsReadable}
+use Rattle.std.proofs.Common.{◌≡◌, ℕ, zero, suc, ◌+◌, ◌<◌, ◌≤◌, max, List, [], ◌∷◌, ◌++◌, length}
+use Rattle.std.proofs.Common.{take, drop, Some, IsUtf8, sym, refl, ap, ◌∙◌, subst, inl, inr, arith}
+use Rattle.std.proofs.Common.{length-append, take-append-drop, length-take-le}
+use Rattle.{std.proofs.lemmas.List.Sums.sum_by-append, multibyte_ints.specs.Integer.IsBytes}
 use Rattle.unit_streams.proofs.Standing.{peel_by, standing_keeps}
-use Rattle.multibyte_ints.specs.Integer.{IsBytes}
-use Rattle.nbfx_values.specs.Measures.{content_of}
-use Rattle.nbfx_values.specs.Positions.{position_of}
-use Rattle.nbfx_values.specs.declared.content.Item.{Item}
-use Rattle.nbfx_values.specs.declared.position.Position.{Position}
-use Rattle.nbfx_values.specs.declared.position.Position.TheVariants as positions
-use Rattle.string_tables.specs.SessionStrings.{used_cost}
-use Rattle.string_tables.specs.StringTable.{with_strings}
-use Rattle.string_tables.proofs.SessionFacts.{used_cost-append}
-use Rattle.string_tables.proofs.TableFacts.{names-push}
-use Rattle.nbfx_records.specs.declared.nodes.Node.{Node}
-use Rattle.nbfx_records.specs.Meaning.{Means}
-use Rattle.nbfx_records.specs.Places.{Stands}
-use Rattle.nbfx_records.specs.Records.{IsNode}
+use Rattle.unit_streams.specs.Grammar.{at_start, IsReadable, standing}
+use Rattle.string_tables.proofs.{SessionFacts.used_cost-append, TableFacts.names-push}
+use Rattle.string_tables.specs.{SessionStrings.used_cost, StringTable.with_strings}
+use Rattle.nbfx_values.specs.declared.{content.Item.Item, position.Position.Position}
+use Rattle.nbfx_values.specs.{Measures.content_of, Positions.position_of}
 use Rattle.nbfx_records.proofs.MeaningFacts.{meanings_are_found, meanings_are_valid}
-use Rattle.nbfx_records.proofs.NodeBytes.{records_are_read}
-use Rattle.nbfx_records.proofs.ValidFacts.{records_are_valid}
-use Rattle.nbfx_decoder.specs.Bounds.{KeepsWithin, NamesTexts}
-use Rattle.nbfx_decoder.specs.Payload.{Settings, Situation, PayloadUnit, table_size, table_string}
-use Rattle.nbfx_decoder.specs.Payload.{node, after, payload, place_of, room_for, table_in}
+use Rattle.nbfx_records.proofs.{NodeBytes.records_are_read, ValidFacts.records_are_valid}
+use Rattle.nbfx_records.specs.{declared.nodes.Node.Node, Meaning.Means}
+use Rattle.nbfx_records.specs.{Places.Stands, Records.IsNode}
+use Rattle.nbfx_decoder.specs.{Bounds.KeepsWithin, Bounds.NamesTexts, Values.item_values}
 use Rattle.nbfx_decoder.specs.DecoderState.{from_of, situation_of}
-use Rattle.nbfx_decoder.specs.Values.{item_values}
-use Rattle.nbfx_decoder.proofs.Counts.{node_fits, node_items}
+use Rattle.nbfx_decoder.specs.Payload.{after, node, payload, PayloadUnit, place_of, room_for}
+use Rattle.nbfx_decoder.specs.Payload.{Settings, Situation, table_in, table_size, table_string}
+use Rattle.nbfx_decoder.proofs.{Counts.node_fits, Counts.node_items, TableBytes.just_string}
 use Rattle.nbfx_decoder.proofs.Places.{open_within_depth, stands_behind, stands_depth}
-use Rattle.nbfx_decoder.proofs.TableBytes.{just_string}
-use Rattle.nbfx_decoder.proofs.UnitCases.{UnitCase, a_node, a_size, a_string, NodeCase, adds}
-use Rattle.nbfx_decoder.proofs.UnitCases.{refuses, node_case, unit_case}
+use Rattle.nbfx_decoder.proofs.UnitCases.{a_node, a_size, a_string, adds, node_case, NodeCase}
+use Rattle.nbfx_decoder.proofs.UnitCases.{refuses, unit_case, UnitCase}
+use Rattle.nbfx_values.specs.declared.position.Position.TheVariants as positions
 
 module _ (x : Settings) (before : List (List ℕ)) where
   -- more bytes, and nothing new

@@ -1,23 +1,19 @@
 -- What a decoder stands for or shows, in the words of public clauses.
-use Rattle.std.proofs.Common.{◌≡◌, ℕ, ◌+◌, ◌<◌, ◌≤◌, ◌^◌, List, [], ◌++◌, length, take, false}
-use Rattle.std.proofs.Common.{Option, Some, None, refl, sym, ap, ◌∙◌, subst, arith}
-use Rattle.unit_streams.specs.Front.{begun, whole}
-use Rattle.unit_streams.specs.Grammar.{Standing, standing}
-use Rattle.unit_streams.specs.Judging.{refusal_at, is_over_at}
-use Rattle.unit_streams.specs.Going.{IsGoing, IsPending, IsQuiet}
-use Rattle.std.proofs.Math.Seq.{take-nil}
+use Rattle.std.proofs.Common.{◌≡◌, ℕ, ◌+◌, ◌^◌, ◌<◌, ◌≤◌, false, List, [], ◌++◌, length, take, Some}
+use Rattle.std.proofs.Common.{None, Option, sym, refl, ap, ◌∙◌, subst, arith}
+use Rattle.{std.proofs.Math.Seq.take-nil, string_tables.specs.SessionStrings.used_cost}
 use Rattle.unit_streams.proofs.Pending.{open_longer, open_pending, pending_open}
 use Rattle.unit_streams.proofs.Standing.{standing_length, standing_nothing}
+use Rattle.unit_streams.specs.{Front.begun, Front.whole, Grammar.Standing, Grammar.standing}
+use Rattle.unit_streams.specs.Going.{IsGoing, IsPending, IsQuiet}
+use Rattle.unit_streams.specs.Judging.{is_over_at, refusal_at}
 use Rattle.nbfx_values.specs.QuotasOf.{limits_of}
-use Rattle.nbfx_decoder.specs.declared.decoder.Decoder.{Decoder}
-use Rattle.nbfx_decoder.specs.declared.faults.DecodeFault.{DecodeFault}
-use Rattle.nbfx_decoder.specs.Payload.{Settings, Situation, NoEvent, Refusal, beginning, payload}
-use Rattle.nbfx_decoder.specs.DecoderState.{settings_of, failure_of, taken_of, situation_of}
-use Rattle.nbfx_decoder.specs.DecoderState.{Reached, StandsSo, StandsFor, Failed, FailedBehind}
+use Rattle.nbfx_decoder.specs.declared.{decoder.Decoder.Decoder, faults.DecodeFault.DecodeFault}
+use Rattle.nbfx_decoder.specs.DecoderState.{Failed, FailedBehind, failure_of, Reached, settings_of}
+use Rattle.nbfx_decoder.specs.DecoderState.{situation_of, StandsFor, StandsSo, taken_of}
+use Rattle.nbfx_decoder.specs.Payload.{beginning, NoEvent, payload, Refusal, Settings, Situation}
 use Rattle.nbfx_decoder.specs.Units.{IsAt, KeepsSettings}
-use Rattle.string_tables.specs.SessionStrings.{used_cost}
-use Rattle.nbfx_decoder.proofs.AllSteps.{going_unrefused}
-use Rattle.nbfx_decoder.proofs.Readable.{readable}
+use Rattle.nbfx_decoder.proofs.{AllSteps.going_unrefused, Readable.readable}
 
 -- the words of public clauses
 pub settings_kept : (d new : Decoder) → KeepsSettings d.units new.units → settings_of new

@@ -1,31 +1,24 @@
 -- A string of a table is read off the front of some bytes.
-use Rattle.std.proofs.Common.{◌≡◌, ℕ, ◌+◌, ◌-◌, ◌<◌, ◌≤◌, min, List, ◌++◌, length, take, drop, Bool}
-use Rattle.std.proofs.Common.{true, false, Result, Ok, Err, refl, sym, ap, ◌∙◌, subst, arith}
-use Rattle.std.proofs.Common.{length-append, length-drop, length-take}
-use Rattle.std.specs.Prelude.{max, nat_lt, nat_le, if◌then◌else◌, IsUtf8, IsErrAnd}
-use Rattle.std.specs.Str.{is_utf8}
-use Rattle.std.proofs.lemmas.Bool.{lt-ltb, le-ltb, le-leb, lt-leb, ltb-false, false_from_ne_true}
-use Rattle.std.proofs.lemmas.List.{take_min}
-use Rattle.std.proofs.lemmas.Result.{err_from_is_err_and}
-use Rattle.std.proofs.lemmas.Str.{is_utf8-from_IsUtf8, IsUtf8-from_is_utf8}
-use Rattle.unit_streams.specs.Front.{Front, begun, whole, wrong}
-use Rattle.unit_streams.specs.Parts.{further, seen, judged_whole, judged_at, closed_at}
+use Rattle.std.proofs.Common.{◌≡◌, ℕ, ◌+◌, ◌-◌, ◌<◌, ◌≤◌, min, max, Bool, true, false, List, ◌++◌}
+use Rattle.std.proofs.Common.{length, take, drop, IsErrAnd, if◌then◌else◌, nat_lt, nat_le, Ok, Err}
+use Rattle.std.proofs.Common.{IsUtf8, Result, sym, refl, ap, ◌∙◌, subst, arith, length-append}
+use Rattle.std.proofs.Common.{length-drop, length-take, ltb-false, le-ltb, lt-ltb, le-leb}
+use Rattle.std.{proofs.lemmas.Bool.false_from_ne_true, proofs.lemmas.Bool.lt-leb, specs.Str.is_utf8}
+use Rattle.std.proofs.lemmas.{List.take_min, Result.err_from_is_err_and}
+use Rattle.std.proofs.lemmas.Str.{IsUtf8-from_is_utf8, is_utf8-from_IsUtf8}
 use Rattle.unit_streams.proofs.Parts.{then_begun, then_whole, then_wrong}
-use Rattle.multibyte_ints.specs.Integer.{int_at}
-use Rattle.multibyte_ints.proofs.IntegerBytes.{int_peels}
 use Rattle.unit_streams.proofs.Peeling.{peels_front}
-use Rattle.nbfx_values.specs.declared.refusals.Reason.{Reason}
-use Rattle.nbfx_values.specs.declared.refusals.Reason.TheVariants.{BadInt, TableCut, DictionaryFull}
-use Rattle.nbfx_values.specs.declared.refusals.Reason.TheVariants.{BadUtf8}
-use Rattle.nbfx_decoder.specs.declared.faults.UnitFault.{UnitFault}
-use Rattle.nbfx_decoder.specs.declared.faults.UnitFault.TheVariants.{Refused, Memory}
-use Rattle.nbfx_decoder.specs.declared.strings.Head.{Head}
-use Rattle.nbfx_decoder.specs.declared.strings.StringRead.{StringRead}
-use Rattle.nbfx_decoder.specs.Tables.{StringHead, length_judged, head_at, table_text_at}
-use Rattle.nbfx_decoder.specs.Tables.{table_string_at}
+use Rattle.unit_streams.specs.Front.{begun, Front, whole, wrong}
+use Rattle.unit_streams.specs.Parts.{closed_at, further, judged_at, judged_whole, seen}
+use Rattle.multibyte_ints.{proofs.IntegerBytes.int_peels, specs.Integer.int_at}
+use Rattle.nbfx_values.specs.declared.refusals.Reason.{Reason, TheVariants.TableCut}
+use Rattle.nbfx_values.specs.declared.refusals.Reason.TheVariants.{BadInt, BadUtf8, DictionaryFull}
+use Rattle.nbfx_decoder.specs.{declared.faults.UnitFault.UnitFault, Tables.table_text_at}
+use Rattle.nbfx_decoder.specs.declared.faults.UnitFault.TheVariants.{Memory, Refused}
+use Rattle.nbfx_decoder.specs.declared.strings.{Head.Head, StringRead.StringRead}
+use Rattle.nbfx_decoder.specs.Tables.{head_at, length_judged, StringHead, table_string_at}
 use Rattle.nbfx_decoder.specs.Units.{AwaitsBytes, head_seen, HeadStands, StringStands}
-use Rattle.nbfx_decoder.proofs.Readable.{reads_head}
-use Rattle.nbfx_decoder.proofs.Waits.{waits_one}
+use Rattle.nbfx_decoder.proofs.{Readable.reads_head, Waits.waits_one}
 
 -- the length, of which the bytes up to the table's end are read
 module _ (room left : ℕ) (some : 0 < left) (b : List ℕ) (m : ℕ) (is : m ≡ min (length b) left) where

@@ -1,22 +1,20 @@
 -- The string that is read of a table is what bytes there are.
-use Rattle.std.proofs.Common.{◌≡◌, ℕ, ◌+◌, ◌-◌, ◌≤◌, List, ◌++◌, length, take, Bool, true, false}
-use Rattle.std.proofs.Common.{Result, Ok, Err, refl, sym, ap, ◌∙◌, subst, arith, length-append}
-use Rattle.std.specs.Prelude.{⊤, IsUtf8, max, nat_lt, nat_le, if◌then◌else◌}
-use Rattle.std.specs.Str.{is_utf8}
-use Rattle.std.proofs.lemmas.Bool.{le-ltb, ltb-false}
-use Rattle.std.proofs.lemmas.List.{length-take, length-take-le, take-take}
+use Rattle.std.proofs.Common.{◌≡◌, ℕ, ◌+◌, ◌-◌, ◌≤◌, max, Bool, true, false, List, ◌++◌, length}
+use Rattle.std.proofs.Common.{take, if◌then◌else◌, nat_lt, nat_le, Ok, Err, IsUtf8, Result, sym}
+use Rattle.std.proofs.Common.{refl, ap, ◌∙◌, subst, arith, length-append, length-take}
+use Rattle.std.proofs.Common.{length-take-le, take-take, ltb-false, le-ltb}
+use Rattle.std.specs.{Prelude.⊤, Str.is_utf8}
 use Rattle.std.proofs.lemmas.Str.{IsUtf8-from_is_utf8, is_utf8-from_IsUtf8}
-use Rattle.unit_streams.specs.Front.{Front, begun, whole, wrong}
-use Rattle.unit_streams.specs.Parts.{Reader, some_bytes, seen, judged, judged_at, judged_whole}
-use Rattle.unit_streams.specs.Parts.{closed_at, within, ReadsJust, Joined}
 use Rattle.unit_streams.proofs.Spelled.{just_bytes, just_judged, just_seen, just_then}
-use Rattle.multibyte_ints.specs.Integer.{Spells, int_at}
-use Rattle.multibyte_ints.specs.Text.{IsString}
+use Rattle.unit_streams.specs.Front.{begun, Front, whole, wrong}
+use Rattle.unit_streams.specs.Parts.{closed_at, Joined, judged, judged_at, judged_whole, Reader}
+use Rattle.unit_streams.specs.Parts.{ReadsJust, seen, some_bytes, within}
 use Rattle.multibyte_ints.proofs.IntegerLaws.{spells_from_whole, whole_from_spells}
-use Rattle.nbfx_values.specs.declared.refusals.Reason.TheVariants.{BadInt, TableCut, DictionaryFull}
-use Rattle.nbfx_values.specs.declared.refusals.Reason.TheVariants.{BadUtf8}
-use Rattle.nbfx_decoder.specs.Tables.{TableString, StringHead, table_integer, length_judged}
-use Rattle.nbfx_decoder.specs.Tables.{head_at, text_judged, table_text_at, table_string_at}
+use Rattle.multibyte_ints.specs.{Integer.int_at, Integer.Spells, Text.IsString}
+use Rattle.nbfx_values.specs.declared.refusals.Reason.TheVariants.{BadInt, BadUtf8, DictionaryFull}
+use Rattle.nbfx_values.specs.declared.refusals.Reason.TheVariants.{TableCut}
+use Rattle.nbfx_decoder.specs.Tables.{head_at, length_judged, StringHead, table_integer}
+use Rattle.nbfx_decoder.specs.Tables.{table_string_at, table_text_at, TableString, text_judged}
 
 -- an integer
 pub just_integer : ReadsJust table_integer Spells

@@ -1,29 +1,24 @@
 -- Why a string of a table is refused.
-use Rattle.std.proofs.Common.{◌≡◌, ℕ, ◌+◌, ◌-◌, ◌≤◌, inl, inr, List, ◌++◌, length, take, drop, true}
-use Rattle.std.proofs.Common.{false, Ok, Err, refl, sym, ap, ◌∙◌, subst, arith, length-append}
-use Rattle.std.specs.Prelude.{⊤, Bool, max, nat_lt, nat_le, if◌then◌else◌}
-use Rattle.std.specs.Str.{is_utf8}
+use Rattle.std.proofs.Common.{◌≡◌, ℕ, ◌+◌, ◌-◌, ◌≤◌, max, Bool, true, false, List, ◌++◌, length}
+use Rattle.std.proofs.Common.{take, drop, if◌then◌else◌, nat_lt, nat_le, Ok, Err, sym, refl, ap}
+use Rattle.std.proofs.Common.{◌∙◌, subst, inl, inr, arith, length-append, take-append-drop}
+use Rattle.std.proofs.Common.{length-take, length-take-le, take-take, ltb-false, ltb-true, le-ltb}
+use Rattle.std.proofs.Common.{lt-ltb, le-leb, leb-true}
+use Rattle.std.{specs.Prelude.⊤, proofs.lemmas.Bool.false_from_ne_true, specs.Str.is_utf8}
 use Rattle.std.proofs.Math.Seq.{drop-append_seam, take-append_seam}
-use Rattle.std.proofs.lemmas.Bool.{false_from_ne_true, le-leb, le-ltb, leb-true, ltb-false}
-use Rattle.std.proofs.lemmas.Bool.{ltb-true, lt-ltb}
-use Rattle.std.proofs.lemmas.List.{length-take, length-take-le, take-append-drop, take-take}
 use Rattle.std.proofs.lemmas.Str.{IsUtf8-from_is_utf8, is_utf8-from_IsUtf8}
-use Rattle.unit_streams.specs.Front.{Front, begun, whole, wrong}
-use Rattle.unit_streams.specs.Parts.{further, seen, some_bytes, judged, judged_whole, judged_at}
-use Rattle.unit_streams.specs.Parts.{closed_at}
 use Rattle.unit_streams.proofs.Parts.{then_begun, then_whole, then_wrong}
-use Rattle.multibyte_ints.specs.Integer.{Spells, int_at}
-use Rattle.multibyte_ints.specs.Laws.{FifthIsAbove}
-use Rattle.multibyte_ints.proofs.IntegerBytes.{above_from}
-use Rattle.multibyte_ints.proofs.IntegerFacts.{wrong_is}
+use Rattle.unit_streams.specs.{Front.begun, Front.Front, Front.whole, Front.wrong, Parts.some_bytes}
+use Rattle.unit_streams.specs.Parts.{closed_at, further, judged, judged_at, judged_whole, seen}
+use Rattle.multibyte_ints.proofs.{IntegerBytes.above_from, IntegerFacts.wrong_is}
 use Rattle.multibyte_ints.proofs.IntegerLaws.{begun_from_spells, goes_on_from_begun}
 use Rattle.multibyte_ints.proofs.IntegerLaws.{spells_from_whole, whole_from_spells}
-use Rattle.nbfx_values.specs.declared.refusals.Reason.{Reason}
-use Rattle.nbfx_values.specs.declared.refusals.Reason.TheVariants.{BadInt, TableCut, DictionaryFull}
-use Rattle.nbfx_values.specs.declared.refusals.Reason.TheVariants.{BadUtf8}
+use Rattle.multibyte_ints.specs.{Integer.int_at, Integer.Spells, Laws.FifthIsAbove}
+use Rattle.nbfx_values.specs.declared.refusals.Reason.{Reason, TheVariants.TableCut}
+use Rattle.nbfx_values.specs.declared.refusals.Reason.TheVariants.{BadInt, BadUtf8, DictionaryFull}
 use Rattle.nbfx_decoder.specs.Reasons.{HasLength, IsBadString, ShowsAtSize, ShowsAtString}
-use Rattle.nbfx_decoder.specs.Tables.{TableString, StringHead, table_integer, length_judged}
-use Rattle.nbfx_decoder.specs.Tables.{head_at, text_judged, table_text_at, table_string_at}
+use Rattle.nbfx_decoder.specs.Tables.{head_at, length_judged, StringHead, table_integer}
+use Rattle.nbfx_decoder.specs.Tables.{table_string_at, table_text_at, TableString, text_judged}
 use Rattle.nbfx_decoder.proofs.TableBytes.{IsHead, just_head}
 
 abbrev head_of : (left n j : ℕ) → StringHead

@@ -1,38 +1,29 @@
 -- A decoder takes bytes of one unit.
-use Rattle.std.proofs.Common.{◌≡◌, ℕ, ◌+◌, ◌-◌, ◌<◌, ◌≤◌, inl, inr, List, [], ◌∷◌, ◌++◌, length}
-use Rattle.std.proofs.Common.{take, drop, Some, None, Result, Ok, Err, refl, sym, ap, ◌∙◌, subst}
-use Rattle.std.proofs.Common.{arith, append_assoc, length-append}
-use Rattle.std.proofs.Math.Seq.{take-append-add, take-length}
-use Rattle.std.proofs.lemmas.List.{take-append-drop, take-append-le, length-take-le}
-use Rattle.std.specs.Prelude.{IsErrAnd}
-use Rattle.std.proofs.lemmas.Bool.{cases_lt}
-use Rattle.std.proofs.lemmas.Result.{err_from_is_err_and}
-use Rattle.unit_streams.specs.Front.{Front, begun, whole, wrong, ReadsFront}
+use Rattle.std.proofs.Common.{◌≡◌, ℕ, ◌+◌, ◌-◌, ◌<◌, ◌≤◌, List, [], ◌∷◌, ◌++◌, length, take, drop}
+use Rattle.std.proofs.Common.{IsErrAnd, Some, None, Ok, Err, Result, sym, refl, ap, ◌∙◌, subst, inl}
+use Rattle.std.proofs.Common.{inr, append_assoc, arith, length-append, take-append-drop}
+use Rattle.std.proofs.{Common.length-take-le, Math.Seq.take-append-add, Math.Seq.take-length}
+use Rattle.std.proofs.lemmas.{Bool.cases_lt, List.take-append-le, Result.err_from_is_err_and}
+use Rattle.{std.specs.Option.option_or, unit_streams.proofs.Standing.standing_length}
+use Rattle.unit_streams.proofs.Fronts.{leaves_or_decides, left_begun}
+use Rattle.unit_streams.proofs.Passing.{given_none, leaves_quiet, leaves_standing, whole_quiet}
+use Rattle.unit_streams.proofs.Passing.{whole_refusal, whole_standing, wrong_quiet, wrong_refusal}
+use Rattle.unit_streams.proofs.{Passing.wrong_standing, Quiet.quiet_behind}
+use Rattle.unit_streams.proofs.Peeling.{Decides, extent, Leaves}
+use Rattle.unit_streams.specs.Front.{begun, Front, ReadsFront, whole, wrong}
+use Rattle.unit_streams.specs.{Going.IsGoing, Going.IsQuiet, Judging.refusal_at}
 use Rattle.unit_streams.specs.Grammar.{Standing, standing, with_more}
-use Rattle.unit_streams.specs.Judging.{refusal_at}
-use Rattle.unit_streams.specs.Going.{IsGoing, IsQuiet}
-use Rattle.unit_streams.proofs.Peeling.{extent, Decides, Leaves}
-use Rattle.unit_streams.proofs.Fronts.{left_begun, leaves_or_decides}
-use Rattle.unit_streams.proofs.Passing.{given_none, leaves_quiet, leaves_standing, whole_standing}
-use Rattle.unit_streams.proofs.Passing.{whole_refusal, whole_quiet, wrong_standing, wrong_quiet}
-use Rattle.unit_streams.proofs.Passing.{wrong_refusal}
-use Rattle.unit_streams.proofs.Quiet.{quiet_behind}
-use Rattle.unit_streams.proofs.Standing.{standing_length}
-use Rattle.std.specs.Option.{option_or}
 use Rattle.nbfx_values.specs.declared.refusals.Reason.{Reason}
-use Rattle.nbfx_decoder.specs.declared.decoder.Decoder.{Decoder}
-use Rattle.nbfx_decoder.specs.declared.faults.UnitFault.{UnitFault}
-use Rattle.nbfx_decoder.specs.declared.faults.UnitFault.TheVariants.{Refused, Memory}
-use Rattle.nbfx_decoder.specs.declared.units.UnitRead.TheVariants.{More, Done}
-use Rattle.nbfx_decoder.specs.declared.units.UnitReader.{UnitReader}
-use Rattle.nbfx_decoder.specs.Payload.{Settings, Situation, PayloadUnit, table_size, table_string}
-use Rattle.nbfx_decoder.specs.Payload.{node, NoEvent, Refusal, refusal, refusal_from, unit_in}
-use Rattle.nbfx_decoder.specs.Payload.{after, refused, payload}
+use Rattle.nbfx_decoder.specs.declared.{decoder.Decoder.Decoder, faults.UnitFault.UnitFault}
+use Rattle.nbfx_decoder.specs.declared.faults.UnitFault.TheVariants.{Memory, Refused}
+use Rattle.nbfx_decoder.specs.declared.units.UnitRead.TheVariants.{Done, More}
+use Rattle.nbfx_decoder.specs.{declared.units.UnitReader.UnitReader, Taking.TakeAnswers}
+use Rattle.nbfx_decoder.specs.DecoderState.{begun_of, from_of, Reached, situation_of}
+use Rattle.nbfx_decoder.specs.Payload.{after, node, NoEvent, payload, PayloadUnit, Refusal, refusal}
+use Rattle.nbfx_decoder.specs.Payload.{refusal_from, refused, Settings, Situation, table_size}
+use Rattle.nbfx_decoder.specs.Payload.{table_string, unit_in}
 use Rattle.nbfx_decoder.specs.Units.{AwaitsBytes, HasStrings, IsAt, IsUnitRefused, UnitAnswers}
-use Rattle.nbfx_decoder.specs.DecoderState.{Reached, situation_of, from_of, begun_of}
-use Rattle.nbfx_decoder.specs.Taking.{TakeAnswers}
-use Rattle.nbfx_decoder.proofs.Readable.{readable, reads_unit}
-use Rattle.nbfx_decoder.proofs.Waits.{waits_now}
+use Rattle.nbfx_decoder.proofs.{Readable.readable, Readable.reads_unit, Waits.waits_now}
 
 -- a unit that is refused by what it says adds no string
 adds_none : (x : Settings) (z : Situation) (u : PayloadUnit) (reason : Reason) → refused x z u

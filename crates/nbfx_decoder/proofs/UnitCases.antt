@@ -1,25 +1,18 @@
 -- Which unit was read, and what it adds.
-use Rattle.std.proofs.Common.{◌≡◌, ℕ, zero, suc, ◌≤◌, List, ◌++◌, Bool, true, false, Option, Some}
-use Rattle.std.proofs.Common.{None, refl, sym, ap, ◌∙◌, append-nil}
-use Rattle.std.specs.Prelude.{nat_lt, if◌then◌else◌}
-use Rattle.std.proofs.lemmas.Bool.{le-ltb, ltb-false}
-use Rattle.unit_streams.specs.Front.{Front, begun, whole, wrong}
-use Rattle.unit_streams.specs.Parts.{seen}
-use Rattle.nbfx_values.specs.Measures.{content_of}
-use Rattle.nbfx_values.specs.Positions.{position_of}
-use Rattle.nbfx_values.specs.declared.content.Item.{Item}
-use Rattle.nbfx_values.specs.declared.refusals.Reason.{Reason}
+use Rattle.std.proofs.Common.{◌≡◌, ℕ, zero, suc, ◌≤◌, Bool, true, false, List, ◌++◌, if◌then◌else◌}
+use Rattle.std.proofs.Common.{nat_lt, Some, None, Option, sym, refl, ap, ◌∙◌, append-nil, ltb-false}
+use Rattle.std.proofs.Common.{le-ltb}
+use Rattle.unit_streams.specs.{Front.begun, Front.Front, Front.whole, Front.wrong, Parts.seen}
+use Rattle.nbfx_values.specs.declared.{content.Item.Item, refusals.Reason.Reason}
 use Rattle.nbfx_values.specs.declared.refusals.Reason.TheVariants.{TooMuchContent, UnknownString}
-use Rattle.nbfx_records.specs.declared.nodes.Node.{Node}
-use Rattle.nbfx_records.specs.Meaning.{items_of}
-use Rattle.nbfx_records.specs.RecordAtFront.{node_at}
-use Rattle.nbfx_decoder.specs.declared.section.Section.{Section}
-use Rattle.nbfx_decoder.specs.declared.section.Section.TheVariants.{TableSize, Strings, Nodes}
-use Rattle.nbfx_decoder.specs.Faults.{reason_of}
-use Rattle.nbfx_decoder.specs.Tables.{TableString, table_integer, table_string_at}
-use Rattle.nbfx_decoder.specs.Payload.{Settings, Situation, PayloadUnit, table_size, table_string}
-use Rattle.nbfx_decoder.specs.Payload.{node, added, after, place_of, reason_in, refusal, refused}
-use Rattle.nbfx_decoder.specs.Payload.{room_for, table_in, unit_in, unit_of}
+use Rattle.nbfx_values.specs.{Measures.content_of, Positions.position_of}
+use Rattle.nbfx_records.specs.{declared.nodes.Node.Node, Meaning.items_of, RecordAtFront.node_at}
+use Rattle.nbfx_decoder.specs.{declared.section.Section.Section, Faults.reason_of}
+use Rattle.nbfx_decoder.specs.declared.section.Section.TheVariants.{Nodes, Strings, TableSize}
+use Rattle.nbfx_decoder.specs.Payload.{added, after, node, PayloadUnit, place_of, reason_in}
+use Rattle.nbfx_decoder.specs.Payload.{refusal, refused, room_for, Settings, Situation, table_in}
+use Rattle.nbfx_decoder.specs.Payload.{table_size, table_string, unit_in, unit_of}
+use Rattle.nbfx_decoder.specs.Tables.{table_integer, table_string_at, TableString}
 
 -- a thing that is seen, as it was read
 pub seen_whole : {A B R S : Type 0} (f : A → B) (h : R → S) (v : Front A R) (b : B) (k : ℕ)

@@ -1,63 +1,42 @@
 -- A unit is read where all its bytes are there.
-use Rattle.std.proofs.Common.{◌≡◌, ℕ, zero, suc, ◌+◌, ◌-◌, ◌^◌, ◌<◌, ◌≤◌, inl, List, [], ◌∷◌, ◌++◌}
-use Rattle.std.proofs.Common.{length, true, Option, Some, None, Result, Err, refl, sym, ap, ◌∙◌}
-use Rattle.std.proofs.Common.{subst, arith, append_assoc}
-use Rattle.std.specs.Prelude.{IsErrAnd, IsErrOf}
-use Rattle.std.specs.List.{list_all}
-use Rattle.std.proofs.lemmas.Bool.{lt-ltb, le-ltb}
-use Rattle.std.proofs.lemmas.Result.{err_from_is_err_and}
-use Rattle.unit_streams.specs.Front.{Front, begun, whole, wrong}
-use Rattle.unit_streams.specs.Parts.{seen}
-use Rattle.unit_streams.proofs.Peeling.{peels_front}
-use Rattle.unit_streams.proofs.Fronts.{whole_some}
-use Rattle.multibyte_ints.specs.Integer.{int_at}
-use Rattle.multibyte_ints.proofs.IntegerBytes.{int_peels}
-use Rattle.nbfx_values.specs.Limits.{Limits}
-use Rattle.nbfx_values.specs.QuotasOf.{limits_of}
+use Rattle.std.proofs.Common.{◌≡◌, ℕ, zero, suc, ◌+◌, ◌-◌, ◌^◌, ◌<◌, ◌≤◌, true, List, [], ◌∷◌, ◌++◌}
+use Rattle.std.proofs.Common.{length, IsErrAnd, Some, None, Err, Option, Result, IsErrOf, sym, refl}
+use Rattle.std.proofs.Common.{ap, ◌∙◌, subst, inl, append_assoc, arith, le-ltb, lt-ltb}
+use Rattle.std.{proofs.lemmas.Result.err_from_is_err_and, specs.List.list_all}
+use Rattle.unit_streams.proofs.{Fronts.whole_some, Peeling.peels_front}
+use Rattle.unit_streams.specs.{Front.begun, Front.Front, Front.whole, Front.wrong, Parts.seen}
+use Rattle.string_tables.specs.{SessionStrings.used_cost, StringTable.StringTable}
+use Rattle.multibyte_ints.{proofs.IntegerBytes.int_peels, specs.Integer.int_at}
+use Rattle.nbfx_values.proofs.Positions.{position_from-append, position_from-none}
+use Rattle.nbfx_values.specs.declared.builder.PushFault.{PushFault, TheVariants.OutOfPlace}
+use Rattle.nbfx_values.specs.declared.{content.Item.Item, position.Position.Position}
+use Rattle.nbfx_values.specs.declared.refusals.Reason.{Reason, TheVariants.UnknownString}
+use Rattle.nbfx_values.specs.declared.refusals.Reason.TheVariants.{BadInt, TooMuchContent}
+use Rattle.nbfx_values.specs.{declared.scalars.Value.Value, Limits.Limits}
+use Rattle.nbfx_values.specs.{Items.is_valid_item, QuotasOf.limits_of}
 use Rattle.nbfx_values.specs.Measures.{capped, content_of}
 use Rattle.nbfx_values.specs.Positions.{position_from, position_of}
-use Rattle.nbfx_values.specs.declared.builder.PushFault.{PushFault}
-use Rattle.nbfx_values.specs.declared.builder.PushFault.TheVariants.{OutOfPlace}
-use Rattle.nbfx_values.specs.declared.content.Item.{Item}
-use Rattle.nbfx_values.specs.declared.content.Item.TheVariants as items
-use Rattle.nbfx_values.specs.declared.scalars.Value.{Value}
-use Rattle.nbfx_values.specs.Items.{is_valid_item}
-use Rattle.nbfx_values.specs.declared.position.Position.{Position}
-use Rattle.nbfx_values.specs.declared.position.Position.TheVariants as positions
-use Rattle.nbfx_values.proofs.Positions.{position_from-append, position_from-none}
-use Rattle.nbfx_values.specs.declared.refusals.Reason.{Reason}
-use Rattle.nbfx_values.specs.declared.refusals.Reason.TheVariants.{BadInt, UnknownString}
-use Rattle.nbfx_values.specs.declared.refusals.Reason.TheVariants.{TooMuchContent}
-use Rattle.string_tables.specs.SessionStrings.{used_cost}
-use Rattle.string_tables.specs.StringTable.{StringTable}
 use Rattle.session_dictionary.specs.Strings.{LimitedStrings}
-use Rattle.nbfx_records.specs.declared.nodes.Node.{Node}
-use Rattle.nbfx_records.specs.declared.nodes.RecordFault.{RecordFault}
-use Rattle.nbfx_records.specs.declared.nodes.NodePlace.{NodePlace}
+use Rattle.nbfx_records.proofs.{MeaningFacts.meanings_are_found, NodeBytes.records_are_read}
 use Rattle.nbfx_records.proofs.ShapeFronts.{node_fronts, node_of_nothing}
-use Rattle.nbfx_records.proofs.NodeBytes.{records_are_read}
-use Rattle.nbfx_records.specs.Meaning.{items_of}
-use Rattle.nbfx_records.specs.Places.{Stands}
-use Rattle.nbfx_records.proofs.MeaningFacts.{meanings_are_found}
+use Rattle.nbfx_records.specs.declared.nodes.{Node.Node, NodePlace.NodePlace}
+use Rattle.nbfx_records.specs.{declared.nodes.RecordFault.RecordFault, Places.Stands}
+use Rattle.nbfx_records.specs.{Answers.WaitsFor as NodeWaitsFor, Meaning.items_of}
 use Rattle.nbfx_records.specs.RecordAtFront.{node_at}
-use Rattle.nbfx_records.specs.Answers.{WaitsFor as NodeWaitsFor}
-use Rattle.nbfx_decoder.specs.declared.section.Section.{Section}
-use Rattle.nbfx_decoder.specs.declared.section.Section.TheVariants.{TableSize, Strings, Nodes}
-use Rattle.nbfx_decoder.specs.declared.faults.UnitFault.{UnitFault}
-use Rattle.nbfx_decoder.specs.declared.faults.UnitFault.TheVariants.{Refused, Memory}
-use Rattle.nbfx_decoder.specs.declared.units.UnitRead.{UnitRead}
-use Rattle.nbfx_decoder.specs.declared.units.UnitReader.{UnitReader}
-use Rattle.nbfx_decoder.specs.Sections.{section_of, left_in}
-use Rattle.nbfx_decoder.specs.Faults.{reason_of}
-use Rattle.nbfx_decoder.specs.Tables.{TableString, table_string_at}
-use Rattle.nbfx_decoder.specs.Payload.{Settings, Situation, table_size, table_string, node, refusal}
-use Rattle.nbfx_decoder.specs.Payload.{place_of, room_for, unit_of, unit_in, table_in, reason_in}
-use Rattle.nbfx_decoder.specs.Payload.{added, after, refused}
-use Rattle.nbfx_decoder.specs.Units.{AwaitsBytes, KeepsTable, IsAt, StringStands, UnitAnswers}
-use Rattle.nbfx_decoder.proofs.Keeping.{strings_kept}
-use Rattle.nbfx_decoder.proofs.Readable.{reads_string, no_string}
-use Rattle.nbfx_decoder.proofs.Places.{stands_behind}
-use Rattle.nbfx_decoder.proofs.Waits.{waits_one}
+use Rattle.nbfx_decoder.specs.declared.{faults.UnitFault.UnitFault, section.Section.Section}
+use Rattle.nbfx_decoder.specs.declared.faults.UnitFault.TheVariants.{Memory, Refused}
+use Rattle.nbfx_decoder.specs.declared.section.Section.TheVariants.{Nodes, Strings, TableSize}
+use Rattle.nbfx_decoder.specs.declared.units.{UnitRead.UnitRead, UnitReader.UnitReader}
+use Rattle.nbfx_decoder.specs.{Faults.reason_of, Tables.table_string_at, Tables.TableString}
+use Rattle.nbfx_decoder.specs.Payload.{added, after, node, place_of, reason_in, refusal, refused}
+use Rattle.nbfx_decoder.specs.Payload.{room_for, Settings, Situation, table_in, table_size}
+use Rattle.nbfx_decoder.specs.Payload.{table_string, unit_in, unit_of}
+use Rattle.nbfx_decoder.specs.Sections.{left_in, section_of}
+use Rattle.nbfx_decoder.specs.Units.{AwaitsBytes, IsAt, KeepsTable, StringStands, UnitAnswers}
+use Rattle.nbfx_decoder.proofs.{Keeping.strings_kept, Places.stands_behind, Waits.waits_one}
+use Rattle.nbfx_decoder.proofs.Readable.{no_string, reads_string}
+use Rattle.nbfx_values.specs.declared.content.Item.TheVariants as items
+use Rattle.nbfx_values.specs.declared.position.Position.TheVariants as positions
 
 -- an integer has some bytes
 pub integer_size : (b : List ℕ) (n k : ℕ) → int_at b ≡ whole n k → (0 < k) × (k ≤ length b)

@@ -1,8 +1,7 @@
 -- What has begun and wants more bytes.
-use Rattle.std.proofs.Common.{◌≡◌, ℕ, ◌+◌, ◌<◌, List, [], ◌∷◌, ◌++◌, length, sym, ap, ◌∙◌, arith}
-use Rattle.std.proofs.Common.{length-append}
-use Rattle.std.proofs.lemmas.List.{append-nil}
-use Rattle.unit_streams.specs.Front.{Front, begun}
+use Rattle.std.proofs.Common.{◌≡◌, ℕ, ◌+◌, ◌<◌, List, [], ◌∷◌, ◌++◌, length, sym, ap, ◌∙◌}
+use Rattle.std.proofs.Common.{append-nil, arith, length-append}
+use Rattle.unit_streams.specs.Front.{begun, Front}
 use Rattle.nbfx_decoder.specs.Units.{AwaitsBytes}
 
 -- no bytes more

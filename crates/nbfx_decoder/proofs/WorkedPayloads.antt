@@ -1,18 +1,14 @@
 -- Worked payloads that are documents, computed by the definitions.
-use Rattle.std.proofs.Common.{◌≡◌, ℕ, List, [], ◌∷◌, ◌++◌, refl}
-use Rattle.std.specs.Prelude.{None, codes, map, pos, negsuc}
+use Rattle.std.proofs.Common.{◌≡◌, ℕ, List, [], ◌∷◌, ◌++◌, map, pos, negsuc, None, codes, refl}
 use Rattle.unit_streams.specs.Judging.{offence}
 use Rattle.nbfx_values.specs.declared.content.ArrayKind.TheVariants.{Int32}
-use Rattle.nbfx_values.specs.declared.content.Item.{Item}
-use Rattle.nbfx_values.specs.declared.content.Item.TheVariants.{Start, Xmlns, Attr, Text, Array}
-use Rattle.nbfx_values.specs.declared.content.Item.TheVariants.{Close}
-use Rattle.nbfx_values.specs.declared.scalars.Scalar.{Scalar}
-use Rattle.nbfx_values.specs.declared.scalars.Scalar.TheVariants.{Number, UniqueId, Text as TextOf}
-use Rattle.nbfx_values.specs.declared.scalars.Value.TheVariants.{One}
+use Rattle.nbfx_values.specs.declared.content.Item.{Item, TheVariants.Xmlns}
+use Rattle.nbfx_values.specs.declared.content.Item.TheVariants.{Array, Attr, Close, Start, Text}
+use Rattle.nbfx_values.specs.declared.scalars.{Scalar.Scalar, Value.TheVariants.One}
+use Rattle.nbfx_values.specs.declared.scalars.Scalar.TheVariants.{Number, Text as TextOf, UniqueId}
 use Rattle.nbfx_values.specs.declared.session.Kind.TheVariants.{Plain, Session}
-use Rattle.nbfx_decoder.specs.Payload.{Settings, payload}
-use Rattle.nbfx_decoder.specs.DecoderState.{situation_of}
-use Rattle.nbfx_decoder.proofs.OnLiterals.{payloads_on_literals, narrow, usual}
+use Rattle.nbfx_decoder.specs.{DecoderState.situation_of, Payload.payload, Payload.Settings}
+use Rattle.nbfx_decoder.proofs.OnLiterals.{narrow, payloads_on_literals, usual}
 
 -- the identifier of the worked messages
 abbrev message : List ℕ

@@ -1,7 +1,6 @@
 -- Worked payloads that are refused, computed by the definitions: each reason, and where two hold at
 -- one byte, the one that comes first.
-use Rattle.std.proofs.Common.{◌≡◌, ℕ, List, [], ◌∷◌, Option, Some, refl}
-use Rattle.std.specs.Prelude.{codes, map}
+use Rattle.std.proofs.Common.{◌≡◌, ℕ, List, [], ◌∷◌, map, Some, codes, Option, refl}
 use Rattle.unit_streams.specs.Judging.{offence}
 use Rattle.nbfx_values.specs.declared.refusals.Reason.TheVariants.{BadArray, BadInt, BadUtf8}
 use Rattle.nbfx_values.specs.declared.refusals.Reason.TheVariants.{BadValue, DictionaryFull}
@@ -9,9 +8,8 @@ use Rattle.nbfx_values.specs.declared.refusals.Reason.TheVariants.{DocumentCut, 
 use Rattle.nbfx_values.specs.declared.refusals.Reason.TheVariants.{TableCut, TooDeep}
 use Rattle.nbfx_values.specs.declared.refusals.Reason.TheVariants.{TooMuchContent, TrailingBytes}
 use Rattle.nbfx_values.specs.declared.refusals.Reason.TheVariants.{UnknownNode, UnknownString}
-use Rattle.nbfx_values.specs.declared.session.Kind.{Kind}
-use Rattle.nbfx_values.specs.declared.session.Kind.TheVariants.{Plain, Session}
-use Rattle.nbfx_decoder.specs.Payload.{Refusal, payload, refusal}
+use Rattle.nbfx_values.specs.declared.session.Kind.{Kind, TheVariants.Plain, TheVariants.Session}
+use Rattle.nbfx_decoder.specs.Payload.{payload, Refusal, refusal}
 use Rattle.nbfx_decoder.proofs.OnLiterals.{narrow, payloads_on_literals, usual}
 
 -- what refuses a payload with strings of its own, or without, where no other came before

@@ -1,9 +1,8 @@
 -- Which fault a decoder answers from then on. Public contracts cite none of this.
 use Rattle.std.specs.Prelude.{◌≡◌, ℕ, ◌+◌, ◌^◌, ◌<◌}
-use Rattle.nbfx_decoder.specs.declared.faults.DecodeFault.{DecodeFault}
+use Rattle.nbfx_decoder.specs.declared.faults.{DecodeFault.DecodeFault, UnitFault.UnitFault}
+use Rattle.nbfx_decoder.specs.declared.faults.UnitFault.TheVariants.{Memory, Refused}
 use Rattle.nbfx_decoder.specs.declared.faults.DecodeFault.TheVariants as decode_faults
-use Rattle.nbfx_decoder.specs.declared.faults.UnitFault.{UnitFault}
-use Rattle.nbfx_decoder.specs.declared.faults.UnitFault.TheVariants.{Refused, Memory}
 
 -- that of the unit which begins at this offset
 abbrev pub ShowsFault : ℕ → UnitFault → DecodeFault → Type 0

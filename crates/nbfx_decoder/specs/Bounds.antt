@@ -1,11 +1,9 @@
 -- What bounds the situation behind any bytes of a payload.
-use Rattle.std.specs.Prelude.{ℕ, ◌≤◌, ◌*◌, List, length, max, IsUtf8}
-use Rattle.nbfx_values.specs.Limits.{Limits}
-use Rattle.nbfx_values.specs.Measures.{content_of, depth_of, opened_by}
-use Rattle.string_tables.specs.SessionStrings.{used_cost}
+use Rattle.std.specs.Prelude.{ℕ, ◌*◌, ◌≤◌, max, List, length, IsUtf8}
+use Rattle.{string_tables.specs.SessionStrings.used_cost, nbfx_values.specs.Limits.Limits}
 use Rattle.string_tables.specs.StringTable.{Names, StringTable}
-use Rattle.nbfx_decoder.specs.Payload.{Situation}
-use Rattle.nbfx_decoder.specs.Values.{values_of}
+use Rattle.nbfx_values.specs.Measures.{content_of, depth_of, opened_by}
+use Rattle.nbfx_decoder.specs.{Payload.Situation, Values.values_of}
 
 -- behind whole units of so many bytes, where the direction had some strings before: no more content
 -- than is admitted, nor deeper, but for a root; strings that cost no more, or no more than before;

@@ -1,19 +1,16 @@
 -- What a decoder stands for, and what it shows. Of a payload's bytes it keeps those of the unit
 -- that isn't whole.
-use Rattle.std.specs.Prelude.{◌≡◌, ⊤, ℕ, ◌+◌, ◌<◌, ◌≤◌, List, [], ◌++◌, length, take, Option, Some}
-use Rattle.std.specs.Prelude.{None, Result, Ok, Err}
-use Rattle.unit_streams.specs.Grammar.{standing}
-use Rattle.unit_streams.specs.Judging.{answer, goes_on, offends, refusal_at, ending_at}
-use Rattle.unit_streams.specs.Going.{IsGoing, IsPending}
-use Rattle.nbfx_values.specs.Measures.{capped, content_of}
-use Rattle.nbfx_values.specs.QuotasOf.{limits_of}
-use Rattle.nbfx_values.specs.declared.content.Item.{Item}
+use Rattle.std.specs.Prelude.{◌≡◌, ℕ, ◌+◌, ◌<◌, ◌≤◌, List, [], ◌++◌, length, take, Some, None, Ok}
+use Rattle.std.specs.Prelude.{Err, Option, Result, ⊤}
+use Rattle.unit_streams.specs.{Going.IsGoing, Going.IsPending, Grammar.standing}
+use Rattle.unit_streams.specs.Judging.{answer, ending_at, goes_on, offends, refusal_at}
 use Rattle.string_tables.specs.SessionStrings.{used_cost}
+use Rattle.nbfx_values.specs.{declared.content.Item.Item, QuotasOf.limits_of}
+use Rattle.nbfx_values.specs.Measures.{capped, content_of}
 use Rattle.session_dictionary.specs.Strings.{LimitedStrings}
-use Rattle.nbfx_decoder.specs.declared.decoder.Decoder.{Decoder}
-use Rattle.nbfx_decoder.specs.declared.faults.DecodeFault.{DecodeFault}
-use Rattle.nbfx_decoder.specs.declared.faults.DecodeFault.TheVariants.{Payload, Memory}
-use Rattle.nbfx_decoder.specs.Payload.{Settings, Situation, refusal, unit_in, payload}
+use Rattle.nbfx_decoder.specs.declared.{decoder.Decoder.Decoder, faults.DecodeFault.DecodeFault}
+use Rattle.nbfx_decoder.specs.declared.faults.DecodeFault.TheVariants.{Memory, Payload}
+use Rattle.nbfx_decoder.specs.Payload.{payload, refusal, Settings, Situation, unit_in}
 use Rattle.nbfx_decoder.specs.Units.{AwaitsBytes, HasStrings, IsAt}
 
 -- what the decoder is set to

@@ -1,20 +1,16 @@
 -- What holds of payloads by their definitions alone.
-use Rattle.std.specs.Prelude.{◌≡◌, ℕ, ◌<◌, ◌≤◌, ◌↔◌, ◌⊎◌, List, [], ◌++◌, length, take, None, Some}
-use Rattle.std.specs.Prelude.{IsSome, Ok}
+use Rattle.std.specs.Prelude.{◌≡◌, ℕ, ◌<◌, ◌≤◌, ◌⊎◌, ◌↔◌, List, [], ◌++◌, length, take, IsSome}
+use Rattle.std.specs.Prelude.{Some, None, Ok}
 use Rattle.unit_streams.specs.Judging.{answer, ending_at, goes_on, offence, offends, refusal_at}
-use Rattle.multibyte_ints.specs.Integer.{IsBytes}
-use Rattle.nbfx_values.specs.Positions.{position_of}
-use Rattle.nbfx_values.specs.declared.content.Item.{Item}
-use Rattle.nbfx_values.specs.declared.refusals.Reason.{Reason}
-use Rattle.nbfx_values.specs.declared.refusals.Reason.TheVariants.{DocumentCut}
-use Rattle.nbfx_values.specs.declared.session.Kind.{Kind}
-use Rattle.string_tables.specs.SessionStrings.{used_cost}
-use Rattle.string_tables.specs.StringTable.{StringTable}
-use Rattle.nbfx_decoder.specs.Bounds.{KeepsWithin, NamesTexts}
-use Rattle.nbfx_decoder.specs.Payload.{Settings, payload, refusal, table_in}
-use Rattle.nbfx_decoder.specs.Reasons.{IsCutAt, ShowsFrom}
+use Rattle.string_tables.specs.{SessionStrings.used_cost, StringTable.StringTable}
+use Rattle.{multibyte_ints.specs.Integer.IsBytes, nbfx_values.specs.Positions.position_of}
+use Rattle.nbfx_values.specs.declared.{content.Item.Item, session.Kind.Kind}
+use Rattle.nbfx_values.specs.declared.refusals.Reason.{Reason, TheVariants.DocumentCut}
 use Rattle.nbfx_records.specs.Payloads.{IsAdmitted, IsPayload, IsWithin}
+use Rattle.nbfx_decoder.specs.Bounds.{KeepsWithin, NamesTexts}
 use Rattle.nbfx_decoder.specs.DecoderState.{FinishAnswers, from_of, situation_of}
+use Rattle.nbfx_decoder.specs.Payload.{payload, refusal, Settings, table_in}
+use Rattle.nbfx_decoder.specs.Reasons.{IsCutAt, ShowsFrom}
 
 -- as a whole payload the bytes have no offence: behind them stand these items, and these strings
 -- behind those of before

@@ -1,25 +1,18 @@
 -- What a node is found to mean. Public contracts cite none of this.
-use Rattle.std.specs.Prelude.{◌≡◌, ⊤, ℕ, Bool, IsTrue, List, [], ◌∷◌, Option, Some, None, Result}
-use Rattle.std.specs.Prelude.{Ok, Err}
-use Rattle.std.specs.List.{list_all}
-use Rattle.std.specs.Str.{is_utf8}
-use Rattle.nbfx_values.specs.declared.content.Item.{Item}
-use Rattle.nbfx_values.specs.declared.content.Item.TheVariants as items
-use Rattle.nbfx_values.specs.declared.scalars.Scalar.{Scalar}
+use Rattle.std.specs.Prelude.{◌≡◌, ℕ, Bool, List, [], ◌∷◌, IsTrue, Some, None, Ok, Err, Option}
+use Rattle.std.specs.{Prelude.Result, Prelude.⊤, List.list_all, Str.is_utf8}
 use Rattle.string_tables.specs.StringTable.{StringTable}
-use Rattle.nbfx_records.specs.declared.nodes.NameRef.{NameRef}
-use Rattle.nbfx_records.specs.declared.nodes.Node.TheVariants as nodes
-use Rattle.nbfx_records.specs.declared.nodes.RawScalar.{RawScalar}
-use Rattle.nbfx_records.specs.declared.nodes.RawValue.TheVariants as values
+use Rattle.nbfx_values.specs.declared.{content.Item.Item, scalars.Scalar.Scalar}
+use Rattle.nbfx_records.specs.declared.nodes.{NameRef.NameRef, RawScalar.RawScalar}
 use Rattle.nbfx_records.specs.Contents.{each, name_is_text, scalar_judged, scalars_judged}
 use Rattle.nbfx_records.specs.Meaning.{items_of, meant_scalar, name_text}
-use Rattle.nbfx_records.specs.Shapes.{ScalarShape}
-use Rattle.nbfx_records.specs.Valid.{is_valid_raw}
-use Rattle.nbfx_decoder.specs.declared.meaning.Meant.{Meant}
+use Rattle.nbfx_records.specs.{Shapes.ScalarShape, Valid.is_valid_raw}
+use Rattle.nbfx_decoder.specs.declared.meaning.{Lookup.Lookup, Meant.Meant, Unmeant.Unmeant}
+use Rattle.nbfx_decoder.specs.declared.meaning.Unmeant.TheVariants.{Memory, UnknownString}
+use Rattle.nbfx_values.specs.declared.content.Item.TheVariants as items
+use Rattle.nbfx_records.specs.declared.nodes.Node.TheVariants as nodes
+use Rattle.nbfx_records.specs.declared.nodes.RawValue.TheVariants as values
 use Rattle.nbfx_decoder.specs.declared.meaning.Meant.TheVariants as meants
-use Rattle.nbfx_decoder.specs.declared.meaning.Lookup.{Lookup}
-use Rattle.nbfx_decoder.specs.declared.meaning.Unmeant.{Unmeant}
-use Rattle.nbfx_decoder.specs.declared.meaning.Unmeant.TheVariants.{UnknownString, Memory}
 
 abbrev pub table_of : Lookup → StringTable
 table_of names = record { statics = names.statics.now; strings = names.strings.now.strings }

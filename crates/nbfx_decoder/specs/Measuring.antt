@@ -1,22 +1,16 @@
 -- What the meaning of a record counts in a document's content. Public contracts cite none of this.
-use Rattle.std.specs.Prelude.{◌≡◌, ⊤, ℕ, ◌+◌, List, length, sum_by, Option, Some, None, Result, Ok}
-use Rattle.std.specs.Prelude.{Err}
-use Rattle.std.specs.Option.{option_map}
+use Rattle.std.specs.Prelude.{◌≡◌, ℕ, ◌+◌, List, length, Some, None, Ok, Err, sum_by, Option}
+use Rattle.std.specs.Prelude.{Result, option_map, ⊤}
+use Rattle.string_tables.specs.StringTable.{StringTable}
 use Rattle.nbfx_values.specs.Measures.{array_content, attribute_content, capped, content_of}
 use Rattle.nbfx_values.specs.Measures.{scalar_content, value_content}
-use Rattle.string_tables.specs.StringTable.{StringTable}
-use Rattle.nbfx_records.specs.declared.nodes.ArrayNode.{ArrayNode}
-use Rattle.nbfx_records.specs.declared.nodes.AttrNode.{AttrNode}
-use Rattle.nbfx_records.specs.declared.nodes.NameRef.{NameRef}
-use Rattle.nbfx_records.specs.declared.nodes.Node.{Node}
-use Rattle.nbfx_records.specs.declared.nodes.RecordFault.{RecordFault}
-use Rattle.nbfx_records.specs.declared.nodes.RawScalar.{RawScalar}
-use Rattle.nbfx_records.specs.declared.nodes.RawValue.{RawValue}
-use Rattle.nbfx_records.specs.declared.nodes.NodeFault.{NodeFault}
-use Rattle.nbfx_records.specs.declared.nodes.NodeFault.TheVariants.{Record, Memory}
-use Rattle.nbfx_records.specs.Contents.{each}
+use Rattle.nbfx_records.specs.declared.nodes.{ArrayNode.ArrayNode, Node.Node}
+use Rattle.nbfx_records.specs.declared.nodes.{AttrNode.AttrNode, NameRef.NameRef}
+use Rattle.nbfx_records.specs.declared.nodes.{NodeFault.NodeFault, RawValue.RawValue}
+use Rattle.nbfx_records.specs.declared.nodes.NodeFault.TheVariants.{Memory, Record}
+use Rattle.nbfx_records.specs.declared.nodes.{RawScalar.RawScalar, RecordFault.RecordFault}
+use Rattle.nbfx_records.specs.{Contents.each, Meaning.name_text}
 use Rattle.nbfx_records.specs.Meaning.{items_of, meant_array, meant_part, meant_scalar, meant_value}
-use Rattle.nbfx_records.specs.Meaning.{name_text}
 
 -- how much something counts that is meant; none where an identifier names no string
 abbrev pub weighed : {B : Type 0} → (B → ℕ) → Option B → Option ℕ

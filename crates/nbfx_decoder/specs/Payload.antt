@@ -1,32 +1,22 @@
 -- What an envelope's payload is read by (MC-NBFS, and MC-NBFSE where it begins with strings of its
 -- own): a table's size, the table's strings, and nodes.
-use Rattle.std.specs.Prelude.{ℕ, zero, suc, ◌+◌, ◌-◌, List, [], ◌∷◌, ◌++◌, false, Option, Some}
-use Rattle.std.specs.Prelude.{None, nat_lt, if◌then◌else◌}
-use Rattle.unit_streams.specs.Front.{Front, begun}
-use Rattle.unit_streams.specs.Parts.{Reader, seen}
-use Rattle.unit_streams.specs.Grammar.{Grammar}
-use Rattle.nbfx_values.specs.Limits.{Limits}
-use Rattle.nbfx_values.specs.Measures.{content_of}
-use Rattle.nbfx_values.specs.Positions.{position_of}
-use Rattle.nbfx_values.specs.declared.content.Item.{Item}
-use Rattle.nbfx_values.specs.declared.position.Position.{Position}
-use Rattle.nbfx_values.specs.declared.position.Position.TheVariants as positions
-use Rattle.nbfx_values.specs.declared.refusals.Reason.{Reason}
-use Rattle.nbfx_values.specs.declared.refusals.Reason.TheVariants as reasons
-use Rattle.nbfx_values.specs.declared.session.Kind.{Kind}
-use Rattle.string_tables.specs.StaticStrings.{Entry}
-use Rattle.string_tables.specs.SessionStrings.{used_cost}
+use Rattle.std.specs.Prelude.{ℕ, zero, suc, ◌+◌, ◌-◌, false, List, [], ◌∷◌, ◌++◌, if◌then◌else◌}
+use Rattle.std.specs.Prelude.{nat_lt, Some, None, Option}
+use Rattle.unit_streams.specs.{Front.begun, Front.Front, Grammar.Grammar, Parts.Reader, Parts.seen}
+use Rattle.string_tables.specs.{SessionStrings.used_cost, StaticStrings.Entry}
 use Rattle.string_tables.specs.StringTable.{StringTable}
-use Rattle.nbfx_records.specs.declared.nodes.Node.{Node}
-use Rattle.nbfx_records.specs.declared.nodes.NodePlace.{NodePlace}
-use Rattle.nbfx_records.specs.declared.nodes.NodePlace.TheVariants.{BeforeRoot, Within, AfterRoot}
-use Rattle.nbfx_records.specs.RecordAtFront.{node_at}
-use Rattle.nbfx_records.specs.Meaning.{items_of}
-use Rattle.nbfx_decoder.specs.declared.section.Section.{Section}
-use Rattle.nbfx_decoder.specs.declared.section.Section.TheVariants.{TableSize, Strings, Nodes}
+use Rattle.nbfx_values.specs.declared.{content.Item.Item, position.Position.Position}
+use Rattle.nbfx_values.specs.declared.{refusals.Reason.Reason, session.Kind.Kind}
+use Rattle.nbfx_values.specs.{Limits.Limits, Measures.content_of, Positions.position_of}
+use Rattle.nbfx_records.specs.declared.nodes.{Node.Node, NodePlace.NodePlace}
+use Rattle.nbfx_records.specs.declared.nodes.NodePlace.TheVariants.{AfterRoot, BeforeRoot, Within}
+use Rattle.nbfx_records.specs.{Meaning.items_of, RecordAtFront.node_at}
+use Rattle.nbfx_decoder.specs.{declared.section.Section.Section, Faults.reason_of}
+use Rattle.nbfx_decoder.specs.declared.section.Section.TheVariants.{Nodes, Strings, TableSize}
 use Rattle.nbfx_decoder.specs.Sections.{first_section, section_of}
-use Rattle.nbfx_decoder.specs.Faults.{reason_of}
-use Rattle.nbfx_decoder.specs.Tables.{TableString, table_integer, table_string_at}
+use Rattle.nbfx_decoder.specs.Tables.{table_integer, table_string_at, TableString}
+use Rattle.nbfx_values.specs.declared.position.Position.TheVariants as positions
+use Rattle.nbfx_values.specs.declared.refusals.Reason.TheVariants as reasons
 
 -- what payloads are read by: the static strings, whether each payload begins with strings, and what
 -- is admitted

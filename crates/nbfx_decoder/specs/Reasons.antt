@@ -1,28 +1,21 @@
 -- Which bytes of a payload give each reason for refusing it.
-use Rattle.std.specs.Prelude.{◌≡◌, ℕ, suc, zero, ◌+◌, ◌<◌, ◌≤◌, ◌⊎◌, List, ◌++◌, length, take, max}
-use Rattle.std.specs.Prelude.{None, Some, Contains, IsUtf8}
-use Rattle.unit_streams.specs.Refusals.{AreUnits}
-use Rattle.multibyte_ints.specs.Integer.{Spells}
-use Rattle.multibyte_ints.specs.Laws.{FifthIsAbove}
-use Rattle.nbfx_values.specs.Measures.{content_of}
-use Rattle.nbfx_values.specs.Positions.{position_of}
-use Rattle.nbfx_values.specs.declared.content.Item.{Item}
-use Rattle.nbfx_values.specs.declared.position.Position.TheVariants.{After}
-use Rattle.nbfx_values.specs.declared.refusals.Reason.{Reason}
-use Rattle.nbfx_values.specs.declared.refusals.Reason.TheVariants as reasons
-use Rattle.string_tables.specs.StringTable.{StringTable, named_text}
-use Rattle.nbfx_records.specs.declared.nodes.Node.{Node}
-use Rattle.nbfx_records.specs.declared.nodes.RecordFault.{RecordFault}
-use Rattle.nbfx_records.specs.declared.nodes.RecordFault.TheVariants as faults
-use Rattle.nbfx_records.specs.declared.nodes.NodePlace.{NodePlace}
+use Rattle.std.specs.Prelude.{◌≡◌, ℕ, zero, suc, ◌+◌, ◌<◌, ◌≤◌, max, ◌⊎◌, List, ◌++◌, length, take}
+use Rattle.std.specs.Prelude.{Some, None, IsUtf8, Contains}
+use Rattle.{unit_streams.specs.Refusals.AreUnits, nbfx_values.specs.Positions.position_of}
+use Rattle.string_tables.specs.StringTable.{named_text, StringTable}
+use Rattle.multibyte_ints.specs.{Integer.Spells, Laws.FifthIsAbove}
+use Rattle.nbfx_values.specs.declared.{content.Item.Item, position.Position.TheVariants.After}
+use Rattle.nbfx_values.specs.{declared.refusals.Reason.Reason, Measures.content_of}
+use Rattle.nbfx_records.specs.declared.nodes.{Node.Node, NodePlace.NodePlace}
+use Rattle.nbfx_records.specs.{declared.nodes.RecordFault.RecordFault, Places.Stands}
 use Rattle.nbfx_records.specs.Causes.{Caused, HasBadText, HasBadValue, InRecord}
-use Rattle.nbfx_records.specs.Meaning.{Means, identifiers}
-use Rattle.nbfx_records.specs.Places.{Stands}
-use Rattle.nbfx_records.specs.Records.{IsNode}
+use Rattle.nbfx_records.specs.{Meaning.identifiers, Meaning.Means, Records.IsNode}
 use Rattle.nbfx_decoder.specs.declared.section.Section.{Section}
-use Rattle.nbfx_decoder.specs.declared.section.Section.TheVariants.{TableSize, Strings, Nodes}
-use Rattle.nbfx_decoder.specs.Payload.{Settings, Situation, payload, place_of, room_for, table_in}
+use Rattle.nbfx_decoder.specs.declared.section.Section.TheVariants.{Nodes, Strings, TableSize}
 use Rattle.nbfx_decoder.specs.DecoderState.{from_of, situation_of}
+use Rattle.nbfx_decoder.specs.Payload.{payload, place_of, room_for, Settings, Situation, table_in}
+use Rattle.nbfx_values.specs.declared.refusals.Reason.TheVariants as reasons
+use Rattle.nbfx_records.specs.declared.nodes.RecordFault.TheVariants as faults
 
 -- a length at the front of the bytes, within so many bytes of a table that are left
 pub record HasLength (left n : ℕ) (bytes : List ℕ) : Type 0 where

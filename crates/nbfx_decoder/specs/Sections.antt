@@ -1,9 +1,8 @@
 -- What comes next of a payload.
-use Rattle.std.specs.Prelude.{ℕ, ◌==◌, if◌then◌else◌}
-use Rattle.nbfx_values.specs.declared.session.Kind.{Kind}
-use Rattle.nbfx_values.specs.declared.session.Kind.TheVariants.{Plain, Session}
+use Rattle.std.specs.Prelude.{ℕ, if◌then◌else◌, ◌==◌}
+use Rattle.nbfx_values.specs.declared.session.Kind.{Kind, TheVariants.Plain, TheVariants.Session}
 use Rattle.nbfx_decoder.specs.declared.section.Section.{Section}
-use Rattle.nbfx_decoder.specs.declared.section.Section.TheVariants.{TableSize, Strings, Nodes}
+use Rattle.nbfx_decoder.specs.declared.section.Section.TheVariants.{Nodes, Strings, TableSize}
 
 -- what comes first
 abbrev pub first_section : Kind → Section

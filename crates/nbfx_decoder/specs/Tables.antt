@@ -1,12 +1,10 @@
 -- The string table that a payload of MC-NBFSE begins with: how many bytes its strings have, and
 -- then they.
-use Rattle.std.specs.Prelude.{ℕ, ◌-◌, max, List, Result, Ok, Err, nat_lt, if◌then◌else◌}
-use Rattle.std.specs.Str.{is_utf8}
-use Rattle.unit_streams.specs.Parts.{Reader, some_bytes, ◌>>=◌, seen, judged, judged_at, within}
-use Rattle.multibyte_ints.specs.Integer.{int_at}
-use Rattle.nbfx_values.specs.declared.refusals.Reason.{Reason}
-use Rattle.nbfx_values.specs.declared.refusals.Reason.TheVariants.{BadInt, TableCut, DictionaryFull}
-use Rattle.nbfx_values.specs.declared.refusals.Reason.TheVariants.{BadUtf8}
+use Rattle.std.specs.Prelude.{ℕ, ◌-◌, max, List, if◌then◌else◌, nat_lt, Ok, Err, Result}
+use Rattle.{std.specs.Str.is_utf8, multibyte_ints.specs.Integer.int_at}
+use Rattle.unit_streams.specs.Parts.{judged, judged_at, Reader, seen, some_bytes, within, ◌>>=◌}
+use Rattle.nbfx_values.specs.declared.refusals.Reason.{Reason, TheVariants.TableCut}
+use Rattle.nbfx_values.specs.declared.refusals.Reason.TheVariants.{BadInt, BadUtf8, DictionaryFull}
 
 -- a string of a table, and how many bytes of the table are left behind it
 pub record TableString : Type 0 where

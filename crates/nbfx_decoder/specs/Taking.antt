@@ -1,14 +1,12 @@
 -- What the steps of a decoder answer. Public contracts cite none of this.
-use Rattle.std.specs.Prelude.{◌≡◌, ℕ, ◌+◌, ◌<◌, ◌≤◌, List, ◌++◌, length, take, Some, None, Result}
-use Rattle.std.specs.Prelude.{Ok, Err}
-use Rattle.unit_streams.specs.Judging.{refusal_at}
-use Rattle.unit_streams.specs.Going.{IsQuiet}
-use Rattle.nbfx_decoder.specs.declared.decoder.Decoder.{Decoder}
-use Rattle.nbfx_decoder.specs.declared.faults.UnitFault.{UnitFault}
-use Rattle.nbfx_decoder.specs.declared.faults.UnitFault.TheVariants.{Refused, Memory}
-use Rattle.nbfx_decoder.specs.Payload.{Settings, refusal, payload}
+use Rattle.std.specs.Prelude.{◌≡◌, ℕ, ◌+◌, ◌<◌, ◌≤◌, List, ◌++◌, length, take, Some, None, Ok, Err}
+use Rattle.std.specs.Prelude.{Result}
+use Rattle.unit_streams.specs.{Going.IsQuiet, Judging.refusal_at}
+use Rattle.nbfx_decoder.specs.declared.{decoder.Decoder.Decoder, faults.UnitFault.UnitFault}
+use Rattle.nbfx_decoder.specs.declared.faults.UnitFault.TheVariants.{Memory, Refused}
+use Rattle.nbfx_decoder.specs.DecoderState.{from_of, Reached, situation_of}
+use Rattle.nbfx_decoder.specs.Payload.{payload, refusal, Settings}
 use Rattle.nbfx_decoder.specs.Units.{HasStrings, KeepsSettings}
-use Rattle.nbfx_decoder.specs.DecoderState.{Reached, situation_of, from_of}
 
 -- some of the bytes are used, and no more are taken
 pub record TakesSome (old new : Decoder) (bytes : List ℕ) (used : ℕ) : Type 0 where

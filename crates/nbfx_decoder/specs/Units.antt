@@ -1,46 +1,30 @@
 -- What a reader of units answers. The public contracts cite of it, through DecoderState, where a
 -- unit may come, what it waits for and the strings that it has read.
-use Rattle.std.specs.Prelude.{◌≡◌, ⊤, ℕ, ◌+◌, ◌-◌, ◌<◌, ◌≤◌, ◌^◌, ◌⊎◌, max, List, ◌++◌, length}
-use Rattle.std.specs.Prelude.{Option, Some, None, Result, Ok, Err, IfOk, IfSome, IfNone, IsTrue}
-use Rattle.unit_streams.specs.Front.{Front, begun, whole, wrong}
-use Rattle.nbfx_values.specs.Measures.{content_of}
-use Rattle.nbfx_values.specs.Positions.{position_of}
-use Rattle.nbfx_values.specs.declared.content.Item.{Item}
-use Rattle.nbfx_values.specs.QuotasOf.{limits_of}
-use Rattle.string_tables.specs.SessionStrings.{cost}
-use Rattle.string_tables.specs.StringTable.{StringTable}
-use Rattle.nbfx_values.specs.declared.refusals.Reason.{Reason}
-use Rattle.nbfx_values.specs.declared.refusals.Reason.TheVariants.{UnknownString, TooMuchContent}
-use Rattle.nbfx_decoder.specs.declared.faults.UnitFault.{UnitFault}
-use Rattle.nbfx_decoder.specs.declared.faults.UnitFault.TheVariants.{Refused, Memory}
-use Rattle.nbfx_records.specs.declared.nodes.Node.{Node}
+use Rattle.std.specs.Prelude.{◌≡◌, ℕ, ◌+◌, ◌-◌, ◌^◌, ◌<◌, ◌≤◌, max, ◌⊎◌, List, ◌++◌, length, IfSome}
+use Rattle.std.specs.Prelude.{IfNone, IfOk, IsTrue, Some, None, Ok, Err, Option, Result, ⊤}
+use Rattle.unit_streams.specs.Front.{begun, Front, whole, wrong}
+use Rattle.string_tables.specs.{SessionStrings.cost, StringTable.StringTable}
+use Rattle.{multibyte_ints.specs.Integer.IsBytes, nbfx_decoder.specs.Faults.reason_of}
+use Rattle.nbfx_values.specs.declared.{content.Item.Item, refusals.Reason.Reason}
+use Rattle.nbfx_values.specs.declared.refusals.Reason.TheVariants.{TooMuchContent, UnknownString}
+use Rattle.nbfx_values.specs.{Measures.content_of, Positions.position_of, QuotasOf.limits_of}
+use Rattle.nbfx_records.specs.declared.nodes.{Node.Node, NodeFault.NodeFault}
+use Rattle.nbfx_records.specs.declared.nodes.{NodePlace.NodePlace, RawValue.RawValue}
+use Rattle.nbfx_records.specs.{declared.nodes.RecordFault.RecordFault, Judged.Makes}
+use Rattle.nbfx_records.specs.{Contents.contents, Places.Stands, Valid.is_valid_node}
+use Rattle.nbfx_records.specs.{Cursor.IsWhole, Meaning.items_of, Shapes.shape_at, Shapes.ValueShape}
+use Rattle.nbfx_records.specs.Shapes.{adds, attributes, has_text, one, repeats, several, Shape}
+use Rattle.nbfx_decoder.specs.declared.{faults.UnitFault.UnitFault, meaning.Meant.Meant}
+use Rattle.nbfx_decoder.specs.declared.faults.UnitFault.TheVariants.{Memory, Refused}
+use Rattle.nbfx_decoder.specs.declared.strings.{Head.Head, StringRead.StringRead}
+use Rattle.nbfx_decoder.specs.declared.units.UnitRead.{UnitRead, TheVariants.Done, TheVariants.More}
+use Rattle.nbfx_decoder.specs.{declared.units.UnitReader.UnitReader, Meant.items_in}
+use Rattle.nbfx_decoder.specs.Payload.{after, node, PayloadUnit, place_of, refusal, refused}
+use Rattle.nbfx_decoder.specs.Payload.{Settings, Situation, unit_in}
+use Rattle.nbfx_decoder.specs.Tables.{head_at, StringHead, table_string_at}
 use Rattle.nbfx_records.specs.declared.nodes.Node.TheVariants as nodes
-use Rattle.nbfx_records.specs.declared.nodes.RecordFault.{RecordFault}
-use Rattle.nbfx_records.specs.declared.nodes.NodePlace.{NodePlace}
-use Rattle.nbfx_records.specs.declared.nodes.RawValue.{RawValue}
 use Rattle.nbfx_records.specs.declared.nodes.RawValue.TheVariants as values
-use Rattle.nbfx_records.specs.declared.nodes.NodeFault.{NodeFault}
-use Rattle.multibyte_ints.specs.Integer.{IsBytes}
-use Rattle.nbfx_records.specs.Contents.{contents}
-use Rattle.nbfx_records.specs.Cursor.{IsWhole}
-use Rattle.nbfx_records.specs.Judged.{Makes}
-use Rattle.nbfx_records.specs.Meaning.{items_of}
-use Rattle.nbfx_records.specs.Places.{Stands}
-use Rattle.nbfx_records.specs.Valid.{is_valid_node}
-use Rattle.nbfx_records.specs.Shapes.{Shape, ValueShape, adds, attributes, has_text, one, repeats}
-use Rattle.nbfx_records.specs.Shapes.{several, shape_at}
-use Rattle.nbfx_decoder.specs.declared.meaning.Meant.{Meant}
-use Rattle.nbfx_decoder.specs.declared.strings.Head.{Head}
-use Rattle.nbfx_decoder.specs.declared.strings.StringRead.{StringRead}
 use Rattle.nbfx_decoder.specs.declared.strings.StringRead.TheVariants as strings_read
-use Rattle.nbfx_decoder.specs.declared.units.UnitRead.{UnitRead}
-use Rattle.nbfx_decoder.specs.declared.units.UnitRead.TheVariants.{More, Done}
-use Rattle.nbfx_decoder.specs.declared.units.UnitReader.{UnitReader}
-use Rattle.nbfx_decoder.specs.Faults.{reason_of}
-use Rattle.nbfx_decoder.specs.Meant.{items_in}
-use Rattle.nbfx_decoder.specs.Tables.{StringHead, head_at, table_string_at}
-use Rattle.nbfx_decoder.specs.Payload.{Settings, Situation, PayloadUnit, node, place_of, refusal}
-use Rattle.nbfx_decoder.specs.Payload.{unit_in, after, refused}
 
 -- it has begun, and fewer than so many bytes in all decide nothing, however they go on
 pub record AwaitsBytes {A R : Type 0} (reader : List ℕ

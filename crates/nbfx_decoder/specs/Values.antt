@@ -1,12 +1,10 @@
 -- How many values items hold.
 use Rattle.std.specs.Prelude.{ℕ, ◌+◌, List, length, sum_by}
-use Rattle.nbfx_values.specs.declared.content.ArrayItem.{ArrayItem}
-use Rattle.nbfx_values.specs.declared.content.AttrItem.{AttrItem}
-use Rattle.nbfx_values.specs.declared.content.AttrItem.TheVariants.{Attr as AttrOn}
-use Rattle.nbfx_values.specs.declared.content.Item.{Item}
-use Rattle.nbfx_values.specs.declared.content.Item.TheVariants.{Attr, Text, Array}
+use Rattle.nbfx_values.specs.declared.content.{ArrayItem.ArrayItem, Item.Item}
+use Rattle.nbfx_values.specs.declared.content.AttrItem.{AttrItem, TheVariants.Attr as AttrOn}
+use Rattle.nbfx_values.specs.declared.content.Item.TheVariants.{Array, Attr, Text}
 use Rattle.nbfx_values.specs.declared.scalars.Value.{Value}
-use Rattle.nbfx_values.specs.declared.scalars.Value.TheVariants.{One, List as ListOf}
+use Rattle.nbfx_values.specs.declared.scalars.Value.TheVariants.{List as ListOf, One}
 
 -- one, or those of a list
 abbrev pub value_count : Value → ℕ

@@ -1,16 +1,12 @@
 -- Tables that a writer carries on: the strings that come behind are text, and stay within the
 -- quota.
-use Rattle.std.proofs.Common.{◌≡◌, ℕ, ◌≤◌, List, [], ◌++◌, true, false, refl, sym, ap, ◌∙◌, subst}
-use Rattle.std.proofs.Common.{append-nil, append_assoc}
-use Rattle.std.specs.List.{list_all}
-use Rattle.std.specs.Str.{is_utf8}
-use Rattle.std.proofs.lemmas.Bool.{and_from}
-use Rattle.std.proofs.lemmas.List.Folds.{list_all-append}
-use Rattle.string_tables.specs.SessionStrings.{used_cost}
-use Rattle.string_tables.specs.StaticStrings.{IsStaticMap}
+use Rattle.std.proofs.Common.{◌≡◌, ℕ, ◌≤◌, true, false, List, [], ◌++◌, sym, refl, ap, ◌∙◌, subst}
+use Rattle.std.proofs.Common.{append_assoc, append-nil}
+use Rattle.std.proofs.lemmas.{Bool.and_from, List.Folds.list_all-append}
+use Rattle.std.specs.{List.list_all, Str.is_utf8}
+use Rattle.string_tables.specs.{SessionStrings.used_cost, StaticStrings.IsStaticMap}
 use Rattle.string_tables.specs.StringTable.{StringTable, with_strings}
-use Rattle.nbfx_encoder.specs.Placing.{Writing, brings_strings}
-use Rattle.nbfx_encoder.specs.Sound.{IsSound}
+use Rattle.nbfx_encoder.specs.{Placing.brings_strings, Placing.Writing, Sound.IsSound}
 
 -- a table behind another; where payloads bring no strings, there are none
 pub record Grows (w : Writing) (table behind : StringTable) : Type 0 where

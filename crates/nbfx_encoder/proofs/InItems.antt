@@ -1,27 +1,19 @@
 -- On the way through the items of a document.
-use Rattle.std.proofs.Common.{◌≡◌, ℕ, ◌+◌, ◌<◌, ◌≤◌, ◌^◌, List, [], ◌∷◌, ◌++◌, ◌-◌, length, drop}
-use Rattle.std.proofs.Common.{take, Some, None, Result, Ok, Err, refl, sym, ap, ◌∙◌, arith}
-use Rattle.std.proofs.Common.{append-nil, append_assoc}
-use Rattle.std.specs.Prelude.{flat_map, IsTrue}
-use Rattle.std.specs.List.{list_all}
-use Rattle.std.proofs.lemmas.Bool.{and_parts}
-use Rattle.std.proofs.lemmas.List.{drop-drop, drop_all, length-drop, take-append-drop, take_all}
-use Rattle.std.proofs.lemmas.List.Concat.{flat_map-append}
-use Rattle.std.proofs.lemmas.List.Folds.{list_all-append}
-use Rattle.std.proofs.lemmas.List.Sums.{sum_by-append}
-use Rattle.nbfx_values.specs.Items.{is_valid_item}
-use Rattle.nbfx_values.specs.Measures.{content_of, item_content}
-use Rattle.nbfx_values.specs.declared.content.Item.{Item}
+use Rattle.std.proofs.Common.{◌≡◌, ℕ, ◌+◌, ◌-◌, ◌^◌, ◌<◌, ◌≤◌, List, [], ◌∷◌, ◌++◌, length, take}
+use Rattle.std.proofs.Common.{drop, IsTrue, Some, None, Ok, Err, Result, flat_map, sym, refl, ap}
+use Rattle.std.proofs.Common.{◌∙◌, append_assoc, append-nil, arith, length-drop, take-append-drop}
+use Rattle.std.{proofs.Common.take_all, proofs.Common.drop-drop, specs.List.list_all}
+use Rattle.std.proofs.lemmas.{Bool.and_parts, List.drop_all, List.Concat.flat_map-append}
+use Rattle.std.proofs.lemmas.List.{Folds.list_all-append, Sums.sum_by-append}
 use Rattle.string_tables.specs.StringTable.{StringTable}
-use Rattle.nbfx_records.specs.declared.nodes.Node.{Node}
-use Rattle.nbfx_records.specs.Chosen.{chosen_bytes}
-use Rattle.nbfx_encoder.specs.declared.speller.Speller.{Speller}
-use Rattle.nbfx_encoder.specs.Inside.{AddsStrings, CantFirst, HasWritten, PutFirst, names_of}
-use Rattle.nbfx_encoder.specs.Inside.{writing_of}
+use Rattle.nbfx_values.specs.{declared.content.Item.Item, Items.is_valid_item}
+use Rattle.nbfx_values.specs.Measures.{content_of, item_content}
+use Rattle.nbfx_records.specs.{declared.nodes.Node.Node, Chosen.chosen_bytes}
+use Rattle.nbfx_encoder.specs.{declared.speller.Speller.Speller, Sound.IsSound}
+use Rattle.nbfx_encoder.specs.Inside.{AddsStrings, CantFirst, HasWritten, names_of, PutFirst}
+use Rattle.nbfx_encoder.specs.{Inside.writing_of, Spelling.with_first}
 use Rattle.nbfx_encoder.specs.Placing.{Placed, Writing}
-use Rattle.nbfx_encoder.specs.Sound.{IsSound}
-use Rattle.nbfx_encoder.specs.Spelling.{Said, in_records, items_said, spell, spell_from, spell_said}
-use Rattle.nbfx_encoder.specs.Spelling.{with_first}
+use Rattle.nbfx_encoder.specs.Spelling.{in_records, items_said, Said, spell, spell_from, spell_said}
 use Rattle.nbfx_encoder.proofs.InLists.{keeps_on, keeps_sound, keeps_writing}
 
 -- nodes before those of the rest

@@ -1,15 +1,12 @@
 -- What is spelled of a list, one step on, and what a speller keeps on the way.
-use Rattle.std.proofs.Common.{◌≡◌, ℕ, ◌+◌, ◌<◌, ◌≤◌, List, [], ◌∷◌, ◌++◌, length, drop, get_or}
-use Rattle.std.proofs.Common.{Option, Some, None, refl, sym, ap, ◌∙◌, append-nil, append_assoc}
-use Rattle.std.specs.Prelude.{flat_map}
-use Rattle.std.specs.Option.{option_map}
-use Rattle.std.proofs.lemmas.List.{drop_all, drop_more}
-use Rattle.std.proofs.lemmas.List.Concat.{flat_map-append}
+use Rattle.std.proofs.Common.{◌≡◌, ℕ, ◌+◌, ◌<◌, ◌≤◌, List, [], ◌∷◌, ◌++◌, length, get_or, drop}
+use Rattle.std.proofs.Common.{Some, None, Option, option_map, flat_map, sym, refl, ap, ◌∙◌}
+use Rattle.std.proofs.Common.{append_assoc, append-nil}
+use Rattle.std.proofs.lemmas.List.{drop_all, drop_more, Concat.flat_map-append}
 use Rattle.string_tables.specs.StringTable.{StringTable}
-use Rattle.nbfx_encoder.specs.declared.speller.Speller.{Speller}
-use Rattle.nbfx_encoder.specs.Inside.{AddsStrings, Wrote, names_of, writing_of}
-use Rattle.nbfx_encoder.specs.Placing.{Placed, Writing, spell_each}
-use Rattle.nbfx_encoder.specs.Sound.{IsSound}
+use Rattle.nbfx_encoder.specs.{declared.speller.Speller.Speller, Sound.IsSound}
+use Rattle.nbfx_encoder.specs.Inside.{AddsStrings, names_of, writing_of, Wrote}
+use Rattle.nbfx_encoder.specs.Placing.{Placed, spell_each, Writing}
 
 -- spelled ones before others
 abbrev pub behind : {B : Type 0} → List B → Option (Placed (List B)) → Option (Placed (List B))

@@ -1,20 +1,15 @@
 -- When a document is written, and what one more adds.
-use Rattle.std.proofs.Common.{◌≡◌, ℕ, ◌+◌, ◌≤◌, List, [], ◌∷◌, ◌++◌, length, Bool, true, false}
-use Rattle.std.proofs.Common.{Result, Ok, Err, refl, sym, ap, ◌∙◌, arith, append_assoc}
-use Rattle.std.specs.Prelude.{nat_lt, if◌then◌else◌}
-use Rattle.std.proofs.Math.Nat.{add-zero}
-use Rattle.std.proofs.lemmas.Bool.{ltb-false, le-ltb}
+use Rattle.std.proofs.Common.{◌≡◌, ℕ, ◌+◌, ◌≤◌, Bool, true, false, List, [], ◌∷◌, ◌++◌, length}
+use Rattle.std.proofs.Common.{if◌then◌else◌, nat_lt, Ok, Err, Result, sym, refl, ap, ◌∙◌}
+use Rattle.std.proofs.Common.{append_assoc, arith, ltb-false, le-ltb}
+use Rattle.{std.proofs.Math.Nat.add-zero, string_tables.specs.StringTable.StringTable}
+use Rattle.nbfx_values.specs.declared.{content.Item.Item, session.Kind.Kind, session.Mode.Mode}
 use Rattle.nbfx_values.specs.Limits.{Limits}
 use Rattle.nbfx_values.specs.Measures.{capped, content_of, depth_of}
-use Rattle.nbfx_values.specs.declared.content.Item.{Item}
-use Rattle.nbfx_values.specs.declared.session.Kind.{Kind}
-use Rattle.nbfx_values.specs.declared.session.Mode.{Mode}
-use Rattle.string_tables.specs.StringTable.{StringTable}
-use Rattle.nbfx_encoder.specs.Envelopes.{UnfitAt, behind_bytes, envelope, envelope_then}
-use Rattle.nbfx_encoder.specs.Envelopes.{envelopes_from}
+use Rattle.nbfx_encoder.specs.Envelopes.{behind_bytes, envelope, envelope_then, envelopes_from}
+use Rattle.nbfx_encoder.specs.{Envelopes.UnfitAt, Placing.Placed}
 use Rattle.nbfx_encoder.specs.Laws.{SendsOneMore, WritesWhatFits}
-use Rattle.nbfx_encoder.specs.Placing.{Placed}
-use Rattle.nbfx_encoder.specs.Spelling.{Fits, Unfit, chosen, encoded, too_deep, too_large, too_much}
+use Rattle.nbfx_encoder.specs.Spelling.{chosen, encoded, Fits, too_deep, too_large, too_much, Unfit}
 use Rattle.nbfx_encoder.specs.Spelling.{within_payload, writing}
 
 -- of two ways out by a comparison

@@ -1,17 +1,13 @@
 -- What a proof unfolds to compute payloads, and what worked cases share.
-use Rattle.std.proofs.Common.{◌≡◌, ℕ, List, [], ◌∷◌, ◌++◌, map, Ok}
-use Rattle.std.specs.Prelude.{⊤, codes}
-use Rattle.std.specs.Char.{encode_utf8}
-use Rattle.multibyte_ints.specs.Integer.{shortest, shortest_within}
-use Rattle.multibyte_ints.specs.Text.{string_bytes_of}
-use Rattle.nbfx_values.specs.declared.content.Item.{Item}
-use Rattle.nbfx_values.specs.declared.content.Item.TheVariants.{Start, Text, Close}
-use Rattle.nbfx_values.specs.declared.scalars.Scalar.{Scalar}
-use Rattle.nbfx_values.specs.declared.scalars.Value.TheVariants.{One}
-use Rattle.nbfx_values.specs.declared.session.Kind.TheVariants.{Plain, Session}
+use Rattle.std.proofs.Common.{◌≡◌, ℕ, List, [], ◌∷◌, ◌++◌, map, Ok, codes}
+use Rattle.std.specs.{Prelude.⊤, Char.encode_utf8}
 use Rattle.string_tables.specs.StringTable.{StringTable}
-use Rattle.nbfx_encoder.specs.Placing.{Writing}
-use Rattle.nbfx_encoder.specs.Spelling.{chosen}
+use Rattle.multibyte_ints.specs.{Integer.shortest, Integer.shortest_within, Text.string_bytes_of}
+use Rattle.nbfx_values.specs.declared.content.Item.{Item}
+use Rattle.nbfx_values.specs.declared.content.Item.TheVariants.{Close, Start, Text}
+use Rattle.nbfx_values.specs.declared.scalars.{Scalar.Scalar, Value.TheVariants.One}
+use Rattle.nbfx_values.specs.declared.session.Kind.TheVariants.{Plain, Session}
+use Rattle.nbfx_encoder.specs.{Placing.Writing, Spelling.chosen}
 
 unfoldable pub writing_on_literals : ⊤
 unfolding encode_utf8 shortest shortest_within string_bytes_of

@@ -1,15 +1,10 @@
 -- What a payload begins with has few bytes.
-use Rattle.std.proofs.Common.{◌≡◌, ℕ, ◌<◌, ◌≤◌, ◌^◌, List, [], ◌++◌, length, take, drop, Result, Ok}
-use Rattle.std.proofs.Common.{Err, sym, ap, ◌∙◌, arith, append_assoc}
-use Rattle.std.specs.Prelude.{IsErr, flat_map}
-use Rattle.nbfx_records.specs.Putting.{Puts}
-use Rattle.std.proofs.lemmas.List.{take-append-drop}
-use Rattle.multibyte_ints.specs.Integer.{shortest}
-use Rattle.multibyte_ints.specs.Text.{string_bytes_of}
-use Rattle.multibyte_ints.proofs.ShortestLaws.{shortest_spells}
-use Rattle.string_tables.specs.SessionStrings.{used_cost}
-use Rattle.string_tables.proofs.SessionFacts.{used_cost-append}
-use Rattle.nbfx_records.proofs.PayloadFacts.{strings_length}
+use Rattle.std.proofs.Common.{◌≡◌, ℕ, ◌^◌, ◌<◌, ◌≤◌, List, [], ◌++◌, length, take, drop, IsErr, Ok}
+use Rattle.std.proofs.Common.{Err, Result, flat_map, sym, ap, ◌∙◌, append_assoc, arith}
+use Rattle.{std.proofs.Common.take-append-drop, multibyte_ints.proofs.ShortestLaws.shortest_spells}
+use Rattle.string_tables.{proofs.SessionFacts.used_cost-append, specs.SessionStrings.used_cost}
+use Rattle.multibyte_ints.specs.{Integer.shortest, Text.string_bytes_of}
+use Rattle.nbfx_records.{proofs.PayloadFacts.strings_length, specs.Putting.Puts}
 
 pub few_bytes : (strings : List (List ℕ)) (n : ℕ) (cleared out : List ℕ)
     → used_cost strings ≤ 2 ^ 28 → cleared ≡ []

@@ -1,13 +1,10 @@
 -- What is written of an attribute and of an array, by what their parts wrote.
-use Rattle.std.proofs.Common.{◌≡◌, ℕ, List, [], ◌++◌, Option, Result, Ok, Err, refl, sym, ap, ◌∙◌}
-use Rattle.std.proofs.Common.{append-nil, append_assoc}
+use Rattle.std.proofs.Common.{◌≡◌, ℕ, List, [], ◌++◌, Ok, Err, Option, Result, option_map, sym}
+use Rattle.std.proofs.Common.{refl, ap, ◌∙◌, append_assoc, append-nil}
 use Rattle.std.specs.Prelude.{⊤}
-use Rattle.std.specs.Option.{option_map}
-use Rattle.nbfx_encoder.specs.declared.speller.Speller.{Speller}
-use Rattle.nbfx_encoder.specs.declared.speller.SpellFault.{SpellFault}
-use Rattle.nbfx_encoder.specs.declared.speller.SpellFault.TheVariants.{Unnamed, Memory}
-use Rattle.nbfx_encoder.specs.Inside.{Answers, Wrote, names_of}
-use Rattle.nbfx_encoder.specs.Placing.{Placed}
+use Rattle.nbfx_encoder.specs.declared.speller.{SpellFault.SpellFault, Speller.Speller}
+use Rattle.nbfx_encoder.specs.declared.speller.SpellFault.TheVariants.{Memory, Unnamed}
+use Rattle.nbfx_encoder.specs.{Inside.Answers, Inside.names_of, Inside.Wrote, Placing.Placed}
 
 -- behind a front, and with an end, what was written of a part is that of the whole which it makes
 module _ {X Y : Type 0} (make : X → Y) (front behind : List ℕ) (inner : X → List ℕ)

@@ -1,43 +1,32 @@
 -- What is written of a document that fits is a payload of it.
-use Rattle.std.proofs.Common.{◌≡◌, ℕ, ◌+◌, ◌≤◌, ◌<◌, ◌^◌, List, [], ◌∷◌, ◌++◌, length, drop, true}
-use Rattle.std.proofs.Common.{false, Option, Some, None, Result, Ok, Err, refl, sym, ap, ◌∙◌, subst}
-use Rattle.std.proofs.Common.{arith}
-use Rattle.std.specs.Prelude.{flat_map}
-use Rattle.std.specs.List.{list_all}
-use Rattle.std.specs.Str.{is_utf8}
-use Rattle.std.proofs.lemmas.Bool.{and_parts, and_from}
-use Rattle.std.proofs.lemmas.List.Folds.{list_all-append}
-use Rattle.std.proofs.lemmas.List.Sums.{sum_by-append}
-use Rattle.std.proofs.Math.Seq.{drop-append_seam}
-use Rattle.nbfx_values.specs.Documents.{IsDocument}
-use Rattle.nbfx_values.specs.Items.{is_valid_item}
+use Rattle.std.proofs.Common.{◌≡◌, ℕ, ◌+◌, ◌^◌, ◌<◌, ◌≤◌, true, false, List, [], ◌∷◌, ◌++◌, length}
+use Rattle.std.proofs.Common.{drop, Some, None, Ok, Err, Option, Result, flat_map, sym, refl, ap}
+use Rattle.std.proofs.Common.{◌∙◌, subst, arith}
+use Rattle.std.proofs.{Math.Seq.drop-append_seam, lemmas.Bool.and_from, lemmas.Bool.and_parts}
+use Rattle.std.proofs.lemmas.List.{Folds.list_all-append, Sums.sum_by-append}
+use Rattle.std.specs.{List.list_all, Str.is_utf8}
+use Rattle.string_tables.proofs.SessionFacts.{used_cost-append}
+use Rattle.string_tables.specs.{SessionStrings.used_cost, StaticStrings.IsStaticMap}
+use Rattle.string_tables.specs.StringTable.{StringTable, with_strings}
+use Rattle.nbfx_values.specs.declared.content.Item.{Item, TheVariants.Text, TheVariants.Xmlns}
+use Rattle.nbfx_values.specs.declared.content.Item.TheVariants.{Array, Attr, Close, Comment, Start}
+use Rattle.nbfx_values.specs.declared.session.Kind.{Kind, TheVariants.Plain, TheVariants.Session}
+use Rattle.nbfx_values.specs.{Documents.IsDocument, Items.is_valid_item}
 use Rattle.nbfx_values.specs.Limits.{IsGood, Limits}
 use Rattle.nbfx_values.specs.Measures.{content_of, item_content}
-use Rattle.nbfx_values.specs.declared.content.Item.{Item}
-use Rattle.nbfx_values.specs.declared.content.Item.TheVariants.{Start, Xmlns, Attr, Text, Comment}
-use Rattle.nbfx_values.specs.declared.content.Item.TheVariants.{Array, Close}
-use Rattle.nbfx_values.specs.declared.session.Kind.{Kind}
-use Rattle.nbfx_values.specs.declared.session.Kind.TheVariants.{Plain, Session}
-use Rattle.string_tables.specs.SessionStrings.{used_cost}
-use Rattle.string_tables.specs.StaticStrings.{IsStaticMap}
-use Rattle.string_tables.specs.StringTable.{StringTable, with_strings}
-use Rattle.string_tables.proofs.SessionFacts.{used_cost-append}
-use Rattle.nbfx_records.specs.declared.nodes.Node.{Node}
-use Rattle.nbfx_records.specs.Chosen.{chosen_bytes}
+use Rattle.nbfx_records.proofs.PayloadFacts.{written_are_records, written_is_table}
+use Rattle.nbfx_records.proofs.WritableFacts.{said_may_be_written}
+use Rattle.nbfx_records.specs.{declared.nodes.Node.Node, Chosen.chosen_bytes}
 use Rattle.nbfx_records.specs.Meaning.{EachMeans, Means}
 use Rattle.nbfx_records.specs.Payloads.{AreRecords, IsOpening, IsPayload}
 use Rattle.nbfx_records.specs.Valid.{fits_node, is_valid_node}
-use Rattle.nbfx_records.proofs.PayloadFacts.{written_are_records, written_is_table}
-use Rattle.nbfx_records.proofs.WritableFacts.{said_may_be_written}
-use Rattle.nbfx_encoder.specs.Laws.{ChosenIsPayload}
-use Rattle.nbfx_encoder.specs.Placing.{Placed, Writing, brings_strings}
-use Rattle.nbfx_encoder.specs.Spelling.{Said, an_item, and_then, chosen_of, in_records, items_said}
-use Rattle.nbfx_encoder.specs.Spelling.{joined, last_text, opening_bytes, spell, spell_from}
+use Rattle.nbfx_encoder.{specs.Laws.ChosenIsPayload, specs.Sound.IsSound, proofs.Saying.Spells}
+use Rattle.nbfx_encoder.specs.Placing.{brings_strings, Placed, Writing}
+use Rattle.nbfx_encoder.specs.Spelling.{an_item, and_then, chosen_of, in_records, items_said}
+use Rattle.nbfx_encoder.specs.Spelling.{joined, last_text, opening_bytes, Said, spell, spell_from}
 use Rattle.nbfx_encoder.specs.Spelling.{spell_said, strings_behind, with_first, writing}
-use Rattle.nbfx_encoder.specs.Sound.{IsSound}
 use Rattle.nbfx_encoder.proofs.Growing.{Grows, grows_not, grows_on, sound_behind}
-use Rattle.nbfx_encoder.proofs.Saying.{Spells}
-use Rattle.nbfx_encoder.proofs.SaidItems.{SaysItems, items_say_behind, said_says}
+use Rattle.nbfx_encoder.proofs.SaidItems.{items_say_behind, said_says, SaysItems}
 
 -- the items of records, in their order
 abbrev all_said : List Said → List Item

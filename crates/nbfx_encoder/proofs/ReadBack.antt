@@ -1,19 +1,15 @@
 -- A payload that was prepared is read back.
-use Rattle.std.proofs.Common.{◌≡◌, ◌≤◌, ◌∙◌, ℕ, List, ap, sym}
-use Rattle.nbfx_values.specs.Documents.{IsDocument}
-use Rattle.nbfx_values.specs.Limits.{IsGood, Limits}
-use Rattle.nbfx_values.specs.Measures.{content_of, depth_of}
-use Rattle.nbfx_values.specs.declared.content.Item.{Item}
-use Rattle.string_tables.specs.SessionStrings.{used_cost}
+use Rattle.std.proofs.Common.{◌≡◌, ℕ, ◌≤◌, List, sym, ap, ◌∙◌}
+use Rattle.string_tables.specs.{SessionStrings.used_cost, StringTable.StringTable}
 use Rattle.string_tables.specs.StaticStrings.{IsStaticMap}
-use Rattle.string_tables.specs.StringTable.{StringTable}
+use Rattle.nbfx_values.specs.{declared.content.Item.Item, Documents.IsDocument}
+use Rattle.nbfx_values.specs.{Limits.IsGood, Limits.Limits, Measures.content_of, Measures.depth_of}
 use Rattle.nbfx_encoder.specs.declared.encoder.Encoder.{Encoder}
-use Rattle.nbfx_encoder.specs.ReadBack.{AdmitsAsMuch, IsRead}
-use Rattle.nbfx_encoder.specs.Inside.{SpelledPayload, names_of, writing_of}
-use Rattle.nbfx_encoder.specs.Spelling.{Fits, chosen, within_payload, writing}
 use Rattle.nbfx_encoder.specs.EncoderState.{kind_in, limits_in, names_in}
-use Rattle.nbfx_encoder.proofs.LawFacts.{short_one}
-use Rattle.nbfx_encoder.proofs.Payloads.{chosen_is_payload}
+use Rattle.nbfx_encoder.specs.Inside.{names_of, SpelledPayload, writing_of}
+use Rattle.nbfx_encoder.specs.ReadBack.{AdmitsAsMuch, IsRead}
+use Rattle.nbfx_encoder.specs.Spelling.{chosen, Fits, within_payload, writing}
+use Rattle.nbfx_encoder.proofs.{LawFacts.short_one, Payloads.chosen_is_payload}
 
 -- a writer's quotas are good, and its strings are within them
 good_limits : (e : Encoder) → IsGood (limits_in e)

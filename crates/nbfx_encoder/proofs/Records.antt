@@ -1,31 +1,24 @@
 -- What is written of a record, by what was written of what it says.
-use Rattle.std.proofs.Common.{◌≡◌, ℕ, ◌<◌, ◌≤◌, List, [], ◌∷◌, length, drop, get_or, true, Option}
-use Rattle.std.proofs.Common.{Some, None, Result, Ok, Err, refl, sym, ap, ◌∙◌, subst, arith}
-use Rattle.std.proofs.Common.{append-nil}
-use Rattle.std.specs.Prelude.{⊤, IfErr, OnOk}
-use Rattle.std.specs.Option.{option_map}
-use Rattle.std.proofs.lemmas.List.{drop_more}
-use Rattle.nbfx_values.specs.declared.content.AttrItem.TheVariants as attributes
-use Rattle.nbfx_values.specs.declared.content.Item.{Item}
-use Rattle.nbfx_values.specs.declared.content.Item.TheVariants as items
-use Rattle.nbfx_values.specs.declared.scalars.Value.{Value}
+use Rattle.std.proofs.Common.{◌≡◌, ℕ, ◌<◌, ◌≤◌, true, List, [], ◌∷◌, length, get_or, drop, IfErr}
+use Rattle.std.proofs.Common.{OnOk, Some, None, Ok, Err, Option, Result, option_map, sym, refl, ap}
+use Rattle.std.proofs.Common.{◌∙◌, subst, append-nil, arith}
+use Rattle.std.{specs.Prelude.⊤, proofs.lemmas.List.drop_more}
 use Rattle.string_tables.specs.StringTable.{StringTable}
-use Rattle.nbfx_records.specs.declared.nodes.AttrNode.{AttrNode}
-use Rattle.nbfx_records.specs.declared.nodes.AttrNode.TheVariants as attribute_nodes
-use Rattle.nbfx_records.specs.declared.nodes.Node.{Node}
-use Rattle.nbfx_records.specs.declared.nodes.Node.TheVariants as nodes
-use Rattle.nbfx_records.specs.declared.nodes.NameRef.{NameRef}
-use Rattle.nbfx_records.specs.declared.nodes.RawValue.{RawValue}
+use Rattle.nbfx_values.specs.declared.{content.Item.Item, scalars.Value.Value}
+use Rattle.nbfx_records.specs.declared.nodes.{AttrNode.AttrNode, Node.Node}
+use Rattle.nbfx_records.specs.declared.nodes.{NameRef.NameRef, RawValue.RawValue}
 use Rattle.nbfx_records.specs.Chosen.{chosen_bytes, part_bytes, value_bytes}
-use Rattle.nbfx_encoder.specs.declared.faults.EncodeFault.{EncodeFault}
-use Rattle.nbfx_encoder.specs.declared.speller.Speller.{Speller}
-use Rattle.nbfx_encoder.specs.declared.speller.SpellFault.{SpellFault}
-use Rattle.nbfx_encoder.specs.declared.speller.SpellFault.TheVariants.{Unnamed, Memory}
-use Rattle.nbfx_encoder.specs.Inside.{Answers, PutsRecord, fault_told, names_of, writing_of}
-use Rattle.nbfx_encoder.specs.Placing.{Placed, Writing, place, spell_part, spell_value}
-use Rattle.nbfx_encoder.specs.Spelling.{Said, an_item, in_records, items_said, last_text}
+use Rattle.nbfx_encoder.{specs.declared.faults.EncodeFault.EncodeFault, proofs.Parts.made_answers}
+use Rattle.nbfx_encoder.specs.declared.speller.{SpellFault.SpellFault, Speller.Speller}
+use Rattle.nbfx_encoder.specs.declared.speller.SpellFault.TheVariants.{Memory, Unnamed}
+use Rattle.nbfx_encoder.specs.Inside.{Answers, fault_told, names_of, PutsRecord, writing_of}
+use Rattle.nbfx_encoder.specs.Placing.{place, Placed, spell_part, spell_value, Writing}
+use Rattle.nbfx_encoder.specs.Spelling.{an_item, in_records, items_said, last_text, Said}
 use Rattle.nbfx_encoder.specs.Spelling.{spell_item, spell_said}
-use Rattle.nbfx_encoder.proofs.Parts.{made_answers}
+use Rattle.nbfx_values.specs.declared.content.AttrItem.TheVariants as attributes
+use Rattle.nbfx_values.specs.declared.content.Item.TheVariants as items
+use Rattle.nbfx_records.specs.declared.nodes.AttrNode.TheVariants as attribute_nodes
+use Rattle.nbfx_records.specs.declared.nodes.Node.TheVariants as nodes
 
 -- the node of a declaration or an attribute
 abbrev node_of : AttrNode → Node

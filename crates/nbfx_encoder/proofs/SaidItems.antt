@@ -1,49 +1,36 @@
 -- What is spelled of declarations, attributes and arrays, and of each item, says it under the table
 -- behind it.
-use Rattle.std.proofs.Common.{◌≡◌, ℕ, List, [], ◌∷◌, ◌++◌, Bool, true, false, Option, Some, None}
-use Rattle.std.proofs.Common.{refl, ap, ◌∙◌, subst}
-use Rattle.std.specs.Prelude.{◌&&◌, flat_map, nat_lt, length}
-use Rattle.std.specs.List.{list_all}
-use Rattle.std.specs.Option.{option_map}
-use Rattle.std.specs.Str.{is_utf8}
-use Rattle.std.proofs.lemmas.Bool.{and_parts, and_from}
-use Rattle.std.proofs.lemmas.List.Concat.{flat_map-cons}
-use Rattle.std.proofs.lemmas.List.Folds.{list_all-append}
-use Rattle.nbfx_values.specs.Items.{fits_kind, is_valid_attribute, is_valid_item}
-use Rattle.nbfx_values.specs.Scalars.{is_unsigned, is_valid_value}
-use Rattle.nbfx_values.specs.declared.content.ArrayItem.{ArrayItem}
-use Rattle.nbfx_values.specs.declared.content.AttrItem.{AttrItem}
-use Rattle.nbfx_values.specs.declared.content.AttrItem.TheVariants as attributes
-use Rattle.nbfx_values.specs.declared.content.Item.{Item}
-use Rattle.nbfx_values.specs.declared.content.Item.TheVariants as items
-use Rattle.nbfx_values.specs.declared.scalars.Value.{Value}
-use Rattle.nbfx_values.specs.declared.scalars.Value.TheVariants as values
+use Rattle.std.proofs.Common.{◌≡◌, ℕ, Bool, true, false, ◌&&◌, List, [], ◌∷◌, ◌++◌, length, nat_lt}
+use Rattle.std.proofs.Common.{Some, None, Option, option_map, flat_map, refl, ap, ◌∙◌, subst}
+use Rattle.std.proofs.lemmas.Bool.{and_from, and_parts}
+use Rattle.std.proofs.lemmas.List.{Concat.flat_map-cons, Folds.list_all-append}
+use Rattle.std.specs.{List.list_all, Str.is_utf8}
 use Rattle.string_tables.specs.StringTable.{StringTable}
-use Rattle.nbfx_records.specs.declared.nodes.NameRef.{NameRef}
-use Rattle.nbfx_records.specs.declared.nodes.RawScalar.{RawScalar}
-use Rattle.nbfx_records.specs.declared.nodes.RawValue.{RawValue}
-use Rattle.nbfx_records.specs.declared.nodes.RawValue.TheVariants.{One, List as ListOf}
-use Rattle.nbfx_records.specs.declared.nodes.AttrNode.{AttrNode}
-use Rattle.nbfx_records.specs.declared.nodes.AttrNode.TheVariants as attribute_nodes
-use Rattle.nbfx_records.specs.declared.nodes.ArrayNode.{ArrayNode}
-use Rattle.nbfx_records.specs.declared.nodes.Node.{Node}
-use Rattle.nbfx_records.specs.declared.nodes.Node.TheVariants as nodes
-use Rattle.nbfx_records.specs.Meaning.{ArrayMeans, EachMeans, Means, PartMeans, ScalarMeans}
-use Rattle.nbfx_records.specs.Meaning.{identifiers, ids_of_name, ids_of_part, ids_of_scalar}
-use Rattle.nbfx_records.specs.Meaning.{ids_of_value}
-use Rattle.nbfx_records.specs.Valid.{names_qnames, names_qnames_part, names_qnames_raw}
+use Rattle.nbfx_values.specs.declared.content.{ArrayItem.ArrayItem, AttrItem.AttrItem, Item.Item}
+use Rattle.nbfx_values.specs.declared.scalars.{Scalar.Scalar, Value.Value}
+use Rattle.nbfx_values.specs.Items.{fits_kind, is_valid_attribute, is_valid_item}
+use Rattle.nbfx_values.specs.Scalars.{is_unsigned, is_valid_scalar, is_valid_value}
 use Rattle.nbfx_records.proofs.StayFacts.{node_stays, part_stays}
-use Rattle.nbfx_encoder.specs.Placing.{Placed, Writing, place, spell_array, spell_each, spell_part}
-use Rattle.nbfx_encoder.specs.Placing.{spell_scalar, spell_value}
-use Rattle.nbfx_encoder.specs.Spelling.{Said, an_item, items_said, last_text, spell_item}
-use Rattle.nbfx_encoder.specs.Spelling.{spell_said}
-use Rattle.nbfx_values.specs.declared.scalars.Scalar.{Scalar}
-use Rattle.nbfx_values.specs.Scalars.{is_valid_scalar}
-use Rattle.nbfx_encoder.specs.Sound.{IsSound}
+use Rattle.nbfx_records.specs.declared.nodes.{ArrayNode.ArrayNode, Node.Node}
+use Rattle.nbfx_records.specs.declared.nodes.{AttrNode.AttrNode, NameRef.NameRef}
+use Rattle.nbfx_records.specs.declared.nodes.{RawScalar.RawScalar, RawValue.RawValue}
+use Rattle.nbfx_records.specs.declared.nodes.RawValue.TheVariants.{List as ListOf, One}
+use Rattle.nbfx_records.specs.Meaning.{ArrayMeans, EachMeans, identifiers, ids_of_name, ids_of_part}
+use Rattle.nbfx_records.specs.Meaning.{ids_of_scalar, ids_of_value, Means, PartMeans, ScalarMeans}
+use Rattle.nbfx_records.specs.Valid.{names_qnames, names_qnames_part, names_qnames_raw}
+use Rattle.nbfx_encoder.specs.Placing.{place, Placed, spell_array, spell_each, spell_part}
+use Rattle.nbfx_encoder.specs.Placing.{spell_scalar, spell_value, Writing}
+use Rattle.nbfx_encoder.specs.{Sound.IsSound, Spelling.spell_said}
+use Rattle.nbfx_encoder.specs.Spelling.{an_item, items_said, last_text, Said, spell_item}
 use Rattle.nbfx_encoder.proofs.Growing.{Grows, grows_not, grows_on, sound_behind}
-use Rattle.nbfx_encoder.proofs.Saying.{Says, SaysName, SaysScalar, SaysValue, Small, Spells}
-use Rattle.nbfx_encoder.proofs.Saying.{each_says, name_says_behind, placed_says, says_behind}
-use Rattle.nbfx_encoder.proofs.Saying.{scalar_says, scalar_says_behind}
+use Rattle.nbfx_encoder.proofs.Saying.{each_says, name_says_behind, placed_says, Says, says_behind}
+use Rattle.nbfx_encoder.proofs.Saying.{SaysName, SaysScalar, SaysValue, scalar_says}
+use Rattle.nbfx_encoder.proofs.Saying.{scalar_says_behind, Small, Spells}
+use Rattle.nbfx_values.specs.declared.content.AttrItem.TheVariants as attributes
+use Rattle.nbfx_values.specs.declared.content.Item.TheVariants as items
+use Rattle.nbfx_values.specs.declared.scalars.Value.TheVariants as values
+use Rattle.nbfx_records.specs.declared.nodes.AttrNode.TheVariants as attribute_nodes
+use Rattle.nbfx_records.specs.declared.nodes.Node.TheVariants as nodes
 
 -- identifiers of both, and of each of many
 both_small : (ids others : List ℕ) → Small ids → Small others → Small (ids ++ others)

@@ -1,34 +1,27 @@
 -- What is spelled of a name, a value or an item says it under the table behind it.
-use Rattle.std.proofs.Common.{◌≡◌, ℕ, ◌+◌, ◌*◌, ◌≤◌, ◌^◌, List, [], ◌∷◌, ◌++◌, length, Bool, true}
-use Rattle.std.proofs.Common.{false, Option, Some, None, refl, sym, subst, arith, inr}
-use Rattle.std.specs.Prelude.{nat_le}
-use Rattle.std.specs.Option.{option_map, option_and_then}
-use Rattle.std.specs.List.{list_all}
-use Rattle.std.specs.Str.{is_utf8}
-use Rattle.std.proofs.lemmas.Bool.{and_parts, and_from, lt-ltb, leb-true}
-use Rattle.nbfx_values.specs.Scalars.{is_unsigned, is_valid_scalar}
-use Rattle.nbfx_values.specs.declared.scalars.Scalar.{Scalar}
-use Rattle.nbfx_values.specs.declared.scalars.Scalar.TheVariants as scalars
-use Rattle.nbfx_values.specs.declared.scalars.Value.{Value}
-use Rattle.string_tables.specs.SessionStrings.{cost, used_cost}
-use Rattle.string_tables.specs.StringTable.{Names, StringTable, chosen_id, with_strings}
+use Rattle.std.proofs.Common.{◌≡◌, ℕ, ◌+◌, ◌*◌, ◌^◌, ◌≤◌, Bool, true, false, List, [], ◌∷◌, ◌++◌}
+use Rattle.std.proofs.Common.{length, nat_le, Some, None, Option, option_map, option_and_then, sym}
+use Rattle.std.proofs.Common.{refl, subst, inr, arith, lt-ltb, leb-true}
+use Rattle.std.proofs.lemmas.Bool.{and_from, and_parts}
+use Rattle.std.specs.{List.list_all, Str.is_utf8}
 use Rattle.string_tables.proofs.ChosenFacts.{names_chosen, names_small}
-use Rattle.string_tables.proofs.SessionFacts.{used_cost-append}
-use Rattle.string_tables.proofs.TableFacts.{names-push}
-use Rattle.nbfx_records.specs.declared.nodes.NameRef.{NameRef}
-use Rattle.nbfx_records.specs.declared.nodes.NameRef.TheVariants.{Inline, Id}
-use Rattle.nbfx_records.specs.declared.nodes.RawScalar.{RawScalar}
-use Rattle.nbfx_records.specs.declared.nodes.RawScalar.TheVariants.{Known, QName}
-use Rattle.nbfx_records.specs.declared.nodes.RawValue.{RawValue}
-use Rattle.nbfx_records.specs.Meaning.{EachMeans, NameMeans, ScalarMeans, ValueMeans, ids_of_name}
-use Rattle.nbfx_records.specs.Meaning.{ids_of_scalar, ids_of_value}
-use Rattle.nbfx_records.specs.Valid.{names_qnames_raw, names_qnames_text}
+use Rattle.string_tables.proofs.{SessionFacts.used_cost-append, TableFacts.names-push}
+use Rattle.string_tables.specs.SessionStrings.{cost, used_cost}
+use Rattle.string_tables.specs.StringTable.{chosen_id, Names, StringTable, with_strings}
+use Rattle.nbfx_values.specs.declared.scalars.{Scalar.Scalar, Value.Value}
+use Rattle.nbfx_values.specs.Scalars.{is_unsigned, is_valid_scalar}
 use Rattle.nbfx_records.proofs.StayFacts.{name_stays, scalar_stays}
-use Rattle.nbfx_encoder.specs.Placing.{Placed, Writing, brings_strings, has_room, place}
-use Rattle.nbfx_encoder.specs.Placing.{place_found, place_new, qualified, spell_each, spell_scalar}
-use Rattle.nbfx_encoder.specs.Placing.{spell_text, text_found}
-use Rattle.nbfx_encoder.specs.Sound.{IsSound}
+use Rattle.nbfx_records.specs.declared.nodes.NameRef.{NameRef, TheVariants.Id, TheVariants.Inline}
+use Rattle.nbfx_records.specs.declared.nodes.{RawScalar.RawScalar, RawValue.RawValue}
+use Rattle.nbfx_records.specs.declared.nodes.RawScalar.TheVariants.{Known, QName}
+use Rattle.nbfx_records.specs.Meaning.{EachMeans, ids_of_name, ids_of_scalar, ids_of_value}
+use Rattle.nbfx_records.specs.Meaning.{NameMeans, ScalarMeans, ValueMeans}
+use Rattle.nbfx_records.specs.Valid.{names_qnames_raw, names_qnames_text}
+use Rattle.nbfx_encoder.specs.Placing.{brings_strings, has_room, place, place_found, place_new}
+use Rattle.nbfx_encoder.specs.Placing.{Placed, qualified, spell_each, spell_scalar, spell_text}
+use Rattle.nbfx_encoder.specs.{Placing.text_found, Placing.Writing, Sound.IsSound}
 use Rattle.nbfx_encoder.proofs.Growing.{Grows, grows_not, grows_on, sound_behind}
+use Rattle.nbfx_values.specs.declared.scalars.Scalar.TheVariants as scalars
 
 -- what is placed says something under the table behind it
 pub record Spells {X : Type 0} (w : Writing) (table : StringTable) (Says : StringTable → X → Type 0)

@@ -1,12 +1,9 @@
 -- Payloads above the quota.
-use Rattle.std.proofs.Common.{◌≡◌, ℕ, ◌<◌, List, length, Result, Err, refl, ap, ◌∙◌}
-use Rattle.std.proofs.lemmas.Bool.{lt-ltb}
+use Rattle.std.proofs.Common.{◌≡◌, ℕ, ◌<◌, List, length, Err, Result, refl, ap, ◌∙◌, lt-ltb}
 use Rattle.string_tables.specs.StringTable.{StringTable}
+use Rattle.nbfx_encoder.specs.{Inside.SpelledPayload, Placing.Placed, Refusals.told}
+use Rattle.nbfx_encoder.specs.Spelling.{too_large, Unfit, within_payload}
 use Rattle.nbfx_encoder.specs.declared.faults.EncodeFault.TheVariants as faults
-use Rattle.nbfx_encoder.specs.Inside.{SpelledPayload}
-use Rattle.nbfx_encoder.specs.Placing.{Placed}
-use Rattle.nbfx_encoder.specs.Refusals.{told}
-use Rattle.nbfx_encoder.specs.Spelling.{Unfit, too_large, within_payload}
 
 pub large : (most : ℕ) (answer : Result (Placed (List ℕ)) ℕ) (size : ℕ) (bytes : List ℕ)
     (behind : StringTable) → SpelledPayload answer size bytes behind → most < size

@@ -1,16 +1,14 @@
 -- Worked payloads in their chosen spelling, computed by the definitions.
-use Rattle.std.proofs.Common.{ℕ, List, [], ◌∷◌, ◌++◌, true, false, refl}
+use Rattle.std.proofs.Common.{ℕ, true, false, List, [], ◌∷◌, ◌++◌, pos, negsuc, codes, refl}
 use Rattle.std.specs.List.{repeat}
-use Rattle.std.specs.Prelude.{codes, pos, negsuc}
 use Rattle.nbfx_values.specs.declared.content.ArrayKind.TheVariants.{Bool, Int32}
-use Rattle.nbfx_values.specs.declared.content.AttrItem.TheVariants.{Xmlns as PartXmlns}
 use Rattle.nbfx_values.specs.declared.content.AttrItem.TheVariants.{Attr as PartAttr}
-use Rattle.nbfx_values.specs.declared.content.Item.{Item}
-use Rattle.nbfx_values.specs.declared.content.Item.TheVariants.{Start, Xmlns, Attr, Text, Comment}
-use Rattle.nbfx_values.specs.declared.content.Item.TheVariants.{Array, Close}
-use Rattle.nbfx_values.specs.declared.scalars.Scalar.TheVariants.{Number, Truth, Text as TextOf}
-use Rattle.nbfx_values.specs.declared.scalars.Scalar.TheVariants.{UniqueId, QName}
-use Rattle.nbfx_values.specs.declared.scalars.Value.TheVariants.{One, List as ListOf}
+use Rattle.nbfx_values.specs.declared.content.AttrItem.TheVariants.{Xmlns as PartXmlns}
+use Rattle.nbfx_values.specs.declared.content.Item.{Item, TheVariants.Text, TheVariants.Xmlns}
+use Rattle.nbfx_values.specs.declared.content.Item.TheVariants.{Array, Attr, Close, Comment, Start}
+use Rattle.nbfx_values.specs.declared.scalars.Scalar.TheVariants.{Number, QName, Text as TextOf}
+use Rattle.nbfx_values.specs.declared.scalars.Scalar.TheVariants.{Truth, UniqueId}
+use Rattle.nbfx_values.specs.declared.scalars.Value.TheVariants.{List as ListOf, One}
 use Rattle.nbfx_encoder.proofs.OnLiterals.{AreChosen, AreInside, ArePlain, message, text}
 use Rattle.nbfx_encoder.proofs.OnLiterals.{writing_on_literals, x}
 

@@ -1,20 +1,14 @@
 -- Worked envelopes, alone and in a session, computed by the definitions.
-use Rattle.std.proofs.Common.{◌≡◌, ℕ, List, [], ◌∷◌, ◌++◌, map, refl, Result, Ok, Err}
-use Rattle.std.specs.List.{repeat}
-use Rattle.std.specs.Prelude.{codes}
-use Rattle.nbfx_values.specs.Limits.{Limits, limits}
-use Rattle.nbfx_values.specs.declared.content.Item.{Item}
-use Rattle.nbfx_values.specs.declared.scalars.Scalar.TheVariants.{QName}
-use Rattle.nbfx_values.specs.declared.session.Kind.TheVariants.{Session}
-use Rattle.nbfx_values.specs.declared.session.Mode.{Mode}
-use Rattle.nbfx_values.specs.declared.session.Mode.TheVariants.{Singleton, Duplex, Simplex}
-use Rattle.nbfx_encoder.specs.declared.sender.SendState.{SendState}
+use Rattle.std.proofs.Common.{◌≡◌, ℕ, List, [], ◌∷◌, ◌++◌, map, Ok, Err, codes, Result, refl}
+use Rattle.{std.specs.List.repeat, nbfx_values.specs.Limits.Limits, nbfx_values.specs.Limits.limits}
+use Rattle.nbfx_values.specs.declared.{content.Item.Item, scalars.Scalar.TheVariants.QName}
+use Rattle.nbfx_values.specs.declared.session.{Kind.TheVariants.Session, Mode.Mode}
+use Rattle.nbfx_values.specs.declared.session.Mode.TheVariants.{Duplex, Simplex, Singleton}
+use Rattle.nbfx_encoder.specs.declared.sender.{SendState.SendState, Side.Side}
 use Rattle.nbfx_encoder.specs.declared.sender.SendState.TheVariants.{Ready, Spent}
-use Rattle.nbfx_encoder.specs.declared.sender.Side.{Side}
 use Rattle.nbfx_encoder.specs.declared.sender.Side.TheVariants.{Initiator, Receiver}
-use Rattle.nbfx_encoder.specs.Envelopes.{UnfitAt, envelope, envelopes_from}
-use Rattle.nbfx_encoder.specs.Placing.{Placed}
-use Rattle.nbfx_encoder.specs.Sending.{behind_message, first_state}
+use Rattle.nbfx_encoder.specs.Envelopes.{envelope, envelopes_from, UnfitAt}
+use Rattle.nbfx_encoder.specs.{Placing.Placed, Sending.behind_message, Sending.first_state}
 use Rattle.nbfx_encoder.specs.Spelling.{too_much, unnamed}
 use Rattle.nbfx_encoder.proofs.OnLiterals.{table_of, text, writing_on_literals, x}
 

@@ -1,12 +1,9 @@
 -- Worked names, and the order in which they are placed, computed by the definitions.
-use Rattle.std.proofs.Common.{ℕ, List, [], ◌∷◌, ◌++◌, refl}
-use Rattle.std.specs.List.{repeat}
-use Rattle.std.specs.Prelude.{codes, pos}
-use Rattle.nbfx_values.specs.declared.content.ArrayKind.TheVariants.{Int32}
-use Rattle.nbfx_values.specs.declared.content.Item.{Item}
-use Rattle.nbfx_values.specs.declared.content.Item.TheVariants.{Start, Xmlns, Attr, Array, Close}
-use Rattle.nbfx_values.specs.declared.scalars.Scalar.TheVariants.{Number, Text as TextOf, QName}
-use Rattle.nbfx_values.specs.declared.scalars.Value.TheVariants.{One}
+use Rattle.std.proofs.Common.{ℕ, List, [], ◌∷◌, ◌++◌, pos, codes, refl}
+use Rattle.{std.specs.List.repeat, nbfx_values.specs.declared.scalars.Value.TheVariants.One}
+use Rattle.nbfx_values.specs.declared.content.{ArrayKind.TheVariants.Int32, Item.Item}
+use Rattle.nbfx_values.specs.declared.content.Item.TheVariants.{Array, Attr, Close, Start, Xmlns}
+use Rattle.nbfx_values.specs.declared.scalars.Scalar.TheVariants.{Number, QName, Text as TextOf}
 use Rattle.nbfx_encoder.proofs.OnLiterals.{AreChosen, ArePlain, Row, text, writing_on_literals, x}
 
 -- what has a name

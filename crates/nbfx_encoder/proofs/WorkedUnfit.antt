@@ -1,19 +1,14 @@
 -- Worked documents that don't fit, and ones that just do, computed by the definitions.
-use Rattle.std.proofs.Common.{◌≡◌, ℕ, List, [], ◌∷◌, ◌++◌, map, refl, Result, Ok, Err}
-use Rattle.std.specs.List.{repeat}
-use Rattle.std.specs.Prelude.{codes, pos}
-use Rattle.nbfx_values.specs.Limits.{Limits, limits}
-use Rattle.nbfx_values.specs.declared.content.ArrayKind.TheVariants.{Int32}
+use Rattle.std.proofs.Common.{◌≡◌, ℕ, List, [], ◌∷◌, ◌++◌, map, pos, Ok, Err, codes, Result, refl}
+use Rattle.{std.specs.List.repeat, nbfx_encoder.specs.Placing.Placed}
+use Rattle.nbfx_values.specs.declared.content.{ArrayKind.TheVariants.Int32, Item.Item}
 use Rattle.nbfx_values.specs.declared.content.AttrItem.TheVariants.{Attr as PartAttr}
-use Rattle.nbfx_values.specs.declared.content.Item.{Item}
-use Rattle.nbfx_values.specs.declared.content.Item.TheVariants.{Start, Attr, Text, Array, Close}
-use Rattle.nbfx_values.specs.declared.scalars.Scalar.{Scalar}
-use Rattle.nbfx_values.specs.declared.scalars.Scalar.TheVariants.{Number, Text as TextOf, QName}
-use Rattle.nbfx_values.specs.declared.scalars.Value.TheVariants.{One, List as ListOf}
-use Rattle.nbfx_values.specs.declared.session.Kind.{Kind}
-use Rattle.nbfx_values.specs.declared.session.Kind.TheVariants.{Plain, Session}
-use Rattle.nbfx_encoder.specs.Placing.{Placed}
-use Rattle.nbfx_encoder.specs.Spelling.{Unfit, encoded, too_deep, too_large, too_much, unnamed}
+use Rattle.nbfx_values.specs.declared.content.Item.TheVariants.{Array, Attr, Close, Start, Text}
+use Rattle.nbfx_values.specs.{declared.scalars.Scalar.Scalar, Limits.Limits, Limits.limits}
+use Rattle.nbfx_values.specs.declared.scalars.Scalar.TheVariants.{Number, QName, Text as TextOf}
+use Rattle.nbfx_values.specs.declared.scalars.Value.TheVariants.{List as ListOf, One}
+use Rattle.nbfx_values.specs.declared.session.Kind.{Kind, TheVariants.Plain, TheVariants.Session}
+use Rattle.nbfx_encoder.specs.Spelling.{encoded, too_deep, too_large, too_much, Unfit, unnamed}
 use Rattle.nbfx_encoder.proofs.OnLiterals.{table_of, text, writing_on_literals, x}
 
 -- limits on the payload, the depth, the dictionary and the content

@@ -1,15 +1,12 @@
 -- Worked values in their chosen spelling, computed by the definitions.
-use Rattle.std.proofs.Common.{ℕ, ℤ, List, [], ◌∷◌, map, true, false, refl}
-use Rattle.std.specs.List.{repeat}
-use Rattle.std.specs.Prelude.{codes, pos, negsuc}
-use Rattle.nbfx_values.specs.declared.content.Item.TheVariants.{Attr, Text, Comment}
-use Rattle.nbfx_values.specs.declared.scalars.Scalar.TheVariants.{Number, Truth, Float, Double}
-use Rattle.nbfx_values.specs.declared.scalars.Scalar.TheVariants.{Decimal, DateTime, TimeSpan}
-use Rattle.nbfx_values.specs.declared.scalars.Scalar.TheVariants.{Text as TextOf, Bytes, UniqueId}
-use Rattle.nbfx_values.specs.declared.scalars.Scalar.TheVariants.{Uuid}
+use Rattle.std.proofs.Common.{ℕ, true, false, List, [], ◌∷◌, map, ℤ, pos, negsuc, codes, refl}
+use Rattle.{std.specs.List.repeat, nbfx_encoder.proofs.OnLiterals.x}
+use Rattle.nbfx_values.specs.declared.content.Item.TheVariants.{Attr, Comment, Text}
+use Rattle.nbfx_values.specs.declared.scalars.Scalar.TheVariants.{Bytes, DateTime, Decimal, Double}
+use Rattle.nbfx_values.specs.declared.scalars.Scalar.TheVariants.{Float, Number, Text as TextOf}
+use Rattle.nbfx_values.specs.declared.scalars.Scalar.TheVariants.{TimeSpan, Truth, UniqueId, Uuid}
 use Rattle.nbfx_values.specs.declared.scalars.Value.TheVariants.{List as ListOf}
 use Rattle.nbfx_encoder.proofs.OnLiterals.{AreChosen, AreInside, message, text, writing_on_literals}
-use Rattle.nbfx_encoder.proofs.OnLiterals.{x}
 
 -- a number that is all that an element holds, and its record
 abbrev AreNumbers : List (ℤ × List ℕ) → Type 0

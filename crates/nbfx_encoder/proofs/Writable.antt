@@ -1,23 +1,17 @@
 -- What is spelled may be written.
-use Rattle.std.proofs.Common.{◌≡◌, ℕ, ◌+◌, ◌<◌, ◌^◌, List, [], ◌∷◌, length, true, false, Some, refl}
-use Rattle.std.proofs.Common.{arith}
-use Rattle.std.specs.Prelude.{◌&&◌, IsTrue}
-use Rattle.std.specs.Str.{is_utf8}
-use Rattle.std.proofs.lemmas.Bool.{and_from}
-use Rattle.nbfx_values.specs.Measures.{scalar_content}
+use Rattle.std.proofs.Common.{◌≡◌, ℕ, ◌+◌, ◌^◌, ◌<◌, true, false, ◌&&◌, List, [], ◌∷◌, length}
+use Rattle.std.proofs.{Common.IsTrue, Common.Some, Common.refl, Common.arith, lemmas.Bool.and_from}
+use Rattle.{std.specs.Str.is_utf8, string_tables.specs.StringTable.StringTable}
+use Rattle.nbfx_values.specs.{declared.scalars.Scalar.Scalar, Measures.scalar_content}
 use Rattle.nbfx_values.specs.Scalars.{is_valid_scalar}
-use Rattle.nbfx_values.specs.declared.content.Item.TheVariants as items
-use Rattle.nbfx_values.specs.declared.scalars.Scalar.{Scalar}
-use Rattle.nbfx_values.specs.declared.scalars.Value.TheVariants as values
-use Rattle.string_tables.specs.StringTable.{StringTable}
-use Rattle.nbfx_records.specs.declared.nodes.Node.TheVariants as nodes
-use Rattle.nbfx_records.specs.declared.nodes.RawScalar.{RawScalar}
-use Rattle.nbfx_records.specs.declared.nodes.RawValue.TheVariants.{One}
-use Rattle.nbfx_records.specs.Valid.{fit_names, fits_raw, is_valid_raw}
 use Rattle.nbfx_records.proofs.WritableFacts.{said_may_be_written}
-use Rattle.nbfx_encoder.specs.Placing.{Placed, Writing, place, spell_scalar}
-use Rattle.nbfx_encoder.specs.Sound.{IsSound}
-use Rattle.nbfx_encoder.proofs.Saying.{placed_says, scalar_says}
+use Rattle.nbfx_records.specs.declared.nodes.{RawScalar.RawScalar, RawValue.TheVariants.One}
+use Rattle.nbfx_records.specs.Valid.{fit_names, fits_raw, is_valid_raw}
+use Rattle.nbfx_encoder.specs.Placing.{place, Placed, spell_scalar, Writing}
+use Rattle.nbfx_encoder.{specs.Sound.IsSound, proofs.Saying.placed_says, proofs.Saying.scalar_says}
+use Rattle.nbfx_values.specs.declared.content.Item.TheVariants as items
+use Rattle.nbfx_values.specs.declared.scalars.Value.TheVariants as values
+use Rattle.nbfx_records.specs.declared.nodes.Node.TheVariants as nodes
 
 -- a value
 pub scalar_may : (w : Writing) (table : StringTable) (scalar : Scalar) (placed : Placed RawScalar)

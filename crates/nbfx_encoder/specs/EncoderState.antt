@@ -1,18 +1,11 @@
 -- What a writer of payloads is set to, and what its identifiers name.
-use Rattle.std.specs.Prelude.{◌≡◌, ⊤, ℕ, List, ◌++◌, length, take, Result, Ok, Err}
-use Rattle.nbfx_values.specs.Limits.{Limits}
-use Rattle.nbfx_values.specs.QuotasOf.{limits_of}
-use Rattle.nbfx_values.specs.declared.session.Kind.{Kind}
-use Rattle.string_tables.specs.StringTable.{StringTable}
-use Rattle.session_dictionary.specs.Marks.{IsMarkOf}
-use Rattle.nbfx_encoder.specs.declared.encoder.Encoder.{Encoder}
-use Rattle.nbfx_encoder.specs.declared.encoder.Prepared.{Prepared}
-use Rattle.nbfx_encoder.specs.declared.faults.EncodeFault.{EncodeFault}
+use Rattle.std.specs.Prelude.{◌≡◌, ℕ, List, ◌++◌, length, take, Ok, Err, Result, ⊤}
+use Rattle.{string_tables.specs.StringTable.StringTable, session_dictionary.specs.Marks.IsMarkOf}
+use Rattle.nbfx_values.specs.{declared.session.Kind.Kind, Limits.Limits, QuotasOf.limits_of}
+use Rattle.nbfx_encoder.specs.declared.encoder.{Encoder.Encoder, Prepared.Prepared}
+use Rattle.nbfx_encoder.specs.{declared.faults.EncodeFault.EncodeFault, Refusals.told}
+use Rattle.nbfx_encoder.specs.{Inside.names_of, Placing.Placed, Spelling.Unfit}
 use Rattle.nbfx_encoder.specs.declared.faults.EncodeFault.TheVariants as faults
-use Rattle.nbfx_encoder.specs.Inside.{names_of}
-use Rattle.nbfx_encoder.specs.Placing.{Placed}
-use Rattle.nbfx_encoder.specs.Refusals.{told}
-use Rattle.nbfx_encoder.specs.Spelling.{Unfit}
 
 -- its quotas, and whether its payloads bring strings
 unfoldable pub limits_in : Encoder → Limits

@@ -1,16 +1,11 @@
 -- Payloads in their envelopes (MC-NMF), one behind the other.
-use Rattle.std.specs.Prelude.{ℕ, ◌+◌, List, [], ◌∷◌, ◌++◌, length, Result, Ok, Err}
-use Rattle.nbfx_values.specs.Limits.{Limits}
-use Rattle.nbfx_values.specs.declared.content.Item.{Item}
-use Rattle.nbfx_values.specs.declared.session.Kind.{Kind}
-use Rattle.nbfx_values.specs.declared.session.Mode.{Mode}
-use Rattle.nbfx_values.specs.declared.session.Mode.TheVariants.{Singleton}
-use Rattle.string_tables.specs.StringTable.{StringTable}
+use Rattle.std.specs.Prelude.{ℕ, ◌+◌, List, [], ◌∷◌, ◌++◌, length, Ok, Err, Result}
+use Rattle.{string_tables.specs.StringTable.StringTable, nmf_records.specs.Writing.frame_bytes_of}
+use Rattle.nbfx_values.specs.{declared.content.Item.Item, Limits.Limits}
+use Rattle.nbfx_values.specs.declared.session.{Kind.Kind, Mode.Mode, Mode.TheVariants.Singleton}
 use Rattle.nmf_records.specs.declared.frame.Frame.TheVariants.{Chunk, SizedEnvelope}
 use Rattle.nmf_records.specs.declared.frame.Frame.TheVariants.{UnsizedEnvelope}
-use Rattle.nmf_records.specs.Writing.{frame_bytes_of}
-use Rattle.nbfx_encoder.specs.Placing.{Placed}
-use Rattle.nbfx_encoder.specs.Spelling.{Unfit, encoded}
+use Rattle.nbfx_encoder.specs.{Placing.Placed, Spelling.encoded, Spelling.Unfit}
 
 -- What stands before a payload of so many bytes, and behind it. In singleton mode it is one chunk.
 abbrev pub envelope_head : Mode → ℕ → List ℕ

@@ -1,22 +1,16 @@
 -- What a speller stands for, and what its parts answer.
-use Rattle.std.specs.Prelude.{◌≡◌, ◌≤◌, ⊤, ℕ, List, ◌∷◌, ◌++◌, drop, flat_map, length, Option, Some}
-use Rattle.std.specs.Prelude.{None, Result, Ok, Err}
-use Rattle.string_tables.specs.SessionStrings.{used_cost}
-use Rattle.string_tables.specs.StringTable.{StringTable}
-use Rattle.nbfx_encoder.specs.declared.speller.Speller.{Speller}
-use Rattle.nbfx_encoder.specs.declared.speller.SpellFault.{SpellFault}
-use Rattle.nbfx_encoder.specs.declared.speller.SpellFault.TheVariants.{Unnamed, Memory}
-use Rattle.nbfx_records.specs.declared.nodes.RawScalar.{RawScalar}
-use Rattle.nbfx_records.specs.declared.put_values.ScalarChoice.{ScalarChoice}
-use Rattle.nbfx_records.specs.Choices.{choice_seen}
-use Rattle.nbfx_values.specs.declared.content.Item.{Item}
-use Rattle.nbfx_records.specs.declared.nodes.Node.{Node}
-use Rattle.nbfx_records.specs.Chosen.{chosen_bytes}
-use Rattle.nbfx_encoder.specs.declared.faults.EncodeFault.{EncodeFault}
-use Rattle.nbfx_encoder.specs.declared.faults.EncodeFault.TheVariants as faults
-use Rattle.nbfx_encoder.specs.Refusals.{told}
-use Rattle.nbfx_encoder.specs.Spelling.{Said, Unfit, in_records, items_said, spell_said}
+use Rattle.std.specs.Prelude.{◌≡◌, ℕ, ◌≤◌, List, ◌∷◌, ◌++◌, length, drop, Some, None, Ok, Err}
+use Rattle.std.specs.Prelude.{Option, Result, flat_map, ⊤}
+use Rattle.string_tables.specs.{SessionStrings.used_cost, StringTable.StringTable}
+use Rattle.{nbfx_values.specs.declared.content.Item.Item, nbfx_records.specs.Chosen.chosen_bytes}
+use Rattle.nbfx_records.specs.declared.nodes.{Node.Node, RawScalar.RawScalar}
+use Rattle.nbfx_records.specs.{declared.put_values.ScalarChoice.ScalarChoice, Choices.choice_seen}
+use Rattle.nbfx_encoder.specs.{declared.faults.EncodeFault.EncodeFault, Refusals.told}
+use Rattle.nbfx_encoder.specs.declared.speller.{SpellFault.SpellFault, Speller.Speller}
+use Rattle.nbfx_encoder.specs.declared.speller.SpellFault.TheVariants.{Memory, Unnamed}
 use Rattle.nbfx_encoder.specs.Placing.{Placed, Writing}
+use Rattle.nbfx_encoder.specs.Spelling.{in_records, items_said, Said, spell_said, Unfit}
+use Rattle.nbfx_encoder.specs.declared.faults.EncodeFault.TheVariants as faults
 
 -- what it is set to
 abbrev pub writing_of : Speller → Writing

@@ -1,17 +1,12 @@
 -- What holds of the chosen spelling by the definitions alone.
-use Rattle.std.specs.Prelude.{◌≡◌, ◌↔◌, ℕ, ◌+◌, ◌≤◌, List, [], ◌∷◌, ◌++◌, length, Ok}
-use Rattle.nbfx_values.specs.Documents.{IsDocument}
-use Rattle.nbfx_values.specs.Limits.{IsGood, Limits}
-use Rattle.nbfx_values.specs.declared.content.Item.{Item}
-use Rattle.nbfx_values.specs.declared.session.Kind.{Kind}
-use Rattle.string_tables.specs.SessionStrings.{used_cost}
+use Rattle.std.specs.Prelude.{◌≡◌, ℕ, ◌+◌, ◌≤◌, ◌↔◌, List, [], ◌∷◌, ◌++◌, length, Ok}
+use Rattle.string_tables.specs.{SessionStrings.used_cost, StringTable.StringTable}
 use Rattle.string_tables.specs.StaticStrings.{IsStaticMap}
-use Rattle.string_tables.specs.StringTable.{StringTable}
-use Rattle.nbfx_values.specs.declared.session.Mode.{Mode}
+use Rattle.nbfx_values.specs.declared.{content.Item.Item, session.Kind.Kind, session.Mode.Mode}
+use Rattle.nbfx_values.specs.{Documents.IsDocument, Limits.IsGood, Limits.Limits}
 use Rattle.nbfx_encoder.specs.Envelopes.{behind_bytes, envelope_then, envelopes_from}
-use Rattle.nbfx_encoder.specs.Placing.{Placed}
-use Rattle.nbfx_encoder.specs.ReadBack.{AdmitsAsMuch, IsRead}
-use Rattle.nbfx_encoder.specs.Spelling.{Fits, encoded}
+use Rattle.nbfx_encoder.specs.{Placing.Placed, ReadBack.AdmitsAsMuch, ReadBack.IsRead}
+use Rattle.nbfx_encoder.specs.Spelling.{encoded, Fits}
 
 -- What is written of a document that fits is a payload of it, within the limits of any reader that
 -- admits as much, and leaves the table that was chosen.

@@ -1,29 +1,23 @@
 -- How a writer spells names and values, where the session's strings so far are given: what is
 -- written,
 -- and the strings behind it.
-use Rattle.std.specs.Prelude.{ℕ, ◌+◌, ◌*◌, List, [], ◌∷◌, Bool, true, false, ◌&&◌, nat_le, length}
-use Rattle.std.specs.Prelude.{Option, Some, None, if◌then◌else◌}
-use Rattle.std.specs.Option.{option_map, option_and_then}
-use Rattle.nbfx_values.specs.declared.content.ArrayItem.{ArrayItem}
-use Rattle.nbfx_values.specs.declared.content.AttrItem.{AttrItem}
-use Rattle.nbfx_values.specs.declared.content.AttrItem.TheVariants as attributes
-use Rattle.nbfx_values.specs.declared.scalars.Scalar.{Scalar}
-use Rattle.nbfx_values.specs.declared.scalars.Scalar.TheVariants as scalars
-use Rattle.nbfx_values.specs.declared.scalars.Value.{Value}
-use Rattle.nbfx_values.specs.declared.scalars.Value.TheVariants as values
-use Rattle.nbfx_values.specs.declared.session.Kind.{Kind}
-use Rattle.nbfx_values.specs.declared.session.Kind.TheVariants.{Plain, Session}
+use Rattle.std.specs.Prelude.{ℕ, ◌+◌, ◌*◌, Bool, true, false, ◌&&◌, List, [], ◌∷◌, length}
+use Rattle.std.specs.Prelude.{if◌then◌else◌, nat_le, Some, None, Option, option_map}
+use Rattle.std.specs.Prelude.{option_and_then}
 use Rattle.string_tables.specs.SessionStrings.{cost, used_cost}
-use Rattle.string_tables.specs.StringTable.{StringTable, chosen_id, with_strings}
-use Rattle.nbfx_records.specs.declared.nodes.NameRef.{NameRef}
-use Rattle.nbfx_records.specs.declared.nodes.NameRef.TheVariants.{Inline, Id}
-use Rattle.nbfx_records.specs.declared.nodes.RawScalar.{RawScalar}
-use Rattle.nbfx_records.specs.declared.nodes.RawScalar.TheVariants.{Known, Dictionary, QName}
-use Rattle.nbfx_records.specs.declared.nodes.RawValue.{RawValue}
-use Rattle.nbfx_records.specs.declared.nodes.RawValue.TheVariants.{One, List as ListOf}
-use Rattle.nbfx_records.specs.declared.nodes.AttrNode.{AttrNode}
+use Rattle.string_tables.specs.StringTable.{chosen_id, StringTable, with_strings}
+use Rattle.nbfx_values.specs.declared.content.{ArrayItem.ArrayItem, AttrItem.AttrItem}
+use Rattle.nbfx_values.specs.declared.scalars.{Scalar.Scalar, Value.Value}
+use Rattle.nbfx_values.specs.declared.session.Kind.{Kind, TheVariants.Plain, TheVariants.Session}
+use Rattle.nbfx_records.specs.declared.nodes.{ArrayNode.ArrayNode, AttrNode.AttrNode}
+use Rattle.nbfx_records.specs.declared.nodes.NameRef.{NameRef, TheVariants.Id, TheVariants.Inline}
+use Rattle.nbfx_records.specs.declared.nodes.{RawScalar.RawScalar, RawValue.RawValue}
+use Rattle.nbfx_records.specs.declared.nodes.RawScalar.TheVariants.{Dictionary, Known, QName}
+use Rattle.nbfx_records.specs.declared.nodes.RawValue.TheVariants.{List as ListOf, One}
+use Rattle.nbfx_values.specs.declared.content.AttrItem.TheVariants as attributes
+use Rattle.nbfx_values.specs.declared.scalars.Scalar.TheVariants as scalars
+use Rattle.nbfx_values.specs.declared.scalars.Value.TheVariants as values
 use Rattle.nbfx_records.specs.declared.nodes.AttrNode.TheVariants as attribute_nodes
-use Rattle.nbfx_records.specs.declared.nodes.ArrayNode.{ArrayNode}
 
 -- whether payloads bring strings, and what all of a direction may cost
 pub record Writing : Type 0 where

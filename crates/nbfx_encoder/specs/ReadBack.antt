@@ -1,12 +1,9 @@
 -- What a reader has of a payload that was written for it.
 use Rattle.std.specs.Prelude.{◌≡◌, ℕ, ◌≤◌, List, ◌++◌}
-use Rattle.nbfx_values.specs.Limits.{Limits}
-use Rattle.nbfx_values.specs.declared.content.Item.{Item}
-use Rattle.nbfx_values.specs.declared.session.Kind.{Kind}
-use Rattle.nbfx_values.specs.declared.session.Mode.{Mode}
 use Rattle.string_tables.specs.StringTable.{StringTable, with_strings}
+use Rattle.nbfx_values.specs.declared.{content.Item.Item, session.Kind.Kind, session.Mode.Mode}
+use Rattle.{nbfx_values.specs.Limits.Limits, nbfx_encoder.specs.Envelopes.envelope}
 use Rattle.nbfx_records.specs.Payloads.{IsPayload, IsWithin}
-use Rattle.nbfx_encoder.specs.Envelopes.{envelope}
 
 -- limits that admit as much as others
 pub record AdmitsAsMuch (reader writer : Limits) : Type 0 where

@@ -1,23 +1,16 @@
 -- A sending half: when it may send, and what it has sent.
-use Rattle.std.specs.Prelude.{◌≡◌, ⊤, List, ℕ, ◌++◌, Result, Ok}
-use Rattle.nbfx_values.specs.Limits.{Limits}
-use Rattle.nbfx_values.specs.declared.session.Kind.{Kind}
-use Rattle.nbfx_values.specs.declared.session.Mode.{Mode}
-use Rattle.nbfx_values.specs.declared.session.Mode.TheVariants.{Singleton, Simplex}
-use Rattle.string_tables.specs.StringTable.{StringTable}
-use Rattle.nbfx_encoder.specs.declared.sender.SendFault.{SendFault}
-use Rattle.nbfx_encoder.specs.declared.sender.SendFault.TheVariants.{WrongMoment, Refused}
-use Rattle.nbfx_encoder.specs.declared.sender.SendState.{SendState}
-use Rattle.nbfx_encoder.specs.declared.sender.SendState.TheVariants.{Ready, Spent, Closed}
-use Rattle.nbfx_encoder.specs.declared.sender.Sender.{Sender}
-use Rattle.nbfx_encoder.specs.declared.sender.Side.{Side}
+use Rattle.std.specs.Prelude.{◌≡◌, ℕ, List, ◌++◌, Ok, Result, ⊤}
+use Rattle.{string_tables.specs.StringTable.StringTable, nbfx_encoder.specs.Envelopes.envelope}
+use Rattle.nbfx_values.specs.{declared.session.Kind.Kind, declared.session.Mode.Mode, Limits.Limits}
+use Rattle.nbfx_values.specs.declared.session.Mode.TheVariants.{Simplex, Singleton}
+use Rattle.nbfx_encoder.specs.declared.sender.{SendFault.SendFault, Side.Side}
+use Rattle.nbfx_encoder.specs.declared.sender.SendFault.TheVariants.{Refused, WrongMoment}
+use Rattle.nbfx_encoder.specs.declared.sender.{SendState.SendState, Sender.Sender}
+use Rattle.nbfx_encoder.specs.declared.sender.SendState.TheVariants.{Closed, Ready, Spent}
 use Rattle.nbfx_encoder.specs.declared.sender.Side.TheVariants.{Initiator, Receiver}
-use Rattle.nbfx_encoder.specs.Envelopes.{envelope}
-use Rattle.nbfx_encoder.specs.Placing.{Placed}
-use Rattle.nbfx_encoder.specs.Spelling.{Unfit}
-use Rattle.nbfx_encoder.specs.EncoderState.{Refuses, kind_in as encoder_kind_in}
-use Rattle.nbfx_encoder.specs.EncoderState.{limits_in as encoder_limits_in}
-use Rattle.nbfx_encoder.specs.EncoderState.{names_in as encoder_names_in}
+use Rattle.nbfx_encoder.specs.{EncoderState.kind_in as encoder_kind_in, Placing.Placed}
+use Rattle.nbfx_encoder.specs.{EncoderState.limits_in as encoder_limits_in, Spelling.Unfit}
+use Rattle.nbfx_encoder.specs.EncoderState.{names_in as encoder_names_in, Refuses}
 
 -- what it is set to, where it is in its session, and what its identifiers name
 unfoldable pub limits_in : Sender → Limits

@@ -1,9 +1,7 @@
 -- Tables that a writer goes on with.
-use Rattle.std.specs.Prelude.{◌≤◌, ◌^◌}
-use Rattle.string_tables.specs.SessionStrings.{used_cost}
-use Rattle.string_tables.specs.StaticStrings.{IsStaticMap}
-use Rattle.string_tables.specs.StringTable.{StringTable}
-use Rattle.nbfx_encoder.specs.Placing.{Writing}
+use Rattle.std.specs.Prelude.{◌^◌, ◌≤◌}
+use Rattle.string_tables.specs.{SessionStrings.used_cost, StringTable.StringTable}
+use Rattle.{string_tables.specs.StaticStrings.IsStaticMap, nbfx_encoder.specs.Placing.Writing}
 
 -- a table that a writer goes on with
 pub record IsSound (w : Writing) (table : StringTable) : Type 0 where

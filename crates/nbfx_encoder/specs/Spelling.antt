@@ -1,22 +1,18 @@
 -- The spelling of a document that a writer chooses (MC-NBFX, MC-NBFS, and MC-NBFSE where payloads
 -- bring
 -- strings): one fold over its items, which carries the session's strings on.
-use Rattle.std.specs.Prelude.{◌≡◌, ℕ, ◌+◌, ◌≤◌, List, [], ◌∷◌, ◌++◌, true, false, length, drop}
-use Rattle.std.specs.Prelude.{flat_map, nat_lt, Option, Some, None, Result, Ok, Err, if◌then◌else◌}
-use Rattle.std.specs.Option.{option_map}
-use Rattle.nbfx_values.specs.Limits.{Limits}
-use Rattle.nbfx_values.specs.Measures.{capped, content_of, depth_of}
-use Rattle.nbfx_values.specs.declared.content.Item.{Item}
-use Rattle.nbfx_values.specs.declared.content.Item.TheVariants.{Start, Xmlns, Attr, Text, Comment}
-use Rattle.nbfx_values.specs.declared.content.Item.TheVariants.{Array, Close}
-use Rattle.nbfx_values.specs.declared.scalars.Value.{Value}
-use Rattle.nbfx_values.specs.declared.session.Kind.{Kind}
-use Rattle.nbfx_values.specs.declared.session.Kind.TheVariants.{Plain, Session}
+use Rattle.std.specs.Prelude.{◌≡◌, ℕ, ◌+◌, ◌≤◌, true, false, List, [], ◌∷◌, ◌++◌, length, drop}
+use Rattle.std.specs.Prelude.{if◌then◌else◌, nat_lt, Some, None, Ok, Err, Option, Result}
+use Rattle.std.specs.Prelude.{option_map, flat_map}
 use Rattle.string_tables.specs.StringTable.{StringTable}
-use Rattle.nbfx_records.specs.declared.nodes.Node.{Node}
+use Rattle.nbfx_values.specs.declared.content.Item.{Item, TheVariants.Text, TheVariants.Xmlns}
+use Rattle.nbfx_values.specs.declared.content.Item.TheVariants.{Array, Attr, Close, Comment, Start}
+use Rattle.nbfx_values.specs.{declared.scalars.Value.Value, Limits.Limits}
+use Rattle.nbfx_values.specs.declared.session.Kind.{Kind, TheVariants.Plain, TheVariants.Session}
+use Rattle.nbfx_values.specs.Measures.{capped, content_of, depth_of}
+use Rattle.nbfx_records.specs.{declared.nodes.Node.Node, Chosen.chosen_bytes, Chosen.table_bytes}
+use Rattle.nbfx_encoder.specs.Placing.{place, Placed, spell_array, spell_value, Writing}
 use Rattle.nbfx_records.specs.declared.nodes.Node.TheVariants as nodes
-use Rattle.nbfx_records.specs.Chosen.{chosen_bytes, table_bytes}
-use Rattle.nbfx_encoder.specs.Placing.{Placed, Writing, place, spell_array, spell_value}
 
 -- what one record says: an item, or a text and the end of the element that it is last in
 pub data Said : Type 0 where

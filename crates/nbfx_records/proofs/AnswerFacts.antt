@@ -1,21 +1,16 @@
 -- What the structure of a record and its contents make of the bytes.
 use Rattle.std.proofs.Common.{◌≡◌, ℕ, ◌<◌, List, [], ◌++◌, length, Ok, Err, sym, ap, ◌∙◌, subst}
-use Rattle.std.proofs.Common.{arith}
-use Rattle.std.proofs.lemmas.List.{append-nil}
-use Rattle.unit_streams.specs.Front.{Front, begun, whole, wrong}
-use Rattle.unit_streams.specs.Parts.{further, judged_whole, judged}
-use Rattle.nbfx_records.specs.declared.cursor.Stop.{Stop}
-use Rattle.nbfx_records.specs.declared.cursor.Stop.TheVariants as stops
-use Rattle.nbfx_records.specs.declared.nodes.Node.{Node}
-use Rattle.nbfx_records.specs.declared.nodes.RecordFault.{RecordFault}
-use Rattle.nbfx_records.specs.declared.nodes.NodePlace.{NodePlace}
+use Rattle.std.proofs.Common.{append-nil, arith}
+use Rattle.unit_streams.specs.Front.{begun, Front, whole, wrong}
+use Rattle.unit_streams.specs.Parts.{further, judged, judged_whole}
+use Rattle.nbfx_records.specs.declared.{cursor.Stop.Stop, nodes.RecordFault.RecordFault}
+use Rattle.nbfx_records.specs.declared.nodes.{Node.Node, NodePlace.NodePlace}
 use Rattle.nbfx_records.specs.Answers.{StopsBy, WaitsFor}
-use Rattle.nbfx_records.specs.Contents.{contents}
+use Rattle.nbfx_records.specs.{Contents.contents, RecordAtFront.node_at}
+use Rattle.nbfx_records.specs.{Cursor.IsWhole, Cursor.Stops, Shapes.Shape, Shapes.shape_at}
+use Rattle.nbfx_records.proofs.CursorFacts.{further_begun, further_whole, further_wrong}
+use Rattle.nbfx_records.specs.declared.cursor.Stop.TheVariants as stops
 use Rattle.nbfx_records.specs.Asked as asked
-use Rattle.nbfx_records.specs.Cursor.{IsWhole, Stops}
-use Rattle.nbfx_records.specs.RecordAtFront.{node_at}
-use Rattle.nbfx_records.specs.Shapes.{Shape, shape_at}
-use Rattle.nbfx_records.proofs.CursorFacts.{further_whole, further_begun, further_wrong}
 
 module _ (place : NodePlace) (bytes : List ℕ) where
   -- of all that is there

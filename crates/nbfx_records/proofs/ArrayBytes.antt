@@ -1,45 +1,35 @@
 -- An array that is read is one that stands there, and the other way round.
-use Rattle.std.proofs.Common.{◌≡◌, ℕ, zero, suc, ◌*◌, ◌<◌, ◌≤◌, List, [], ◌∷◌, ◌++◌, length, take}
-use Rattle.std.proofs.Common.{drop, Bool, true, false, Option, Some, None, refl, sym, ap, ◌∙◌}
-use Rattle.std.proofs.Common.{subst, arith, inl, inr, append_assoc, length-append, length-drop}
-use Rattle.std.specs.Prelude.{◌==◌, ◌&&◌, ◌%◌, if◌then◌else◌}
-use Rattle.std.specs.List.{list_all}
-use Rattle.std.specs.Option.{option_map, option_and_then}
-use Rattle.std.specs.Str.{is_utf8}
-use Rattle.std.proofs.lemmas.Bool.{and_parts, and_from, eqb-false, eqb-true, ne_eqb, cases_lt}
-use Rattle.std.proofs.lemmas.Bool.{agree_below_at}
-use Rattle.std.proofs.lemmas.List.{nil_from_length, length-take-le, take-append-drop}
-use Rattle.std.proofs.Math.Seq.{take-append_seam, drop-append_seam}
-use Rattle.unit_streams.specs.Parts.{more, stop, AreMany}
+use Rattle.std.proofs.Common.{◌≡◌, ℕ, zero, suc, ◌*◌, ◌%◌, ◌<◌, ◌≤◌, Bool, true, false, ◌&&◌, List}
+use Rattle.std.proofs.Common.{[], ◌∷◌, ◌++◌, length, take, drop, if◌then◌else◌, ◌==◌, Some, None}
+use Rattle.std.proofs.Common.{Option, option_map, option_and_then, sym, refl, ap, ◌∙◌, subst, inl}
+use Rattle.std.proofs.Common.{inr, append_assoc, arith, length-append, length-drop}
+use Rattle.std.proofs.Common.{take-append-drop, length-take-le, ne_eqb, eqb-true}
+use Rattle.std.proofs.Math.Seq.{drop-append_seam, take-append_seam}
+use Rattle.std.proofs.lemmas.Bool.{agree_below_at, and_from, and_parts, cases_lt, eqb-false}
+use Rattle.std.{proofs.lemmas.List.nil_from_length, specs.List.list_all, specs.Str.is_utf8}
+use Rattle.unit_streams.specs.Parts.{AreMany, more, stop}
 use Rattle.multibyte_ints.specs.Integer.{Spells}
-use Rattle.nbfx_values.specs.declared.content.ArrayKind.{ArrayKind}
-use Rattle.nbfx_values.specs.declared.content.ArrayKind.TheVariants as arrays
-use Rattle.nbfx_values.specs.declared.scalars.Scalar.{Scalar}
-use Rattle.nbfx_records.specs.declared.nodes.RawScalar.TheVariants.{Known}
-use Rattle.nbfx_records.specs.declared.nodes.AttrNode.{AttrNode}
-use Rattle.nbfx_records.specs.declared.nodes.ArrayNode.{ArrayNode}
-use Rattle.nbfx_records.specs.declared.kinds.RecordKind.{RecordKind}
-use Rattle.nbfx_records.specs.declared.kinds.Body.{Body}
-use Rattle.nbfx_records.specs.declared.kinds.Body.TheVariants.{Fixed}
-use Rattle.nbfx_records.specs.declared.kinds.RecordKind.TheVariants as records
-use Rattle.nbfx_records.specs.Kinds.{record_kind, body_of, array_kind_of, text_kind, array_kind}
+use Rattle.nbfx_values.specs.declared.{content.ArrayKind.ArrayKind, scalars.Scalar.Scalar}
+use Rattle.nbfx_records.specs.declared.kinds.Body.{Body, TheVariants.Fixed}
+use Rattle.nbfx_records.specs.{declared.kinds.RecordKind.RecordKind, Records.SpellsAs}
+use Rattle.nbfx_records.specs.declared.nodes.{ArrayNode.ArrayNode, AttrNode.AttrNode}
+use Rattle.nbfx_records.specs.{declared.nodes.RawScalar.TheVariants.Known, TypeBytes.text_byte}
+use Rattle.nbfx_records.specs.Contents.{array_of, attribute_is_text, attribute_value, cells, each}
+use Rattle.nbfx_records.specs.Contents.{is_chars, is_text, name_is_text, scalar_of}
+use Rattle.nbfx_records.specs.Kinds.{array_kind, array_kind_of, body_of, record_kind, text_kind}
 use Rattle.nbfx_records.specs.Kinds.{text_kind_in, width_of}
-use Rattle.nbfx_records.specs.Shapes.{bytes_of, AttributeShape, ArrayShape, repeats, NamedShape}
-use Rattle.nbfx_records.specs.Shapes.{CellsShape, cells_shape, array_shape}
-use Rattle.nbfx_records.specs.Contents.{scalar_of, is_chars, name_is_text, attribute_is_text}
-use Rattle.nbfx_records.specs.Contents.{attribute_value, each, cells, array_of, is_text}
-use Rattle.nbfx_records.specs.Records.{SpellsAs, AreAttrNodes, array_byte, AreCells, IsElement}
-use Rattle.nbfx_records.specs.Records.{IsArray}
-use Rattle.nbfx_records.proofs.PartBytes.{BodyIs, ScalarIs}
-use Rattle.nbfx_records.proofs.ShapeBytes.{ArrayPartIs, IsArrayTurn, ElementOf, CellsAre, CellsOf}
-use Rattle.nbfx_records.proofs.ShapeBytes.{ArrayIs}
-use Rattle.nbfx_records.specs.TypeBytes.{text_byte}
+use Rattle.nbfx_records.specs.Records.{AreAttrNodes, AreCells, array_byte, IsArray, IsElement}
+use Rattle.nbfx_records.specs.Shapes.{array_shape, ArrayShape, AttributeShape, bytes_of}
+use Rattle.nbfx_records.specs.Shapes.{cells_shape, CellsShape, NamedShape, repeats}
+use Rattle.nbfx_records.proofs.AttributeBytes.{element_back, element_there, part_back, part_there}
+use Rattle.nbfx_records.proofs.{AttributeBytes.PartIs, ScalarParts.of_fixed, ShapeBytes.IsArrayTurn}
 use Rattle.nbfx_records.proofs.KindBytes.{byte_is, no_text_above}
-use Rattle.nbfx_records.proofs.ScalarBytes.{spelled_there, spelled_back}
-use Rattle.nbfx_records.proofs.ScalarParts.{of_fixed}
-use Rattle.nbfx_records.proofs.ValueBytes.{mapped_some, bound_some}
-use Rattle.nbfx_records.proofs.AttributeBytes.{PartIs, part_there, part_back, element_there}
-use Rattle.nbfx_records.proofs.AttributeBytes.{element_back}
+use Rattle.nbfx_records.proofs.PartBytes.{BodyIs, ScalarIs}
+use Rattle.nbfx_records.proofs.ScalarBytes.{spelled_back, spelled_there}
+use Rattle.nbfx_records.proofs.ShapeBytes.{ArrayIs, ArrayPartIs, CellsAre, CellsOf, ElementOf}
+use Rattle.nbfx_records.proofs.ValueBytes.{bound_some, mapped_some}
+use Rattle.nbfx_values.specs.declared.content.ArrayKind.TheVariants as arrays
+use Rattle.nbfx_records.specs.declared.kinds.RecordKind.TheVariants as records
 
 -- a value of an array has so many bytes
 cell_body : (kind : ArrayKind) → body_of (text_kind_in kind) ≡ Fixed (width_of kind)

@@ -1,34 +1,27 @@
 -- Attributes, declarations and elements that are read are those that stand there, and the other way
 -- round.
-use Rattle.std.proofs.Common.{◌≡◌, ℕ, List, ◌∷◌, ◌++◌, Bool, true, false, Some, refl, sym, ap, ◌∙◌}
-use Rattle.std.proofs.Common.{subst, append_assoc}
-use Rattle.std.specs.Prelude.{◌&&◌}
-use Rattle.std.specs.Option.{option_map}
-use Rattle.std.specs.Str.{is_utf8}
-use Rattle.std.proofs.lemmas.Bool.{and_parts, and_from}
-use Rattle.nbfx_records.specs.declared.nodes.NameRef.{NameRef}
-use Rattle.nbfx_records.specs.declared.nodes.NameRef.TheVariants.{Inline, Id}
-use Rattle.nbfx_records.specs.declared.nodes.AttrNode.{AttrNode}
-use Rattle.nbfx_records.specs.declared.nodes.AttrNode.TheVariants as attribute_nodes
-use Rattle.nbfx_records.specs.declared.kinds.PrefixForm.{PrefixForm}
-use Rattle.nbfx_records.specs.declared.kinds.NameForm.{NameForm}
-use Rattle.nbfx_records.specs.declared.kinds.RecordKind.{RecordKind}
-use Rattle.nbfx_records.specs.declared.kinds.PrefixForm.TheVariants.{Unprefixed, Lettered, Prefixed}
-use Rattle.nbfx_records.specs.declared.kinds.NameForm.TheVariants.{Inlined, Identified}
-use Rattle.nbfx_records.specs.declared.kinds.RecordKind.TheVariants as records
-use Rattle.nbfx_records.specs.Kinds.{record_kind}
-use Rattle.nbfx_records.specs.Shapes.{AttributeShape, attributes, declares, NamedShape, named_shape}
-use Rattle.nbfx_records.specs.Contents.{name_is_text, value_is_text, attribute_is_text, shape_value}
-use Rattle.nbfx_records.specs.Contents.{attribute_value}
-use Rattle.nbfx_records.specs.Records.{IsAttributeHead, IsDeclarationHead, IsElementHead, IsElement}
-use Rattle.nbfx_records.specs.Records.{IsAttrNode}
-use Rattle.nbfx_records.proofs.PartBytes.{PrefixIs, NameIs}
-use Rattle.nbfx_records.proofs.ShapeBytes.{AttributeIs, DeclarationIs, ElementIs}
+use Rattle.std.proofs.Common.{◌≡◌, ℕ, Bool, true, false, ◌&&◌, List, ◌∷◌, ◌++◌, Some, option_map}
+use Rattle.std.proofs.Common.{sym, refl, ap, ◌∙◌, subst, append_assoc}
+use Rattle.std.{proofs.lemmas.Bool.and_from, proofs.lemmas.Bool.and_parts, specs.Str.is_utf8}
+use Rattle.nbfx_records.specs.declared.kinds.{NameForm.NameForm, PrefixForm.PrefixForm}
+use Rattle.nbfx_records.specs.declared.kinds.NameForm.TheVariants.{Identified, Inlined}
+use Rattle.nbfx_records.specs.declared.kinds.PrefixForm.TheVariants.{Lettered, Prefixed, Unprefixed}
+use Rattle.nbfx_records.specs.declared.{kinds.RecordKind.RecordKind, nodes.AttrNode.AttrNode}
+use Rattle.nbfx_records.specs.declared.nodes.NameRef.{NameRef, TheVariants.Id, TheVariants.Inline}
+use Rattle.nbfx_records.specs.Contents.{attribute_is_text, attribute_value, name_is_text}
+use Rattle.nbfx_records.specs.Contents.{shape_value, value_is_text}
+use Rattle.nbfx_records.specs.{Kinds.record_kind, Records.IsElementHead}
+use Rattle.nbfx_records.specs.Records.{IsAttributeHead, IsAttrNode, IsDeclarationHead, IsElement}
+use Rattle.nbfx_records.specs.Shapes.{attributes, AttributeShape, declares, named_shape, NamedShape}
 use Rattle.nbfx_records.specs.TypeBytes.{byte_of, form_of, is_kind}
 use Rattle.nbfx_records.proofs.KindBytes.{byte_is, kind_of_byte}
-use Rattle.nbfx_records.proofs.ValueBytes.{mapped_some, value_there, value_back}
-use Rattle.nbfx_records.proofs.NameBytes.{name_there, name_back, head_byte, is_form, head_there}
-use Rattle.nbfx_records.proofs.NameBytes.{head_only_there, IsReadHead, head_back, head_only_back}
+use Rattle.nbfx_records.proofs.NameBytes.{head_back, head_byte, head_only_back, head_only_there}
+use Rattle.nbfx_records.proofs.NameBytes.{head_there, is_form, IsReadHead, name_back, name_there}
+use Rattle.nbfx_records.proofs.PartBytes.{NameIs, PrefixIs}
+use Rattle.nbfx_records.proofs.ShapeBytes.{AttributeIs, DeclarationIs, ElementIs}
+use Rattle.nbfx_records.proofs.ValueBytes.{mapped_some, value_back, value_there}
+use Rattle.nbfx_records.specs.declared.nodes.AttrNode.TheVariants as attribute_nodes
+use Rattle.nbfx_records.specs.declared.kinds.RecordKind.TheVariants as records
 
 -- a prefix that is read of these bytes, behind the type byte of a record of a family
 pub record IsBegun (family : PrefixForm → RecordKind) (prefix bytes : List ℕ) : Type 0 where

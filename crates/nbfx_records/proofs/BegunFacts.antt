@@ -1,33 +1,26 @@
 -- The parts of a record whose kind is known stand behind its type byte.
-use Rattle.std.proofs.Common.{◌≡◌, ◌≤◌, length, ℕ, List, [], ◌∷◌, get_or, Bool, Option, Some, None}
-use Rattle.std.proofs.Common.{Result, Ok, Err, refl, sym, ap, ◌∙◌, subst}
-use Rattle.std.specs.Prelude.{IfNone, slice_get}
-use Rattle.unit_streams.specs.Parts.{Reader, a_byte, seen}
-use Rattle.nbfx_records.specs.declared.cursor.Stop.{Stop}
-use Rattle.nbfx_records.specs.declared.kinds.RecordKind.{RecordKind}
-use Rattle.nbfx_records.specs.declared.kinds.RecordKind.TheVariants as records
-use Rattle.nbfx_records.specs.declared.kinds.TextKind.{TextKind}
-use Rattle.nbfx_records.specs.declared.kinds.TextKind.TheVariants as texts
-use Rattle.nbfx_records.specs.declared.kinds.PrefixForm.{PrefixForm}
-use Rattle.nbfx_records.specs.declared.kinds.NameForm.{NameForm}
-use Rattle.nbfx_records.specs.declared.nodes.RecordFault.{RecordFault}
-use Rattle.nbfx_records.specs.declared.nodes.NodePlace.{NodePlace}
-use Rattle.nbfx_records.specs.declared.nodes.NodePlace.TheVariants.{BeforeRoot, Within, AfterRoot}
-use Rattle.nbfx_records.specs.declared.attributes.AttributePart.{AttributePart}
-use Rattle.nbfx_records.specs.declared.attributes.ValuePart.TheVariants.{One}
-use Rattle.nbfx_records.specs.declared.parts.NamedPart.{NamedPart}
-use Rattle.nbfx_records.specs.declared.parts.ScalarPart.{ScalarPart}
-use Rattle.nbfx_records.specs.declared.records.RecordPart.TheVariants as parts
-use Rattle.nbfx_records.specs.Asked as asked
+use Rattle.std.proofs.Common.{◌≡◌, ℕ, ◌≤◌, Bool, List, [], ◌∷◌, length, get_or, IfNone, slice_get}
+use Rattle.std.proofs.Common.{Some, None, Ok, Err, Option, Result, sym, refl, ap, ◌∙◌, subst}
+use Rattle.unit_streams.specs.Parts.{a_byte, Reader, seen}
+use Rattle.nbfx_records.specs.declared.{attributes.AttributePart.AttributePart, cursor.Stop.Stop}
+use Rattle.nbfx_records.specs.{declared.attributes.ValuePart.TheVariants.One, Kinds.record_kind}
+use Rattle.nbfx_records.specs.declared.kinds.{NameForm.NameForm, PrefixForm.PrefixForm}
+use Rattle.nbfx_records.specs.declared.kinds.{RecordKind.RecordKind, TextKind.TextKind}
+use Rattle.nbfx_records.specs.declared.nodes.{NodePlace.NodePlace, RecordFault.RecordFault}
+use Rattle.nbfx_records.specs.declared.nodes.NodePlace.TheVariants.{AfterRoot, BeforeRoot, Within}
+use Rattle.nbfx_records.specs.declared.parts.{NamedPart.NamedPart, ScalarPart.ScalarPart}
 use Rattle.nbfx_records.specs.Beginning.{BeginsKind, MayStand}
 use Rattle.nbfx_records.specs.Cursor.{IsWhole, Tells}
-use Rattle.nbfx_records.specs.Kinds.{record_kind}
-use Rattle.nbfx_records.specs.Shapes.{Shape, NamedShape, ScalarShape, adds, attribute_at}
-use Rattle.nbfx_records.specs.Shapes.{begins_element, declaration_at, element_at, ends_element}
-use Rattle.nbfx_records.specs.Shapes.{has_text, misplaced, one, placed, record_at, scalar_at}
-use Rattle.nbfx_records.specs.Shapes.{shape_at, content_at, unless_misplaced}
+use Rattle.nbfx_records.specs.Shapes.{adds, attribute_at, begins_element, content_at}
+use Rattle.nbfx_records.specs.Shapes.{declaration_at, element_at, ends_element, has_text, misplaced}
+use Rattle.nbfx_records.specs.Shapes.{NamedShape, one, placed, record_at, scalar_at, ScalarShape}
+use Rattle.nbfx_records.specs.Shapes.{Shape, shape_at, unless_misplaced}
 use Rattle.nbfx_records.specs.Views.{attribute_seen, named_seen, record_seen, scalar_seen}
 use Rattle.nbfx_records.proofs.CursorFacts.{given_tells, seen_stops, seen_tells, then_tells}
+use Rattle.nbfx_records.specs.declared.kinds.RecordKind.TheVariants as records
+use Rattle.nbfx_records.specs.declared.kinds.TextKind.TheVariants as texts
+use Rattle.nbfx_records.specs.declared.records.RecordPart.TheVariants as parts
+use Rattle.nbfx_records.specs.Asked as asked
 
 -- what may come is read by its kind
 placed_is : (place : NodePlace) (kind : RecordKind) → misplaced place kind ≡ None

@@ -1,14 +1,11 @@
 -- What makes a thing of parts wrong: a part of it, once those before are whole.
-use Rattle.std.proofs.Common.{◌≡◌, ℕ, zero, suc, ◌+◌, ◌≤◌, List, [], ◌∷◌, length, drop, Option}
-use Rattle.std.proofs.Common.{Some, None, refl, sym, ap, ◌∙◌, subst, inl, inr, arith, length-drop}
-use Rattle.std.proofs.Common.{◌⊎◌}
-use Rattle.std.specs.Prelude.{◌↔◌}
-use Rattle.std.proofs.lemmas.List.{drop-drop}
-use Rattle.unit_streams.specs.Front.{Front, begun, whole, wrong, ReadsFront}
-use Rattle.unit_streams.specs.Parts.{Reader, refuse, a_byte, further, ◌>>=◌, seen, Turn, more, stop}
-use Rattle.unit_streams.specs.Parts.{with_first, many}
-use Rattle.unit_streams.proofs.Parts.{then_begun, then_wrong, then_whole}
-use Rattle.unit_streams.proofs.Fronts.{whole_some}
+use Rattle.std.proofs.Common.{◌≡◌, ℕ, zero, suc, ◌+◌, ◌≤◌, ◌⊎◌, ◌↔◌, List, [], ◌∷◌, length, drop}
+use Rattle.std.proofs.Common.{Some, None, Option, sym, refl, ap, ◌∙◌, subst, inl, inr, arith}
+use Rattle.std.proofs.Common.{length-drop, drop-drop}
+use Rattle.unit_streams.{proofs.Fronts.whole_some, specs.Parts.with_first, specs.Parts.◌>>=◌}
+use Rattle.unit_streams.proofs.Parts.{then_begun, then_whole, then_wrong}
+use Rattle.unit_streams.specs.Front.{begun, Front, ReadsFront, whole, wrong}
+use Rattle.unit_streams.specs.Parts.{a_byte, further, many, more, Reader, refuse, seen, stop, Turn}
 use Rattle.nbfx_records.specs.declared.nodes.RecordFault.{RecordFault}
 use Rattle.nbfx_records.specs.Causes.{Behind, BehindMany, BehindThese, Caused, IsRefused}
 use Rattle.nbfx_records.specs.Causes.{IsWrongPart, Now, Part, type_refused}

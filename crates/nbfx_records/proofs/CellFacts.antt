@@ -1,25 +1,17 @@
 -- The values of an array, one after the other.
-use Rattle.std.proofs.Common.{◌≡◌, ℕ, suc, ◌+◌, ◌*◌, ◌<◌, ◌≤◌, List, [], ◌∷◌, ◌++◌, length, take}
-use Rattle.std.proofs.Common.{drop, true, Option, Some, None, Ok, Err, refl, sym, ap, ◌∙◌, subst}
-use Rattle.std.proofs.Common.{arith, length-drop}
-use Rattle.std.proofs.Common.{◌-◌}
-use Rattle.std.proofs.lemmas.List.{append-nil}
-use Rattle.std.specs.Prelude.{◌||◌, not}
-use Rattle.std.specs.Option.{option_map, option_and_then}
-use Rattle.std.specs.Str.{is_utf8}
+use Rattle.std.proofs.Common.{◌≡◌, ℕ, suc, ◌+◌, ◌-◌, ◌*◌, ◌<◌, ◌≤◌, true, not, ◌||◌, List, [], ◌∷◌}
+use Rattle.std.proofs.Common.{◌++◌, length, take, drop, Some, None, Ok, Err, Option, option_map}
+use Rattle.std.proofs.Common.{option_and_then, sym, refl, ap, ◌∙◌, subst, append-nil, arith}
+use Rattle.std.{proofs.Common.length-drop, specs.Str.is_utf8}
 use Rattle.nbfx_values.specs.declared.scalars.Scalar.{Scalar}
-use Rattle.nbfx_records.specs.declared.nodes.RecordFault.{RecordFault}
-use Rattle.nbfx_records.specs.declared.nodes.RecordFault.TheVariants as faults
-use Rattle.nbfx_records.specs.declared.nodes.NodeFault.{NodeFault}
-use Rattle.nbfx_records.specs.declared.nodes.NodeFault.TheVariants.{Record, Memory}
-use Rattle.nbfx_records.specs.declared.kinds.TextKind.{TextKind}
+use Rattle.nbfx_records.specs.{declared.kinds.TextKind.TextKind, Judged.Makes}
+use Rattle.nbfx_records.specs.declared.nodes.{NodeFault.NodeFault, RecordFault.RecordFault}
+use Rattle.nbfx_records.specs.declared.nodes.NodeFault.TheVariants.{Memory, Record}
+use Rattle.nbfx_records.specs.Contents.{cell_values, cells_judged, judge, known_judged, led}
+use Rattle.nbfx_records.specs.{Contents.scalar_of, Shapes.CellsShape}
 use Rattle.nbfx_records.specs.Kinds.{text_kind_in, width_of}
-use Rattle.nbfx_records.specs.Shapes.{CellsShape}
-use Rattle.nbfx_records.specs.Contents.{scalar_of, judge, known_judged, cell_values, cells_judged}
-use Rattle.nbfx_records.specs.Contents.{led}
-use Rattle.nbfx_records.specs.Judged.{Makes}
-use Rattle.nbfx_records.proofs.ArrayBytes.{cell_plain}
-use Rattle.nbfx_records.proofs.JudgedFacts.{led_led}
+use Rattle.nbfx_records.proofs.{ArrayBytes.cell_plain, JudgedFacts.led_led}
+use Rattle.nbfx_records.specs.declared.nodes.RecordFault.TheVariants as faults
 
 -- so many values were made, and the others are in these bytes
 pub record AreLeft (shape : CellsShape) (done : ℕ) (rest : List ℕ) (values : List Scalar) : Type 0

@@ -1,16 +1,13 @@
 -- The value of UTF-8 characters.
-use Rattle.std.proofs.Common.{◌≡◌, ℕ, List, Bool, true, false, Some, Ok}
-use Rattle.std.specs.Prelude.{IsTrue}
+use Rattle.std.proofs.Common.{◌≡◌, ℕ, Bool, true, false, List, IsTrue, Some, Ok}
 use Rattle.std.specs.Str.{is_utf8}
-use Rattle.nbfx_values.specs.declared.scalars.Scalar.TheVariants as scalars
-use Rattle.nbfx_records.specs.declared.kinds.TextKind.{TextKind}
-use Rattle.nbfx_records.specs.declared.kinds.TextKind.TheVariants as texts
-use Rattle.nbfx_records.specs.declared.nodes.Node.{Node}
-use Rattle.nbfx_records.specs.declared.nodes.Node.TheVariants as nodes
-use Rattle.nbfx_records.specs.declared.nodes.RawScalar.TheVariants.{Known}
-use Rattle.nbfx_records.specs.declared.nodes.RawValue.TheVariants.{One}
+use Rattle.nbfx_records.specs.declared.{kinds.TextKind.TextKind, nodes.RawValue.TheVariants.One}
+use Rattle.nbfx_records.specs.declared.nodes.{Node.Node, RawScalar.TheVariants.Known}
 use Rattle.nbfx_records.specs.Contents.{contents, is_chars, judge, scalar_of, text_judged}
 use Rattle.nbfx_records.specs.Shapes.{bytes_of, has_text, one}
+use Rattle.nbfx_values.specs.declared.scalars.Scalar.TheVariants as scalars
+use Rattle.nbfx_records.specs.declared.kinds.TextKind.TheVariants as texts
+use Rattle.nbfx_records.specs.declared.nodes.Node.TheVariants as nodes
 
 abbrev pub node_of_text : Bool → List ℕ → Node
 node_of_text ends text = nodes.Text (One (Known (scalars.Text text))) ends

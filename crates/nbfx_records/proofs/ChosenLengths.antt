@@ -1,73 +1,53 @@
 -- No record of a node is shorter than the one that is chosen, unless it has a text in UTF-16.
-use Rattle.std.proofs.Common.{◌≡◌, ℕ, suc, ◌+◌, ◌*◌, ◌^◌, ◌<◌, ◌≤◌, List, [], ◌∷◌, ◌++◌, length}
-use Rattle.std.proofs.Common.{take, drop, Bool, true, false, Option, Some, None, refl, sym, ap, ◌∙◌}
-use Rattle.std.proofs.Common.{subst, inl, inr, arith, length-append}
-use Rattle.std.specs.Prelude.{◌&&◌, not, flat_map}
-use Rattle.std.specs.List.{list_all}
-use Rattle.std.specs.Option.{option_map}
-use Rattle.std.specs.Str.{is_utf8}
+use Rattle.std.proofs.Common.{◌≡◌, ℕ, suc, ◌+◌, ◌*◌, ◌^◌, ◌<◌, ◌≤◌, Bool, true, false, not, ◌&&◌}
+use Rattle.std.proofs.Common.{List, [], ◌∷◌, ◌++◌, length, take, drop, Some, None, Option}
+use Rattle.std.proofs.Common.{option_map, flat_map, sym, refl, ap, ◌∙◌, subst, inl, inr, arith}
+use Rattle.std.proofs.Common.{length-append, take-append-drop, length-take-le, w16, w32, w64}
 use Rattle.std.proofs.lemmas.Bool.{and_parts, cond_both}
-use Rattle.std.proofs.lemmas.List.{length-take-le, take-append-drop}
-use Rattle.std.proofs.lemmas.List.Concat.{flat_map-cons}
-use Rattle.std.proofs.lemmas.List.Folds.{list_all-append}
-use Rattle.unit_streams.specs.Parts.{AreMany}
-use Rattle.multibyte_ints.specs.Integer.{IsBytes, Spells, shortest}
-use Rattle.multibyte_ints.specs.Text.{string_bytes_of}
-use Rattle.nbfx_values.specs.declared.content.ArrayKind.{ArrayKind}
-use Rattle.nbfx_values.specs.declared.content.ArrayKind.TheVariants as arrays
-use Rattle.nbfx_values.specs.declared.scalars.Scalar.{Scalar}
-use Rattle.nbfx_values.specs.declared.scalars.Scalar.TheVariants.{Number, Truth, Float, Double}
-use Rattle.nbfx_values.specs.declared.scalars.Scalar.TheVariants.{Decimal, DateTime, TimeSpan, Uuid}
-use Rattle.std.specs.Int.{w16, w32, w64, cast_signed}
-use Rattle.nbfx_records.specs.declared.kinds.NameForm.{NameForm}
-use Rattle.nbfx_records.specs.declared.kinds.NameForm.TheVariants.{Inlined, Identified}
-use Rattle.nbfx_records.specs.declared.kinds.PrefixForm.{PrefixForm}
-use Rattle.nbfx_records.specs.declared.kinds.PrefixForm.TheVariants.{Unprefixed, Lettered, Prefixed}
-use Rattle.nbfx_records.specs.declared.kinds.RecordKind.{RecordKind}
-use Rattle.nbfx_records.specs.declared.kinds.RecordKind.TheVariants as records
-use Rattle.nbfx_records.specs.declared.kinds.TextKind.{TextKind}
-use Rattle.nbfx_records.specs.declared.kinds.TextKind.TheVariants as texts
-use Rattle.nbfx_records.specs.declared.nodes.ArrayNode.{ArrayNode}
-use Rattle.nbfx_records.specs.declared.nodes.AttrNode.{AttrNode}
-use Rattle.nbfx_records.specs.declared.nodes.AttrNode.TheVariants as attribute_nodes
-use Rattle.nbfx_records.specs.declared.nodes.NameRef.{NameRef}
-use Rattle.nbfx_records.specs.declared.nodes.NameRef.TheVariants.{Inline, Id}
-use Rattle.nbfx_records.specs.declared.nodes.Node.{Node}
-use Rattle.nbfx_records.specs.declared.nodes.Node.TheVariants.{EndElement, Comment, Array, Element}
-use Rattle.nbfx_records.specs.declared.nodes.Node.TheVariants.{Text}
-use Rattle.nbfx_records.specs.declared.nodes.NodePlace.{NodePlace}
-use Rattle.nbfx_records.specs.declared.nodes.RawScalar.TheVariants.{Known}
-use Rattle.nbfx_records.specs.declared.nodes.RawValue.TheVariants.{One, List as ListOf}
+use Rattle.std.proofs.lemmas.List.{Concat.flat_map-cons, Folds.list_all-append}
+use Rattle.std.specs.{Int.cast_signed, List.list_all, Str.is_utf8}
+use Rattle.{unit_streams.specs.Parts.AreMany, multibyte_ints.specs.Text.string_bytes_of}
+use Rattle.multibyte_ints.specs.Integer.{IsBytes, shortest, Spells}
+use Rattle.nbfx_values.specs.declared.{content.ArrayKind.ArrayKind, scalars.Scalar.Scalar}
+use Rattle.nbfx_values.specs.declared.scalars.Scalar.TheVariants.{DateTime, Decimal, Double, Float}
+use Rattle.nbfx_values.specs.declared.scalars.Scalar.TheVariants.{Number, TimeSpan, Truth, Uuid}
+use Rattle.nbfx_records.specs.declared.kinds.{NameForm.NameForm, PrefixForm.PrefixForm}
+use Rattle.nbfx_records.specs.declared.kinds.NameForm.TheVariants.{Identified, Inlined}
+use Rattle.nbfx_records.specs.declared.kinds.PrefixForm.TheVariants.{Lettered, Prefixed, Unprefixed}
+use Rattle.nbfx_records.specs.declared.kinds.{RecordKind.RecordKind, TextKind.TextKind}
+use Rattle.nbfx_records.specs.declared.nodes.{ArrayNode.ArrayNode, AttrNode.AttrNode}
+use Rattle.nbfx_records.specs.declared.nodes.NameRef.{NameRef, TheVariants.Id, TheVariants.Inline}
+use Rattle.nbfx_records.specs.declared.nodes.Node.{Node, TheVariants.Text}
+use Rattle.nbfx_records.specs.declared.nodes.Node.TheVariants.{Array, Comment, Element, EndElement}
+use Rattle.nbfx_records.specs.declared.nodes.{NodePlace.NodePlace, RawScalar.TheVariants.Known}
+use Rattle.nbfx_records.specs.declared.nodes.RawValue.TheVariants.{List as ListOf, One}
 use Rattle.nbfx_records.specs.Causes.{scalars_in, scalars_of_attribute}
 use Rattle.nbfx_records.specs.Chosen.{array_bytes, cell_bytes, chosen_bytes, counted_cells}
 use Rattle.nbfx_records.specs.Chosen.{declared_form, element_bytes, is_utf16, name_bytes}
-use Rattle.nbfx_records.specs.Chosen.{part_bytes, prefix_bytes, prefix_form}
-use Rattle.nbfx_records.specs.Chosen.{value_bytes}
+use Rattle.nbfx_records.specs.Chosen.{part_bytes, prefix_bytes, prefix_form, value_bytes}
 use Rattle.nbfx_records.specs.Contents.{array_of, attribute_is_text, attribute_node}
 use Rattle.nbfx_records.specs.Contents.{attribute_value, each, is_text, name_is_text, node_of}
-use Rattle.nbfx_records.specs.Contents.{scalar_value, value_is_text, shape_value}
-use Rattle.nbfx_records.specs.Kinds.{record_kind, text_kind_in}
-use Rattle.nbfx_records.specs.Laws.{ChosenIsShortest}
-use Rattle.nbfx_records.specs.Records.{AreCells, SpellsAs}
-use Rattle.nbfx_records.specs.Shapes.{ArrayShape, AttributeShape, NamedShape, Shape}
-use Rattle.nbfx_records.specs.Shapes.{adds, one}
-use Rattle.nbfx_records.specs.Shapes.{repeats, several}
+use Rattle.nbfx_records.specs.Contents.{scalar_value, shape_value, value_is_text}
+use Rattle.nbfx_records.specs.{Kinds.record_kind, Kinds.text_kind_in, Laws.ChosenIsShortest}
+use Rattle.nbfx_records.specs.{Records.AreCells, Records.SpellsAs, Shapes.several, Shapes.Shape}
+use Rattle.nbfx_records.specs.Shapes.{adds, ArrayShape, AttributeShape, NamedShape, one, repeats}
 use Rattle.nbfx_records.specs.TypeBytes.{is_kind, is_letter}
 use Rattle.nbfx_records.proofs.ArrayBytes.{array_says, one_there}
-use Rattle.nbfx_records.proofs.AttributeBytes.{PartIs, attribute_form, declaration_form}
-use Rattle.nbfx_records.proofs.AttributeBytes.{element_form}
+use Rattle.nbfx_records.proofs.AttributeBytes.{attribute_form, declaration_form, element_form}
+use Rattle.nbfx_records.proofs.{AttributeBytes.PartIs, KindBytes.byte_is}
 use Rattle.nbfx_records.proofs.ChosenShort.{fixed_length, shortest_least, sixteen_length}
-use Rattle.nbfx_records.proofs.KindBytes.{byte_is}
-use Rattle.nbfx_records.proofs.NameBytes.{is_form}
-use Rattle.nbfx_records.proofs.NodeBytes.{contents_parts}
-use Rattle.nbfx_records.proofs.ScalarBytes.{decimal_size}
-use Rattle.nbfx_records.proofs.ShapeBytes.{ArrayIs, ElementIs, ElementOf, IsArrayTurn}
-use Rattle.nbfx_records.proofs.ShapeBytes.{PlacedIs, RecordIs, TextIs, just_shape}
+use Rattle.nbfx_records.proofs.{NameBytes.is_form, NodeBytes.contents_parts}
 use Rattle.nbfx_records.proofs.PartBytes.{IsRawString, NameIs, PrefixIs}
+use Rattle.nbfx_records.proofs.{ScalarBytes.decimal_size, ValueLengths.value_long}
+use Rattle.nbfx_records.proofs.ShapeBytes.{ArrayIs, ElementIs, ElementOf, IsArrayTurn, just_shape}
+use Rattle.nbfx_records.proofs.ShapeBytes.{PlacedIs, RecordIs, TextIs}
 use Rattle.nbfx_records.proofs.ValidFacts.{bytes_front, bytes_rest, known_inj}
 use Rattle.nbfx_records.proofs.ValueBytes.{bound_some, mapped_some}
-use Rattle.nbfx_records.proofs.ValueLengths.{Plain, bytes_tail, scalar_long, items_long, list_long}
-use Rattle.nbfx_records.proofs.ValueLengths.{value_long}
+use Rattle.nbfx_records.proofs.ValueLengths.{bytes_tail, items_long, list_long, Plain, scalar_long}
+use Rattle.nbfx_values.specs.declared.content.ArrayKind.TheVariants as arrays
+use Rattle.nbfx_records.specs.declared.kinds.RecordKind.TheVariants as records
+use Rattle.nbfx_records.specs.declared.kinds.TextKind.TheVariants as texts
+use Rattle.nbfx_records.specs.declared.nodes.AttrNode.TheVariants as attribute_nodes
 
 -- prefixes and names
 raw_long : (s bytes : List ℕ) → IsRawString s bytes → length (string_bytes_of s) ≤ length bytes

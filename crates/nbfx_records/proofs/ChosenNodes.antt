@@ -1,63 +1,47 @@
 -- The record that is chosen for a node is one of the node.
-use Rattle.std.proofs.Common.{◌≡◌, ℕ, List, [], ◌∷◌, ◌++◌, length, Bool, true, false, refl, sym}
-use Rattle.std.proofs.Common.{inl, inr, arith, append_assoc}
-use Rattle.std.proofs.Math.Facts.{Fits-of_z}
-use Rattle.std.specs.Prelude.{◌^◌, nat_lt, ◌&&◌, flat_map}
-use Rattle.std.specs.Int.{w16, w32, w64, cast_unsigned}
-use Rattle.std.specs.List.{list_all}
-use Rattle.std.specs.Str.{is_utf8}
-use Rattle.std.proofs.lemmas.Bool.{and_parts, cond_both, ltb-true}
-use Rattle.std.proofs.lemmas.List.Concat.{flat_map-cons}
-use Rattle.multibyte_ints.specs.Integer.{shortest}
-use Rattle.multibyte_ints.specs.Text.{string_bytes_of}
+use Rattle.std.proofs.Common.{◌≡◌, ℕ, ◌^◌, Bool, true, false, ◌&&◌, List, [], ◌∷◌, ◌++◌, length}
+use Rattle.std.proofs.Common.{nat_lt, flat_map, sym, refl, inl, inr, append_assoc, arith, w16, w32}
+use Rattle.std.proofs.{Common.w64, Common.ltb-true, Math.Facts.Fits-of_z}
+use Rattle.std.proofs.lemmas.{Bool.and_parts, Bool.cond_both, List.Concat.flat_map-cons}
+use Rattle.std.specs.{Int.cast_unsigned, List.list_all, Str.is_utf8}
 use Rattle.multibyte_ints.proofs.ShortestLaws.{shortest_spells}
-use Rattle.nbfx_values.specs.Items.{fits_kind}
-use Rattle.nbfx_values.specs.Scalars.{is_unsigned}
-use Rattle.nbfx_values.specs.declared.content.ArrayKind.{ArrayKind}
-use Rattle.nbfx_values.specs.declared.content.ArrayKind.TheVariants as arrays
-use Rattle.nbfx_values.specs.declared.scalars.Scalar.{Scalar}
-use Rattle.nbfx_values.specs.declared.scalars.Scalar.TheVariants.{Number, Truth, Float, Double}
-use Rattle.nbfx_values.specs.declared.scalars.Scalar.TheVariants.{Decimal, DateTime, TimeSpan, Uuid}
-use Rattle.nbfx_records.specs.declared.kinds.NameForm.{NameForm}
-use Rattle.nbfx_records.specs.declared.kinds.PrefixForm.{PrefixForm}
-use Rattle.nbfx_records.specs.declared.kinds.PrefixForm.TheVariants.{Unprefixed, Lettered, Prefixed}
-use Rattle.nbfx_records.specs.declared.kinds.RecordKind.TheVariants as records
-use Rattle.nbfx_records.specs.declared.nodes.ArrayNode.{ArrayNode}
-use Rattle.nbfx_records.specs.declared.nodes.AttrNode.{AttrNode}
-use Rattle.nbfx_records.specs.declared.nodes.AttrNode.TheVariants as attribute_nodes
-use Rattle.nbfx_records.specs.declared.nodes.NameRef.{NameRef}
-use Rattle.nbfx_records.specs.declared.nodes.NameRef.TheVariants.{Inline, Id}
-use Rattle.nbfx_records.specs.declared.nodes.Node.{Node}
-use Rattle.nbfx_records.specs.declared.nodes.Node.TheVariants.{EndElement, Comment, Array}
-use Rattle.nbfx_records.specs.declared.nodes.Node.TheVariants.{Attribute, Xmlns, Element, Text}
-use Rattle.nbfx_records.specs.declared.nodes.RawScalar.{RawScalar}
-use Rattle.nbfx_records.specs.declared.nodes.RawScalar.TheVariants.{Known}
-use Rattle.nbfx_records.specs.declared.nodes.RawValue.{RawValue}
-use Rattle.nbfx_records.specs.declared.nodes.RawValue.TheVariants.{One, List as ListOf}
+use Rattle.multibyte_ints.specs.{Integer.shortest, Text.string_bytes_of}
+use Rattle.nbfx_values.specs.declared.{content.ArrayKind.ArrayKind, scalars.Scalar.Scalar}
+use Rattle.nbfx_values.specs.declared.scalars.Scalar.TheVariants.{DateTime, Decimal, Double, Float}
+use Rattle.nbfx_values.specs.declared.scalars.Scalar.TheVariants.{Number, TimeSpan, Truth, Uuid}
+use Rattle.nbfx_values.specs.{Items.fits_kind, Scalars.is_unsigned}
+use Rattle.nbfx_records.specs.declared.kinds.{NameForm.NameForm, PrefixForm.PrefixForm}
+use Rattle.nbfx_records.specs.declared.kinds.PrefixForm.TheVariants.{Lettered, Prefixed, Unprefixed}
+use Rattle.nbfx_records.specs.declared.nodes.{ArrayNode.ArrayNode, Node.Node}
+use Rattle.nbfx_records.specs.declared.nodes.{AttrNode.AttrNode, RawValue.RawValue}
+use Rattle.nbfx_records.specs.declared.nodes.NameRef.{NameRef, TheVariants.Id, TheVariants.Inline}
+use Rattle.nbfx_records.specs.declared.nodes.Node.TheVariants.{Array, Attribute, Comment, Element}
+use Rattle.nbfx_records.specs.declared.nodes.Node.TheVariants.{EndElement, Text, Xmlns}
+use Rattle.nbfx_records.specs.declared.nodes.RawScalar.{RawScalar, TheVariants.Known}
+use Rattle.nbfx_records.specs.declared.nodes.RawValue.TheVariants.{List as ListOf, One}
 use Rattle.nbfx_records.specs.Chosen.{array_bytes, attribute_bytes, cell_bytes, chosen_bytes}
 use Rattle.nbfx_records.specs.Chosen.{chosen_scalar, decimal_body, declaration_bytes, declared_form}
 use Rattle.nbfx_records.specs.Chosen.{element_bytes, name_bytes, part_bytes, prefix_bytes}
 use Rattle.nbfx_records.specs.Chosen.{prefix_form, scalar_bytes, value_bytes}
-use Rattle.nbfx_records.specs.Kinds.{text_kind_in}
-use Rattle.nbfx_records.specs.Laws.{ChosenIsRead}
-use Rattle.nbfx_records.specs.Records.{AreAttrNodes, AreCells, IsArray, IsAttribute, IsAttrNode}
-use Rattle.nbfx_records.specs.Records.{IsDeclaration, IsElement, IsName, IsNode, SpellsAs}
-use Rattle.nbfx_records.specs.Records.{SpellScalars, SpellsScalar, SpellsValue, array_byte}
+use Rattle.nbfx_records.specs.{Kinds.text_kind_in, Laws.ChosenIsRead, Valid.is_valid_text}
+use Rattle.nbfx_records.specs.Records.{AreAttrNodes, AreCells, array_byte, IsArray, IsAttribute}
+use Rattle.nbfx_records.specs.Records.{IsAttrNode, IsDeclaration, IsElement, IsName, IsNode}
+use Rattle.nbfx_records.specs.Records.{SpellsAs, SpellScalars, SpellsScalar, SpellsValue}
 use Rattle.nbfx_records.specs.TypeBytes.{byte_of, form_of, is_kind, is_letter, text_byte}
 use Rattle.nbfx_records.specs.Valid.{are_valid_names, fit_names, fits_array, fits_name, fits_node}
 use Rattle.nbfx_records.specs.Valid.{fits_part, fits_raw, fits_text, is_short, is_valid_array}
 use Rattle.nbfx_records.specs.Valid.{is_valid_name, is_valid_node, is_valid_part, is_valid_raw}
-use Rattle.nbfx_records.specs.Valid.{is_valid_text}
 use Rattle.nbfx_records.proofs.AttributeBytes.{attribute_head_there, declaration_head_there}
-use Rattle.nbfx_records.proofs.AttributeBytes.{element_head_there}
-use Rattle.nbfx_records.proofs.ChosenScalars.{bits_32, bits_64, decimal_is, fits_signed}
-use Rattle.nbfx_records.proofs.ChosenScalars.{number_with, number_16, number_32, number_64}
-use Rattle.nbfx_records.proofs.ChosenScalars.{scalar_text, sixteen, span_text}
-use Rattle.nbfx_records.proofs.KindBytes.{kind_of_byte}
-use Rattle.nbfx_records.proofs.NameBytes.{string_there}
-use Rattle.nbfx_records.proofs.NodeBytes.{read_of_all}
-use Rattle.nbfx_records.proofs.ShapeFronts.{node_fronts}
+use Rattle.nbfx_records.proofs.{AttributeBytes.element_head_there, NodeBytes.read_of_all}
+use Rattle.nbfx_records.proofs.ChosenScalars.{bits_32, bits_64, decimal_is, fits_signed, number_16}
+use Rattle.nbfx_records.proofs.ChosenScalars.{number_32, number_64, number_with, scalar_text}
+use Rattle.nbfx_records.proofs.ChosenScalars.{sixteen, span_text}
+use Rattle.nbfx_records.proofs.{KindBytes.kind_of_byte, NameBytes.string_there}
 use Rattle.nbfx_records.proofs.PartBytes.{IsRawString, NameIs, PrefixIs}
+use Rattle.nbfx_records.proofs.ShapeFronts.{node_fronts}
+use Rattle.nbfx_values.specs.declared.content.ArrayKind.TheVariants as arrays
+use Rattle.nbfx_records.specs.declared.kinds.RecordKind.TheVariants as records
+use Rattle.nbfx_records.specs.declared.nodes.AttrNode.TheVariants as attribute_nodes
 
 -- a value and the values of a list
 one_scalar : (value : RawScalar) → is_valid_raw value ≡ true → fits_raw value ≡ true

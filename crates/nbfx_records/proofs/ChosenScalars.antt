@@ -1,39 +1,34 @@
 -- The text record that is chosen for a single value is one of the value.
-use Rattle.std.proofs.Common.{◌≡◌, ℕ, ◌+◌, ◌-◌, ◌*◌, ◌/◌, ◌%◌, ◌^◌, ◌<◌, List, [], ◌∷◌, length}
-use Rattle.std.proofs.Common.{true, false, refl, sym, ap, ◌∙◌, arith, length-append, to_z-of_z}
-use Rattle.std.proofs.Math.Facts.{Fits-of_z}
-use Rattle.std.specs.Prelude.{ℤ, pos, negsuc, nat_le, nat_lt, not, ◌==◌, ◌&&◌, FitsSigned}
-use Rattle.std.specs.Prelude.{unsigned_abs}
-use Rattle.std.specs.Int.{Width, w8, w16, w32, w64, cast_signed, cast_unsigned, to_le_bytes}
-use Rattle.std.specs.Ordering.{int_eq}
-use Rattle.std.specs.Cmp.{signed_Decides}
-use mir.Val.{hbits}
-use Rattle.std.proofs.lemmas.Bool.{and_parts, not-true, cond_both, eqb-true, leb-true, ltb-true}
-use Rattle.std.proofs.lemmas.Bool.{ltb-false}
-use Rattle.std.proofs.lemmas.Nat.{div-add-mod', div_below, mod_below, from_le_bytes-to_le_bytes_2}
+use Rattle.std.proofs.Common.{◌≡◌, ℕ, ◌+◌, ◌-◌, ◌*◌, ◌/◌, ◌%◌, ◌^◌, ◌<◌, true, false, not, ◌&&◌}
+use Rattle.std.proofs.Common.{List, [], ◌∷◌, length, ℤ, pos, negsuc, nat_lt, nat_le, ◌==◌}
+use Rattle.std.proofs.Common.{unsigned_abs, FitsSigned, int_eq, sym, refl, ap, ◌∙◌, div-add-mod'}
+use Rattle.std.proofs.Common.{arith, length-append, to_z-of_z, w8, w16, w32, w64, ltb-false}
+use Rattle.std.proofs.Common.{ltb-true, eqb-true, leb-true}
+use Rattle.std.proofs.{Math.Facts.Fits-of_z, lemmas.Str.IsUtf8-from_is_utf8}
+use Rattle.std.proofs.lemmas.Bool.{and_parts, cond_both, not-true}
+use Rattle.std.proofs.lemmas.Nat.{div_below, from_le_bytes-to_le_bytes_2, mod_below}
 use Rattle.std.proofs.lemmas.Nat.{from_le_bytes-to_le_bytes_4, from_le_bytes-to_le_bytes_8}
-use Rattle.std.proofs.lemmas.Str.{IsUtf8-from_is_utf8}
-use Rattle.std.specs.Str.{is_utf8}
-use Rattle.multibyte_ints.specs.Integer.{Spells, shortest}
+use Rattle.std.specs.{Cmp.signed_Decides, Str.is_utf8}
+use Rattle.std.specs.Int.{Width, cast_signed, cast_unsigned, to_le_bytes}
+use mir.Val.{hbits}
 use Rattle.multibyte_ints.proofs.ShortestLaws.{shortest_spells}
+use Rattle.multibyte_ints.specs.Integer.{shortest, Spells}
+use Rattle.nbfx_values.specs.declared.scalars.{Dec.Dec, Scalar.Scalar}
+use Rattle.nbfx_values.specs.declared.scalars.Scalar.TheVariants.{Bytes, DateTime, Decimal, Double}
+use Rattle.nbfx_values.specs.declared.scalars.Scalar.TheVariants.{Float, Number, QName as NamedBy}
+use Rattle.nbfx_values.specs.declared.scalars.Scalar.TheVariants.{Text as TextOf, TimeSpan, Truth}
+use Rattle.nbfx_values.specs.declared.scalars.Scalar.TheVariants.{UniqueId, Uuid}
 use Rattle.nbfx_values.specs.Scalars.{are_bytes, is_number, is_signed, is_unsigned}
-use Rattle.nbfx_values.specs.declared.scalars.Dec.{Dec}
-use Rattle.nbfx_values.specs.declared.scalars.Scalar.{Scalar}
-use Rattle.nbfx_values.specs.declared.scalars.Scalar.TheVariants.{Number, Truth, Float, Double}
-use Rattle.nbfx_values.specs.declared.scalars.Scalar.TheVariants.{Decimal, DateTime, TimeSpan}
-use Rattle.nbfx_values.specs.declared.scalars.Scalar.TheVariants.{Text as TextOf, Bytes, UniqueId}
-use Rattle.nbfx_values.specs.declared.scalars.Scalar.TheVariants.{Uuid, QName as NamedBy}
-use Rattle.nbfx_records.specs.declared.kinds.LengthForm.{LengthForm}
-use Rattle.nbfx_records.specs.declared.kinds.LengthForm.TheVariants.{OneByte, TwoBytes, FourBytes}
-use Rattle.nbfx_records.specs.declared.kinds.TextKind.TheVariants as texts
-use Rattle.nbfx_records.specs.declared.nodes.RawScalar.{RawScalar}
-use Rattle.nbfx_records.specs.declared.nodes.RawScalar.TheVariants.{Known, Dictionary, QName}
-use Rattle.nbfx_records.specs.Chosen.{TextRecord, binary, characters, chosen_known, chosen_number}
-use Rattle.nbfx_records.specs.Chosen.{chosen_scalar, chosen_text, with_length, counted_body}
-use Rattle.nbfx_records.specs.Chosen.{decimal_body, least_form, signed, sized}
+use Rattle.nbfx_records.specs.declared.{kinds.LengthForm.LengthForm, nodes.RawScalar.RawScalar}
+use Rattle.nbfx_records.specs.declared.kinds.LengthForm.TheVariants.{FourBytes, OneByte, TwoBytes}
+use Rattle.nbfx_records.specs.declared.nodes.RawScalar.TheVariants.{Dictionary, Known, QName}
+use Rattle.nbfx_records.specs.Chosen.{binary, characters, chosen_known, chosen_number}
+use Rattle.nbfx_records.specs.Chosen.{chosen_scalar, chosen_text, counted_body, decimal_body}
+use Rattle.nbfx_records.specs.Chosen.{least_form, signed, sized, TextRecord, with_length}
 use Rattle.nbfx_records.specs.Records.{IsCounted, IsDecimal, IsFixed, IsNumberOf, SpellsAs}
 use Rattle.nbfx_records.specs.TypeBytes.{text_byte}
 use Rattle.nbfx_records.specs.Valid.{fits_known, fits_raw, is_valid_known, is_valid_raw}
+use Rattle.nbfx_records.specs.declared.kinds.TextKind.TheVariants as texts
 
 -- a number that a width holds is what its bytes say
 pub number_8 : (n : ℕ) → n < 2 ^ 8 → IsNumberOf w8 n (to_le_bytes w8 n)

@@ -1,30 +1,23 @@
 -- The text record that is chosen for a single value is no longer than another one of it, unless
 -- that is in UTF-16.
-use Rattle.std.proofs.Common.{◌≡◌, ℕ, zero, suc, ◌+◌, ◌*◌, ◌/◌, ◌^◌, ◌<◌, ◌≤◌, List, [], ◌∷◌}
-use Rattle.std.proofs.Common.{length, drop, Bool, true, false, refl, sym, ap, ◌∙◌, subst, inl, inr}
-use Rattle.std.proofs.Common.{arith, length-append}
-use Rattle.std.proofs.Math.Nat.{pow-suc}
-use Rattle.std.specs.Prelude.{ℤ, pos, nat_lt}
-use Rattle.std.specs.Int.{Width, w8, w16, w32, w64, byte_len, cast_signed, from_le_bytes}
-use Rattle.std.specs.Ordering.{int_eq}
-use Rattle.std.proofs.lemmas.Bool.{cond_both, lt-ltb, ltb-false}
-use Rattle.std.proofs.lemmas.Nat.{div_below}
-use Rattle.multibyte_ints.specs.Integer.{IsBytes, Spells, shortest, shortest_within}
+use Rattle.std.proofs.Common.{◌≡◌, ℕ, zero, suc, ◌+◌, ◌*◌, ◌/◌, ◌^◌, ◌<◌, ◌≤◌, Bool, true, false}
+use Rattle.std.proofs.Common.{List, [], ◌∷◌, length, drop, ℤ, pos, nat_lt, int_eq, sym, refl, ap}
+use Rattle.std.proofs.Common.{◌∙◌, subst, inl, inr, arith, length-append, w8, w16, w32, w64}
+use Rattle.std.proofs.{Common.ltb-false, Common.lt-ltb, Math.Nat.pow-suc}
+use Rattle.std.proofs.lemmas.{Bool.cond_both, Nat.div_below}
+use Rattle.std.specs.Int.{Width, byte_len, cast_signed, from_le_bytes}
 use Rattle.multibyte_ints.proofs.Values.{value_of_below}
-use Rattle.nbfx_values.specs.Scalars.{is_signed}
-use Rattle.nbfx_values.specs.declared.scalars.Scalar.TheVariants.{Number}
-use Rattle.nbfx_records.specs.declared.kinds.LengthForm.{LengthForm}
-use Rattle.nbfx_records.specs.declared.kinds.TextKind.{TextKind}
-use Rattle.nbfx_records.specs.declared.kinds.TextKind.TheVariants as texts
-use Rattle.nbfx_records.specs.declared.nodes.RawScalar.{RawScalar}
-use Rattle.nbfx_records.specs.declared.nodes.RawScalar.TheVariants.{Known}
-use Rattle.nbfx_records.specs.Chosen.{TextRecord, chosen_number, chosen_scalar, chosen_text}
-use Rattle.nbfx_records.specs.Chosen.{counted_body, least_form}
+use Rattle.multibyte_ints.specs.Integer.{IsBytes, shortest, shortest_within, Spells}
+use Rattle.nbfx_values.specs.{declared.scalars.Scalar.TheVariants.Number, Scalars.is_signed}
+use Rattle.nbfx_records.specs.declared.kinds.{LengthForm.LengthForm, TextKind.TextKind}
+use Rattle.nbfx_records.specs.declared.nodes.RawScalar.{RawScalar, TheVariants.Known}
+use Rattle.nbfx_records.specs.Chosen.{chosen_number, chosen_scalar, chosen_text, counted_body}
+use Rattle.nbfx_records.specs.Chosen.{least_form, TextRecord}
 use Rattle.nbfx_records.specs.Records.{IsCounted, IsFixed, IsSixteen, SpellsAs}
-use Rattle.nbfx_records.proofs.NumberFacts.{signed_true}
-use Rattle.nbfx_records.proofs.ScalarBytes.{decimal_size}
-use Rattle.nbfx_records.proofs.ValidFacts.{below_8, below_16, below_32, bytes_front, in_8, in_16}
-use Rattle.nbfx_records.proofs.ValidFacts.{in_32, number_below}
+use Rattle.nbfx_records.proofs.{NumberFacts.signed_true, ScalarBytes.decimal_size}
+use Rattle.nbfx_records.proofs.ValidFacts.{below_16, below_32, below_8, bytes_front, in_16, in_32}
+use Rattle.nbfx_records.proofs.ValidFacts.{in_8, number_below}
+use Rattle.nbfx_records.specs.declared.kinds.TextKind.TheVariants as texts
 
 -- the shortest spelling of an integer
 within_shortest : (more j n : ℕ) → n < 128 ^ suc j → length (shortest_within more n) ≤ suc j

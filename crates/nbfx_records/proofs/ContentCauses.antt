@@ -1,45 +1,35 @@
 -- What makes the contents of a whole record wrong: a text that isn't UTF-8, and else a value that
 -- is none of its kind.
-use Rattle.std.proofs.Common.{◌≡◌, ◌≢◌, ℕ, ◌<◌, List, [], ◌∷◌, ◌++◌, length, get_or, zero, suc}
-use Rattle.std.proofs.Common.{Bool, true, false, Option, Some, None, refl, sym, ap, ◌∙◌, subst, inl}
-use Rattle.std.proofs.Common.{inr, arith, ◌⊎◌}
-use Rattle.std.specs.Prelude.{◌↔◌, ◌==◌, ◌%◌, ◌&&◌, ◌||◌, not, nat_le, Contains, IsUtf8, flat_map}
-use Rattle.std.specs.Prelude.{if◌then◌else◌}
-use Rattle.std.specs.Char.Utf16.{has_unpaired_surrogate}
-use Rattle.std.specs.List.{list_all}
-use Rattle.std.specs.Option.{option_map}
-use Rattle.std.specs.Str.{is_utf8}
-use Rattle.std.proofs.lemmas.Bool.{and_parts, and_cases, eqb-true, eqb-false, eq-eqb, leb-false}
-use Rattle.std.proofs.lemmas.Bool.{lt-leb, ne_eqb, cases_eq}
-use Rattle.std.proofs.lemmas.List.Concat.{flat_map-cons}
-use Rattle.std.proofs.lemmas.List.Folds.{list_all-append}
+use Rattle.std.proofs.Common.{◌≡◌, ℕ, zero, suc, ◌%◌, ◌<◌, Bool, true, false, not, ◌&&◌, ◌||◌, ◌≢◌}
+use Rattle.std.proofs.Common.{◌⊎◌, ◌↔◌, List, [], ◌∷◌, ◌++◌, length, get_or, if◌then◌else◌, nat_le}
+use Rattle.std.proofs.Common.{◌==◌, Some, None, IsUtf8, Contains, Option, option_map, flat_map, sym}
+use Rattle.std.proofs.Common.{refl, ap, ◌∙◌, subst, inl, inr, arith, eq-eqb, ne_eqb, eqb-true}
+use Rattle.{std.proofs.Common.leb-false, nbfx_values.specs.declared.scalars.Scalar.Scalar}
+use Rattle.std.proofs.lemmas.Bool.{and_cases, and_parts, cases_eq, eqb-false, lt-leb}
+use Rattle.std.proofs.lemmas.List.{Concat.flat_map-cons, Folds.list_all-append}
 use Rattle.std.proofs.lemmas.Str.{IsUtf8-from_is_utf8, is_utf8-from_IsUtf8}
-use Rattle.nbfx_values.specs.declared.scalars.Scalar.{Scalar}
+use Rattle.std.specs.{Char.Utf16.has_unpaired_surrogate, List.list_all, Str.is_utf8}
 use Rattle.nbfx_values.specs.declared.scalars.Scalar.TheVariants.{Text as TextOf, UniqueId, Uuid}
-use Rattle.nbfx_records.specs.declared.kinds.TextKind.{TextKind}
+use Rattle.nbfx_records.specs.{declared.kinds.TextKind.TextKind, Shapes.Shape, Shapes.ValueShape}
+use Rattle.nbfx_records.specs.declared.nodes.NameRef.{NameRef, TheVariants.Id, TheVariants.Inline}
+use Rattle.nbfx_records.specs.declared.nodes.RawScalar.TheVariants.{Known, QName}
+use Rattle.nbfx_records.specs.declared.nodes.RawValue.TheVariants.{List as ListOf, One}
+use Rattle.nbfx_records.specs.Causes.{IsNoUtf16, IsNoValue, scalars_in, scalars_of_attribute}
+use Rattle.nbfx_records.specs.Causes.{scalars_of_cells, scalars_of_value, texts_in, texts_of_value}
+use Rattle.nbfx_records.specs.Causes.{texts_of_attribute, texts_of_name, texts_of_scalar}
+use Rattle.nbfx_records.specs.Contents.{array_of, attribute_is_text, attribute_node}
+use Rattle.nbfx_records.specs.Contents.{attribute_value, cell_values, cells, decimal_of, each}
+use Rattle.nbfx_records.specs.Contents.{identifier_of, is_chars, is_text, name_is_text, node_of}
+use Rattle.nbfx_records.specs.Contents.{scalar_is_text, scalar_of, scalar_value, shape_value}
+use Rattle.nbfx_records.specs.Contents.{truth_of, units_of, utf16_text, value_is_text}
+use Rattle.nbfx_records.{specs.Kinds.text_kind_in, specs.Kinds.width_of, proofs.Missing.there}
+use Rattle.nbfx_records.specs.Shapes.{adds, ArrayShape, attributes, AttributeShape, begins_element}
+use Rattle.nbfx_records.specs.Shapes.{bytes_of, comments, declares, ends_element, has_text}
+use Rattle.nbfx_records.specs.Shapes.{named_by, one, qualified_by, repeats, ScalarShape, several}
+use Rattle.nbfx_records.proofs.Missing.{both_none, each_none, looked_up, mapped_none, NoneFor}
 use Rattle.nbfx_records.specs.declared.kinds.TextKind.TheVariants as texts
 use Rattle.nbfx_records.specs.declared.nodes.AttrNode.TheVariants as attribute_nodes
-use Rattle.nbfx_records.specs.declared.nodes.NameRef.{NameRef}
-use Rattle.nbfx_records.specs.declared.nodes.NameRef.TheVariants.{Inline, Id}
 use Rattle.nbfx_records.specs.declared.nodes.Node.TheVariants as nodes
-use Rattle.nbfx_records.specs.declared.nodes.RawScalar.TheVariants.{Known, QName}
-use Rattle.nbfx_records.specs.declared.nodes.RawValue.TheVariants.{One, List as ListOf}
-use Rattle.nbfx_records.specs.Causes.{IsNoUtf16, IsNoValue, scalars_in, scalars_of_attribute}
-use Rattle.nbfx_records.specs.Causes.{scalars_of_cells, scalars_of_value, texts_in}
-use Rattle.nbfx_records.specs.Causes.{texts_of_attribute, texts_of_name, texts_of_scalar}
-use Rattle.nbfx_records.specs.Causes.{texts_of_value}
-use Rattle.nbfx_records.specs.Contents.{attribute_is_text, attribute_node, array_of}
-use Rattle.nbfx_records.specs.Contents.{attribute_value, cell_values, cells, decimal_of, each}
-use Rattle.nbfx_records.specs.Contents.{is_chars, identifier_of, is_text, name_is_text, node_of}
-use Rattle.nbfx_records.specs.Contents.{scalar_is_text, scalar_of, scalar_value, truth_of, units_of}
-use Rattle.nbfx_records.specs.Contents.{utf16_text, value_is_text, shape_value}
-use Rattle.nbfx_records.specs.Kinds.{text_kind_in, width_of}
-use Rattle.nbfx_records.specs.Shapes.{ArrayShape, AttributeShape, ScalarShape, Shape, ValueShape}
-use Rattle.nbfx_records.specs.Shapes.{adds, attributes, begins_element, bytes_of, comments}
-use Rattle.nbfx_records.specs.Shapes.{declares, ends_element, has_text, named_by, one, qualified_by}
-use Rattle.nbfx_records.specs.Shapes.{repeats, several}
-use Rattle.nbfx_records.proofs.Missing.{NoneFor, both_none, each_none, looked_up, mapped_none}
-use Rattle.nbfx_records.proofs.Missing.{there}
 
 -- whether texts are UTF-8 is said of the list of them
 alone : (p : List ℕ → Bool) (x : List ℕ) → p x ≡ list_all p (x ∷ [])

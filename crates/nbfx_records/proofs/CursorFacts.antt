@@ -1,29 +1,21 @@
 -- Parts that are read from an offset on, by what their readers say of the bytes there.
-use Rattle.std.proofs.Common.{◌≡◌, ℕ, ◌+◌, ◌%◌, ◌-◌, ◌<◌, ◌≤◌, List, [], ◌∷◌, ◌++◌, length, take}
-use Rattle.std.proofs.Common.{drop, get_or, Result, Ok, Err, refl, sym, ap, ◌∙◌, subst, arith}
-use Rattle.std.proofs.Common.{append_assoc, length-append, length-drop}
-use Rattle.std.proofs.lemmas.List.{append-nil, length-take-le, take-append-drop, drop-append-le}
-use Rattle.std.proofs.lemmas.List.{drop-drop, take_more, get_or-drop}
-use Rattle.std.specs.Prelude.{IsErrAnd}
-use Rattle.std.proofs.lemmas.Result.{err_from_is_err_and}
-use Rattle.unit_streams.specs.Front.{Front, begun, whole, wrong, ReadsFront}
-use Rattle.unit_streams.specs.Parts.{Reader, given, refuse, further, ◌>>=◌, seen}
-use Rattle.unit_streams.proofs.Peeling.{extent}
-use Rattle.unit_streams.proofs.Parts.{then_begun, then_wrong, then_whole}
-use Rattle.unit_streams.proofs.Taken.{at_last}
+use Rattle.std.proofs.Common.{◌≡◌, ℕ, ◌+◌, ◌-◌, ◌%◌, ◌<◌, ◌≤◌, List, [], ◌∷◌, ◌++◌, length, get_or}
+use Rattle.std.proofs.Common.{take, drop, IsErrAnd, Ok, Err, Result, sym, refl, ap, ◌∙◌, subst}
+use Rattle.std.proofs.Common.{append_assoc, append-nil, arith, length-append, length-drop}
+use Rattle.std.proofs.Common.{take-append-drop, length-take-le, get_or-drop, drop-drop}
+use Rattle.{std.proofs.Math.Nat.mod-eq_of_lt, nbfx_records.proofs.ShapeFronts.reads_integer}
+use Rattle.std.proofs.lemmas.{List.drop-append-le, List.take_more, Result.err_from_is_err_and}
+use Rattle.unit_streams.proofs.Parts.{then_begun, then_whole, then_wrong}
+use Rattle.unit_streams.proofs.{Peeling.extent, Taken.at_last}
+use Rattle.unit_streams.specs.Front.{begun, Front, ReadsFront, whole, wrong}
+use Rattle.unit_streams.specs.Parts.{further, given, Reader, refuse, seen, ◌>>=◌}
+use Rattle.multibyte_ints.proofs.{IntegerBytes.int_peels, IntegerFacts.whole_is}
 use Rattle.multibyte_ints.specs.Integer.{int_at, value_of}
-use Rattle.multibyte_ints.proofs.IntegerFacts.{whole_is}
-use Rattle.std.proofs.Math.Nat.{mod-eq_of_lt}
-use Rattle.multibyte_ints.proofs.IntegerBytes.{int_peels}
-use Rattle.nbfx_records.specs.declared.cursor.Stop.{Stop}
-use Rattle.nbfx_records.specs.declared.cursor.Stop.TheVariants.{More, Fault}
-use Rattle.nbfx_records.specs.declared.nodes.RecordFault.{RecordFault}
+use Rattle.nbfx_records.specs.declared.cursor.Stop.{Stop, TheVariants.Fault, TheVariants.More}
+use Rattle.nbfx_records.specs.{declared.nodes.RecordFault.RecordFault, Cursor.Why}
+use Rattle.nbfx_records.specs.{Asked.Either, Asked.here, Asked.later, Shapes.an_integer}
+use Rattle.nbfx_records.specs.Cursor.{AsksAt, IsWhole, IsWrong, PartTold, read_from, Stops, Tells}
 use Rattle.nbfx_records.specs.declared.nodes.RecordFault.TheVariants as faults
-use Rattle.nbfx_records.specs.Shapes.{an_integer}
-use Rattle.nbfx_records.proofs.ShapeFronts.{reads_integer}
-use Rattle.nbfx_records.specs.Asked.{Either, here, later}
-use Rattle.nbfx_records.specs.Cursor.{read_from, IsWhole, IsWrong, Why, AsksAt, Stops, PartTold}
-use Rattle.nbfx_records.specs.Cursor.{Tells}
 
 -- bytes that follow, behind an offset
 drop_more : (bytes more : List ℕ) (at : ℕ) → at ≤ length bytes → drop at (bytes ++ more)

@@ -1,34 +1,29 @@
 -- The causes of each fault of a record.
-use Rattle.std.proofs.Common.{◌≡◌, ℕ, List, drop, Bool, true, false, Option, Some, None, Ok, Err}
-use Rattle.std.proofs.Common.{Result, refl, sym, ap, ◌∙◌, inl, inr, ◌⊎◌, [], ◌∷◌}
-use Rattle.std.specs.Prelude.{◌&&◌, ◌||◌, not, if◌then◌else◌, ok_or}
-use Rattle.unit_streams.specs.Front.{Front, begun, whole, wrong}
+use Rattle.std.proofs.Common.{◌≡◌, ℕ, Bool, true, false, not, ◌&&◌, ◌||◌, ◌⊎◌, List, [], ◌∷◌, drop}
+use Rattle.std.proofs.Common.{if◌then◌else◌, Some, None, Ok, Err, Option, Result, ok_or, sym, refl}
+use Rattle.std.proofs.Common.{ap, ◌∙◌, inl, inr}
+use Rattle.unit_streams.specs.Front.{begun, Front, whole, wrong}
 use Rattle.unit_streams.specs.Parts.{judged, judged_whole}
-use Rattle.nbfx_records.specs.declared.kinds.RecordKind.{RecordKind}
-use Rattle.nbfx_records.specs.declared.kinds.RecordKind.TheVariants as records
-use Rattle.nbfx_records.specs.declared.kinds.TextKind.TheVariants as texts
 use Rattle.nbfx_values.specs.declared.content.ArrayKind.{ArrayKind}
-use Rattle.nbfx_records.specs.declared.nodes.Node.{Node}
-use Rattle.nbfx_records.specs.declared.nodes.RecordFault.{RecordFault}
-use Rattle.nbfx_records.specs.declared.nodes.RecordFault.TheVariants as faults
-use Rattle.nbfx_records.specs.declared.nodes.NodePlace.{NodePlace}
-use Rattle.nbfx_records.specs.declared.nodes.NodePlace.TheVariants.{BeforeRoot, Within, AfterRoot}
-use Rattle.nbfx_records.specs.Causes.{Caused, HasBadText, HasBadValue, InRecord, IsRefused}
-use Rattle.nbfx_records.specs.Causes.{IsWrongPart, Part, cells_refused, cells_type, count}
-use Rattle.nbfx_records.specs.Causes.{element_refused, element_type, integer, item_refused}
-use Rattle.nbfx_records.specs.Causes.{item_type, long_length, part_refused, part_type}
-use Rattle.nbfx_records.specs.Causes.{record_refused, record_type, type_refused, value_refused}
-use Rattle.nbfx_records.specs.Causes.{value_type}
+use Rattle.nbfx_records.specs.declared.{kinds.RecordKind.RecordKind, nodes.RecordFault.RecordFault}
+use Rattle.nbfx_records.specs.declared.nodes.{Node.Node, NodePlace.NodePlace}
+use Rattle.nbfx_records.specs.declared.nodes.NodePlace.TheVariants.{AfterRoot, BeforeRoot, Within}
+use Rattle.nbfx_records.specs.Causes.{Caused, cells_refused, cells_type, count, element_refused}
+use Rattle.nbfx_records.specs.Causes.{element_type, HasBadText, HasBadValue, InRecord, integer}
+use Rattle.nbfx_records.specs.Causes.{IsRefused, IsWrongPart, item_refused, item_type, long_length}
+use Rattle.nbfx_records.specs.Causes.{Part, part_refused, part_type, record_refused, record_type}
+use Rattle.nbfx_records.specs.Causes.{type_refused, value_refused, value_type}
 use Rattle.nbfx_records.specs.Contents.{contents, is_text, node_of}
 use Rattle.nbfx_records.specs.Kinds.{array_kind, record_kind}
 use Rattle.nbfx_records.specs.Laws.{WrongByPart, WrongByText, WrongByValue}
-use Rattle.nbfx_records.specs.RecordAtFront.{node_at}
-use Rattle.nbfx_records.specs.Shapes.{Shape, ends_list, is_attribute, is_element, misplaced, opens}
-use Rattle.nbfx_records.specs.Shapes.{shape_at}
-use Rattle.nbfx_records.proofs.CauseFacts.{carried}
+use Rattle.nbfx_records.specs.{RecordAtFront.node_at, Shapes.shape_at}
+use Rattle.nbfx_records.specs.Shapes.{ends_list, is_attribute, is_element, misplaced, opens, Shape}
+use Rattle.nbfx_records.proofs.{CauseFacts.carried, PartCauses.shape_just}
 use Rattle.nbfx_records.proofs.ContentCauses.{bad_text, bad_value, good_texts, text_is_bad}
 use Rattle.nbfx_records.proofs.ContentCauses.{texts_are_good, value_is_bad}
-use Rattle.nbfx_records.proofs.PartCauses.{shape_just}
+use Rattle.nbfx_records.specs.declared.kinds.RecordKind.TheVariants as records
+use Rattle.nbfx_records.specs.declared.kinds.TextKind.TheVariants as texts
+use Rattle.nbfx_records.specs.declared.nodes.RecordFault.TheVariants as faults
 
 -- a fault of the structure
 abbrev is_structural : RecordFault → Bool

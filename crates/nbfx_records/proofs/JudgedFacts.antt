@@ -1,19 +1,15 @@
 -- What is made of whole parts, by their own parts.
-use Rattle.std.proofs.Common.{◌≡◌, ℕ, List, [], ◌∷◌, ◌++◌, append_assoc, Bool, true, false, Option}
-use Rattle.std.proofs.Common.{Some, None, Result, Ok, Err, refl, sym, ap, ◌∙◌, subst}
-use Rattle.std.specs.Prelude.{IsUtf8, IsErrAnd, ◌&&◌}
-use Rattle.std.specs.Str.{is_utf8}
-use Rattle.std.specs.List.{list_all}
-use Rattle.std.specs.Option.{option_map, option_and_then}
-use Rattle.std.proofs.lemmas.Result.{err_from_is_err_and}
-use Rattle.std.proofs.lemmas.Bool.{false_from_ne_true}
+use Rattle.std.proofs.Common.{◌≡◌, ℕ, Bool, true, false, ◌&&◌, List, [], ◌∷◌, ◌++◌, IsErrAnd, Some}
+use Rattle.std.proofs.Common.{None, Ok, Err, IsUtf8, Option, Result, option_map, option_and_then}
+use Rattle.std.proofs.Common.{sym, refl, ap, ◌∙◌, subst, append_assoc}
+use Rattle.std.proofs.lemmas.{Bool.false_from_ne_true, Result.err_from_is_err_and}
 use Rattle.std.proofs.lemmas.Str.{IsUtf8-from_is_utf8, is_utf8-from_IsUtf8}
-use Rattle.nbfx_records.specs.declared.nodes.RecordFault.{RecordFault}
-use Rattle.nbfx_records.specs.declared.nodes.RecordFault.TheVariants as faults
-use Rattle.nbfx_records.specs.declared.nodes.NodeFault.{NodeFault}
-use Rattle.nbfx_records.specs.declared.nodes.NodeFault.TheVariants.{Record, Memory}
-use Rattle.nbfx_records.specs.Contents.{judge, each, behind_texts, led}
+use Rattle.std.specs.{List.list_all, Str.is_utf8}
+use Rattle.nbfx_records.specs.declared.nodes.{NodeFault.NodeFault, RecordFault.RecordFault}
+use Rattle.nbfx_records.specs.declared.nodes.NodeFault.TheVariants.{Memory, Record}
+use Rattle.nbfx_records.specs.Contents.{behind_texts, each, judge, led}
 use Rattle.nbfx_records.specs.Judged.{Made, Makes}
+use Rattle.nbfx_records.specs.declared.nodes.RecordFault.TheVariants as faults
 
 -- a text that is UTF-8, and one that isn't
 pub text_made : (bytes text made : List ℕ) → IsUtf8 bytes → text ≡ bytes → made ≡ text

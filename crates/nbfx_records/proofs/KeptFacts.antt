@@ -1,23 +1,15 @@
 -- What is kept of a record, or of an attribute's value, that isn't whole, by what stands behind its
 -- type byte.
-use Rattle.std.proofs.Common.{◌≡◌, ℕ, List, [], Option, Result, Ok, Err, sym, ap, ◌∙◌, subst}
-use Rattle.std.proofs.lemmas.List.{append-nil}
-use Rattle.std.proofs.lemmas.Result.{err_from_is_err_and}
-use Rattle.std.specs.Prelude.{IsErrAnd}
-use Rattle.unit_streams.specs.Front.{whole}
-use Rattle.unit_streams.specs.Parts.{Reader, a_byte}
-use Rattle.nbfx_records.specs.declared.cursor.Stop.{Stop}
-use Rattle.nbfx_records.specs.declared.cursor.Stop.TheVariants.{More, Fault}
-use Rattle.nbfx_records.specs.declared.kinds.NameForm.{NameForm}
-use Rattle.nbfx_records.specs.declared.kinds.PrefixForm.{PrefixForm}
-use Rattle.nbfx_records.specs.declared.kinds.RecordKind.{RecordKind}
-use Rattle.nbfx_records.specs.declared.nodes.NameRef.{NameRef}
-use Rattle.nbfx_records.specs.declared.nodes.RecordFault.{RecordFault}
-use Rattle.nbfx_records.specs.declared.resume.Resume.{Resume}
-use Rattle.nbfx_records.specs.Cursor.{IsWhole, OnMore, Tells, read_from}
-use Rattle.nbfx_records.specs.Kinds.{record_kind}
+use Rattle.std.proofs.Common.{◌≡◌, ℕ, List, [], IsErrAnd, Ok, Err, Option, Result, sym, ap, ◌∙◌}
+use Rattle.std.proofs.{Common.subst, Common.append-nil, lemmas.Result.err_from_is_err_and}
+use Rattle.unit_streams.specs.{Front.whole, Parts.a_byte, Parts.Reader}
+use Rattle.nbfx_records.specs.declared.cursor.Stop.{Stop, TheVariants.Fault, TheVariants.More}
+use Rattle.nbfx_records.specs.declared.kinds.{NameForm.NameForm, PrefixForm.PrefixForm}
+use Rattle.nbfx_records.specs.declared.{kinds.RecordKind.RecordKind, resume.Resume.Resume}
+use Rattle.nbfx_records.specs.declared.nodes.{NameRef.NameRef, RecordFault.RecordFault}
+use Rattle.nbfx_records.specs.Cursor.{IsWhole, OnMore, read_from, Tells}
+use Rattle.nbfx_records.specs.{Kinds.record_kind, Shapes.name_at, Shapes.prefix_at}
 use Rattle.nbfx_records.specs.Resuming.{KeepsAttribute, KeepsValue}
-use Rattle.nbfx_records.specs.Shapes.{name_at, prefix_at}
 
 -- what is kept, by the record that the type byte begins and the offset behind it
 module _ (Kept : Option RecordKind → ℕ → Type 0) (bytes : List ℕ) (from byte to : ℕ)

@@ -1,20 +1,16 @@
 -- Which type byte begins which record: the table of texts and the table of records, once over each.
-use Rattle.std.proofs.Common.{◌≡◌, ℕ, ◌-◌, ◌/◌, ◌<◌, ◌≤◌, Bool, true, false, Option, Some, None}
-use Rattle.std.proofs.Common.{refl, sym, ap, ◌∙◌, arith, inl, inr}
-use Rattle.std.specs.Prelude.{◌==◌, ◌&&◌, nat_le, nat_lt, if◌then◌else◌}
-use Rattle.std.specs.Option.{option_and_then}
-use Rattle.std.proofs.lemmas.Bool.{and_parts, eqb-true, leb-true, ltb-true, agree_below_at}
-use Rattle.std.proofs.lemmas.Bool.{cases_lt, le-ltb, ne_eqb}
-use Rattle.std.proofs.lemmas.Bool.Decides.{nat_tests}
-use Rattle.std.proofs.lemmas.Option.{slice_get_past}
+use Rattle.std.proofs.Common.{◌≡◌, ℕ, ◌-◌, ◌/◌, ◌<◌, ◌≤◌, Bool, true, false, ◌&&◌, if◌then◌else◌}
+use Rattle.std.proofs.Common.{nat_lt, nat_le, ◌==◌, Some, None, Option, option_and_then, sym, refl}
+use Rattle.std.proofs.Common.{ap, ◌∙◌, inl, inr, arith, ltb-true, le-ltb, ne_eqb, eqb-true}
+use Rattle.std.proofs.{Common.leb-true, lemmas.Option.slice_get_past}
+use Rattle.std.proofs.lemmas.Bool.{agree_below_at, and_parts, cases_lt, Decides.nat_tests}
+use Rattle.nbfx_records.specs.declared.kinds.NameForm.TheVariants.{Identified, Inlined}
+use Rattle.nbfx_records.specs.declared.kinds.PrefixForm.TheVariants.{Lettered, Prefixed, Unprefixed}
+use Rattle.nbfx_records.specs.declared.kinds.{RecordKind.RecordKind, TheConstants.TEXT_KINDS}
+use Rattle.nbfx_records.specs.Kinds.{record_kind, text_kind, text_record}
+use Rattle.nbfx_records.specs.TypeBytes.{byte_of, is_kind, is_letter}
 use Rattle.nbfx_records.specs.declared.kinds.TextKind.TheVariants as texts
-use Rattle.nbfx_records.specs.declared.kinds.TheConstants.{TEXT_KINDS}
-use Rattle.nbfx_records.specs.declared.kinds.RecordKind.{RecordKind}
-use Rattle.nbfx_records.specs.declared.kinds.PrefixForm.TheVariants.{Unprefixed, Lettered, Prefixed}
-use Rattle.nbfx_records.specs.declared.kinds.NameForm.TheVariants.{Inlined, Identified}
 use Rattle.nbfx_records.specs.declared.kinds.RecordKind.TheVariants as records
-use Rattle.nbfx_records.specs.Kinds.{text_kind, text_record, record_kind}
-use Rattle.nbfx_records.specs.TypeBytes.{byte_of, is_letter, is_kind}
 
 -- whether a byte is that of the record that it begins
 abbrev fits_byte : ℕ → Option RecordKind → Bool

@@ -1,27 +1,23 @@
 -- A list that is read value by value, and its bytes.
-use Rattle.std.proofs.Common.{◌≡◌, ℕ, ◌-◌, ◌<◌, ◌≤◌, List, [], ◌∷◌, ◌++◌, length, take, drop, Bool}
-use Rattle.std.proofs.Common.{true, false, Option, Some, None, refl, sym, ap, ◌∙◌, subst, arith}
-use Rattle.std.proofs.Common.{length-drop}
-use Rattle.std.proofs.lemmas.List.{append-nil, length-take-le, take_all}
-use Rattle.unit_streams.specs.Front.{begun, whole, on_whole}
-use Rattle.unit_streams.specs.Parts.{Reader, a_byte, further, Turn, more, stop, Many, AreMany}
-use Rattle.unit_streams.proofs.Parts.{then_begun, then_whole, then_parts}
-use Rattle.nbfx_records.specs.declared.cursor.Stop.{Stop}
-use Rattle.nbfx_records.specs.declared.kinds.TextKind.TheVariants as texts
-use Rattle.nbfx_records.specs.declared.kinds.RecordKind.{RecordKind}
-use Rattle.nbfx_records.specs.declared.kinds.RecordKind.TheVariants as records
-use Rattle.nbfx_records.specs.declared.nodes.RecordFault.{RecordFault}
-use Rattle.nbfx_records.specs.Kinds.{record_kind}
-use Rattle.nbfx_records.specs.Asked as asked
-use Rattle.nbfx_records.specs.Cursor.{IsWhole, Stops}
+use Rattle.std.proofs.Common.{◌≡◌, ℕ, ◌-◌, ◌<◌, ◌≤◌, Bool, true, false, List, [], ◌∷◌, ◌++◌, length}
+use Rattle.std.proofs.Common.{take, drop, Some, None, Option, sym, refl, ap, ◌∙◌, subst, append-nil}
+use Rattle.std.proofs.Common.{arith, length-drop, length-take-le, take_all}
+use Rattle.unit_streams.proofs.Parts.{then_begun, then_parts, then_whole}
+use Rattle.unit_streams.specs.Front.{begun, on_whole, whole}
+use Rattle.unit_streams.specs.Parts.{a_byte, AreMany, further, Many, more, Reader, stop, Turn}
+use Rattle.nbfx_records.specs.declared.{cursor.Stop.Stop, kinds.RecordKind.RecordKind}
+use Rattle.nbfx_records.specs.{declared.nodes.RecordFault.RecordFault, Kinds.record_kind}
+use Rattle.nbfx_records.specs.{Cursor.IsWhole, Cursor.Stops, Views.IsList, Views.listed}
 use Rattle.nbfx_records.specs.Resuming.{AreMore, Passes}
-use Rattle.nbfx_records.specs.Shapes.{ScalarShape, turn_of, list_turn, list_at}
-use Rattle.nbfx_records.specs.Views.{listed, IsList}
-use Rattle.nbfx_records.proofs.ShapeFronts.{reads_list_turn, reads_list}
-use Rattle.nbfx_records.proofs.PartBytes.{TurnIs, IsTurn, just_list}
+use Rattle.nbfx_records.specs.Shapes.{list_at, list_turn, ScalarShape, turn_of}
 use Rattle.nbfx_records.proofs.CursorFacts.{further_whole}
-use Rattle.nbfx_records.proofs.ManyFacts.{moves, all_stop, all_more, never_stops, many_whole}
-use Rattle.nbfx_records.proofs.ManyFacts.{many_stops, passes_more}
+use Rattle.nbfx_records.proofs.ManyFacts.{all_more, all_stop, many_stops, many_whole, moves}
+use Rattle.nbfx_records.proofs.ManyFacts.{never_stops, passes_more}
+use Rattle.nbfx_records.proofs.PartBytes.{IsTurn, just_list, TurnIs}
+use Rattle.nbfx_records.proofs.ShapeFronts.{reads_list, reads_list_turn}
+use Rattle.nbfx_records.specs.declared.kinds.TextKind.TheVariants as texts
+use Rattle.nbfx_records.specs.declared.kinds.RecordKind.TheVariants as records
+use Rattle.nbfx_records.specs.Asked as asked
 
 pub nothing_turned : (may_close : Bool) → list_turn may_close [] ≡ begun
 nothing_turned may_close = then_begun a_byte _ [] refl

@@ -1,21 +1,19 @@
 -- Things one behind the other that are read from an offset on, and what they are together.
-use Rattle.std.proofs.Common.{◌≡◌, ℕ, ◌+◌, ◌<◌, List, [], ◌∷◌, ◌++◌, length, drop, refl, sym, ap}
-use Rattle.std.proofs.Common.{◌∙◌, subst, arith, append_assoc, length-append, length-drop}
-use Rattle.std.proofs.lemmas.List.{append-nil, drop-drop}
-use Rattle.unit_streams.specs.Front.{Front, begun, whole, wrong, ReadsFront}
-use Rattle.unit_streams.specs.Parts.{Reader, further, seen, Turn, more, stop, Many, with_first}
-use Rattle.unit_streams.specs.Parts.{turned, repeated, many}
-use Rattle.unit_streams.proofs.Parts.{then_begun, then_wrong, then_whole}
-use Rattle.unit_streams.proofs.Fronts.{whole_some}
-use Rattle.unit_streams.proofs.Repeated.{many_is}
-use Rattle.nbfx_records.specs.declared.cursor.Stop.{Stop}
-use Rattle.nbfx_records.specs.declared.cursor.Stop.TheVariants.{More, Fault}
+use Rattle.std.proofs.Common.{◌≡◌, ℕ, ◌+◌, ◌<◌, List, [], ◌∷◌, ◌++◌, length, drop, sym, refl, ap}
+use Rattle.std.proofs.Common.{◌∙◌, subst, append_assoc, append-nil, arith, length-append}
+use Rattle.std.proofs.Common.{length-drop, drop-drop}
+use Rattle.unit_streams.proofs.{Fronts.whole_some, Repeated.many_is}
+use Rattle.unit_streams.proofs.Parts.{then_begun, then_whole, then_wrong}
+use Rattle.unit_streams.specs.Front.{begun, Front, ReadsFront, whole, wrong}
+use Rattle.unit_streams.specs.Parts.{further, Many, many, more, Reader, repeated, seen, stop, Turn}
+use Rattle.unit_streams.specs.Parts.{turned, with_first}
+use Rattle.nbfx_records.specs.declared.cursor.Stop.{Stop, TheVariants.Fault, TheVariants.More}
 use Rattle.nbfx_records.specs.declared.nodes.RecordFault.{RecordFault}
 use Rattle.nbfx_records.specs.Causes.{BehindMany, BehindThese}
-use Rattle.nbfx_records.specs.Cursor.{read_from, IsWhole, Why, AsksAt, Stops}
+use Rattle.nbfx_records.specs.Cursor.{AsksAt, IsWhole, read_from, Stops, Why}
 use Rattle.nbfx_records.specs.Resuming.{AreMore, Passes}
-use Rattle.nbfx_records.proofs.CursorFacts.{further_whole, further_begun, further_wrong}
-use Rattle.nbfx_records.proofs.CursorFacts.{further_more}
+use Rattle.nbfx_records.proofs.CursorFacts.{further_begun, further_more, further_whole}
+use Rattle.nbfx_records.proofs.CursorFacts.{further_wrong}
 
 module _ {A B : Type 0} (turn : Reader (Turn A B) RecordFault) (reads : ReadsFront turn)
     (nothing : turn [] ≡ begun) where

@@ -1,52 +1,39 @@
 -- What a node says is found, and nothing else; nothing is found where an identifier names no
 -- string; what is found is valid.
-use Rattle.std.proofs.Common.{◌≡◌, ℕ, List, [], ◌∷◌, ◌++◌, length, Bool, true, false, Option, Some}
-use Rattle.std.proofs.Common.{refl, sym, ap, ◌∙◌}
-use Rattle.std.specs.Prelude.{◌↔◌, ◌&&◌, nat_le, nat_lt, IsUtf8, flat_map}
-use Rattle.std.specs.List.{list_all}
-use Rattle.std.specs.Option.{option_map}
-use Rattle.std.specs.Str.{is_utf8}
-use Rattle.std.proofs.lemmas.Bool.{and_parts, and_from}
-use Rattle.std.proofs.lemmas.Str.{is_utf8-from_IsUtf8}
-use Rattle.nbfx_values.specs.Items as items_spec
+use Rattle.std.proofs.Common.{◌≡◌, ℕ, Bool, true, false, ◌&&◌, ◌↔◌, List, [], ◌∷◌, ◌++◌, length}
+use Rattle.std.proofs.Common.{nat_lt, nat_le, Some, IsUtf8, Option, option_map, flat_map, sym, refl}
+use Rattle.std.{proofs.Common.ap, proofs.Common.◌∙◌, specs.List.list_all, specs.Str.is_utf8}
+use Rattle.std.proofs.lemmas.{Bool.and_from, Bool.and_parts, Str.is_utf8-from_IsUtf8}
+use Rattle.string_tables.proofs.TableFacts.{named_text-names}
+use Rattle.string_tables.specs.StringTable.{named_text, Names, StringTable}
+use Rattle.nbfx_values.specs.declared.content.{ArrayItem.ArrayItem, AttrItem.AttrItem, Item.Item}
+use Rattle.nbfx_values.specs.declared.scalars.{Scalar.Scalar, Value.Value}
 use Rattle.nbfx_values.specs.Items.{are_texts, fits_kind, is_valid_attribute, is_valid_item}
 use Rattle.nbfx_values.specs.Scalars.{is_valid_scalar, is_valid_value}
-use Rattle.nbfx_values.specs.declared.content.ArrayItem.{ArrayItem}
-use Rattle.nbfx_values.specs.declared.content.AttrItem.{AttrItem}
-use Rattle.nbfx_values.specs.declared.content.AttrItem.TheVariants as attributes
-use Rattle.nbfx_values.specs.declared.content.Item.{Item}
-use Rattle.nbfx_values.specs.declared.content.Item.TheVariants as items
-use Rattle.nbfx_values.specs.declared.scalars.Scalar.{Scalar}
-use Rattle.nbfx_values.specs.declared.scalars.Scalar.TheVariants as scalars
-use Rattle.nbfx_values.specs.declared.scalars.Value.{Value}
-use Rattle.nbfx_values.specs.declared.scalars.Value.TheVariants as values
-use Rattle.string_tables.specs.StringTable.{Names, StringTable, named_text}
-use Rattle.string_tables.proofs.TableFacts.{named_text-names}
-use Rattle.nbfx_records.specs.declared.nodes.NameRef.{NameRef}
-use Rattle.nbfx_records.specs.declared.nodes.NameRef.TheVariants.{Inline, Id}
-use Rattle.nbfx_records.specs.declared.nodes.RawScalar.{RawScalar}
-use Rattle.nbfx_records.specs.declared.nodes.RawScalar.TheVariants.{Known, Dictionary, QName}
-use Rattle.nbfx_records.specs.declared.nodes.RawValue.{RawValue}
-use Rattle.nbfx_records.specs.declared.nodes.RawValue.TheVariants.{One, List as ListOf}
-use Rattle.nbfx_records.specs.declared.nodes.AttrNode.{AttrNode}
-use Rattle.nbfx_records.specs.declared.nodes.AttrNode.TheVariants as attribute_nodes
-use Rattle.nbfx_records.specs.declared.nodes.ArrayNode.{ArrayNode}
-use Rattle.nbfx_records.specs.declared.nodes.Node.{Node}
-use Rattle.nbfx_records.specs.declared.nodes.Node.TheVariants.{EndElement, Comment, Array}
-use Rattle.nbfx_records.specs.declared.nodes.Node.TheVariants.{Attribute, Xmlns, Element, Text}
-use Rattle.nbfx_records.specs.Contents.{each}
-use Rattle.nbfx_records.specs.Laws.{MeaningsAreFound, NothingWithoutNames, MeansOnce}
-use Rattle.nbfx_records.specs.Laws.{MeaningsAreValid}
-use Rattle.nbfx_records.specs.Meaning.{ArrayMeans, EachMeans, Means, NameMeans, PartMeans}
-use Rattle.nbfx_records.specs.Meaning.{ScalarMeans, ValueMeans, array_with, closing, identifiers}
+use Rattle.nbfx_records.specs.declared.nodes.{ArrayNode.ArrayNode, Node.Node, RawValue.RawValue}
+use Rattle.nbfx_records.specs.declared.nodes.{AttrNode.AttrNode, RawScalar.RawScalar}
+use Rattle.nbfx_records.specs.declared.nodes.NameRef.{NameRef, TheVariants.Id, TheVariants.Inline}
+use Rattle.nbfx_records.specs.declared.nodes.Node.TheVariants.{Array, Attribute, Comment, Element}
+use Rattle.nbfx_records.specs.declared.nodes.Node.TheVariants.{EndElement, Text, Xmlns}
+use Rattle.nbfx_records.specs.declared.nodes.RawScalar.TheVariants.{Dictionary, Known, QName}
+use Rattle.nbfx_records.specs.declared.nodes.RawValue.TheVariants.{List as ListOf, One}
+use Rattle.nbfx_records.specs.{Contents.each, Laws.NothingWithoutNames}
+use Rattle.nbfx_records.specs.Laws.{MeaningsAreFound, MeaningsAreValid, MeansOnce}
+use Rattle.nbfx_records.specs.Meaning.{array_with, ArrayMeans, closing, EachMeans, identifiers}
 use Rattle.nbfx_records.specs.Meaning.{ids_of_name, ids_of_part, ids_of_scalar, ids_of_value}
-use Rattle.nbfx_records.specs.Meaning.{items_of, meant_array, meant_part, meant_scalar, meant_value}
-use Rattle.nbfx_records.specs.Meaning.{name_text, with_both}
+use Rattle.nbfx_records.specs.Meaning.{items_of, Means, meant_array, meant_part, meant_scalar}
+use Rattle.nbfx_records.specs.Meaning.{meant_value, name_text, NameMeans, PartMeans, ScalarMeans}
+use Rattle.nbfx_records.specs.Meaning.{ValueMeans, with_both}
 use Rattle.nbfx_records.specs.Valid.{are_valid_names, is_valid_known, is_valid_name, is_valid_node}
 use Rattle.nbfx_records.specs.Valid.{is_valid_part, is_valid_raw, is_valid_text}
-use Rattle.nbfx_records.proofs.Missing.{NoneFor, both_none, each_none, looked_up, mapped_none}
-use Rattle.nbfx_records.proofs.Missing.{there}
-use Rattle.nbfx_records.proofs.ValueBytes.{mapped_some, bound_some}
+use Rattle.nbfx_records.proofs.Missing.{both_none, each_none, looked_up, mapped_none, NoneFor}
+use Rattle.nbfx_records.proofs.{Missing.there, ValueBytes.bound_some, ValueBytes.mapped_some}
+use Rattle.nbfx_values.specs.Items as items_spec
+use Rattle.nbfx_values.specs.declared.content.AttrItem.TheVariants as attributes
+use Rattle.nbfx_values.specs.declared.content.Item.TheVariants as items
+use Rattle.nbfx_values.specs.declared.scalars.Scalar.TheVariants as scalars
+use Rattle.nbfx_values.specs.declared.scalars.Value.TheVariants as values
+use Rattle.nbfx_records.specs.declared.nodes.AttrNode.TheVariants as attribute_nodes
 
 -- what an option has is what is meant
 abbrev Finds : {A : Type 0} → Option A → (A → Type 0) → Type 0

@@ -1,13 +1,10 @@
 -- What is missing where some of a list are needed and one isn't found.
-use Rattle.std.proofs.Common.{◌≡◌, List, [], ◌∷◌, ◌++◌, zero, suc, Option, Some, None, refl, sym}
-use Rattle.std.proofs.Common.{ap, ◌∙◌, subst, inl, inr, arith, ◌⊎◌}
-use Rattle.std.specs.Prelude.{◌↔◌, Contains, flat_map}
-use Rattle.std.specs.Option.{option_map}
-use Rattle.std.proofs.lemmas.List.Concat.{flat_map-cons}
-use Rattle.std.proofs.lemmas.List.Elements.{Contains-append_left, Contains-append_right}
-use Rattle.std.proofs.lemmas.List.Elements.{Contains-append_cases}
-use Rattle.nbfx_records.specs.Contents.{each}
-use Rattle.nbfx_records.specs.Meaning.{with_both}
+use Rattle.std.proofs.Common.{◌≡◌, zero, suc, ◌⊎◌, ◌↔◌, List, [], ◌∷◌, ◌++◌, Some, None, Contains}
+use Rattle.std.proofs.Common.{Option, option_map, flat_map, sym, refl, ap, ◌∙◌, subst, inl, inr}
+use Rattle.std.proofs.Common.{arith}
+use Rattle.std.proofs.lemmas.List.{Concat.flat_map-cons, Elements.Contains-append_right}
+use Rattle.std.proofs.lemmas.List.Elements.{Contains-append_cases, Contains-append_left}
+use Rattle.nbfx_records.specs.{Contents.each, Meaning.with_both}
 
 module _ {X Y : Type 0} (found : X → Option Y) where
   -- one of some isn't found

@@ -1,23 +1,17 @@
 -- Prefixes and names that are read are those that are spelled, and the other way round.
-use Rattle.std.proofs.Common.{◌≡◌, ℕ, ◌+◌, ◌-◌, ◌<◌, inl, inr, List, [], ◌∷◌, get_or, zero, suc}
-use Rattle.std.proofs.Common.{Bool, true, false, refl, ap, ◌∙◌, arith}
-use Rattle.std.specs.Prelude.{nat_le, nat_lt, ◌&&◌}
-use Rattle.std.specs.Str.{is_utf8}
-use Rattle.std.proofs.lemmas.Bool.{and_from, le-leb, lt-ltb}
-use Rattle.std.proofs.lemmas.Str.{IsUtf8-nil, IsUtf8-from_ascii, IsUtf8-from_is_utf8}
-use Rattle.std.proofs.lemmas.Str.{is_utf8-from_IsUtf8}
-use Rattle.multibyte_ints.specs.Text.{IsString}
-use Rattle.nbfx_records.specs.declared.nodes.NameRef.{NameRef}
-use Rattle.nbfx_records.specs.declared.nodes.NameRef.TheVariants.{Inline, Id}
-use Rattle.nbfx_records.specs.declared.kinds.PrefixForm.{PrefixForm}
-use Rattle.nbfx_records.specs.declared.kinds.NameForm.{NameForm}
-use Rattle.nbfx_records.specs.declared.kinds.PrefixForm.TheVariants.{Unprefixed, Lettered, Prefixed}
-use Rattle.nbfx_records.specs.declared.kinds.NameForm.TheVariants.{Inlined, Identified}
-use Rattle.nbfx_records.specs.Contents.{name_is_text}
-use Rattle.nbfx_records.specs.Records.{IsName, IsHead, IsHeadOnly}
-use Rattle.nbfx_records.specs.TypeBytes.{form_of, is_letter}
+use Rattle.std.proofs.Common.{◌≡◌, ℕ, zero, suc, ◌+◌, ◌-◌, ◌<◌, Bool, true, false, ◌&&◌, List, []}
+use Rattle.std.proofs.Common.{◌∷◌, get_or, nat_lt, nat_le, refl, ap, ◌∙◌, inl, inr, arith, lt-ltb}
+use Rattle.std.proofs.{Common.le-leb, lemmas.Bool.and_from, lemmas.Str.is_utf8-from_IsUtf8}
+use Rattle.std.proofs.lemmas.Str.{IsUtf8-from_ascii, IsUtf8-from_is_utf8, IsUtf8-nil}
+use Rattle.{std.specs.Str.is_utf8, multibyte_ints.specs.Text.IsString}
+use Rattle.nbfx_records.specs.declared.kinds.{NameForm.NameForm, PrefixForm.PrefixForm}
+use Rattle.nbfx_records.specs.declared.kinds.NameForm.TheVariants.{Identified, Inlined}
+use Rattle.nbfx_records.specs.declared.kinds.PrefixForm.TheVariants.{Lettered, Prefixed, Unprefixed}
+use Rattle.nbfx_records.specs.declared.nodes.NameRef.{NameRef, TheVariants.Id, TheVariants.Inline}
+use Rattle.nbfx_records.specs.{Contents.name_is_text, TypeBytes.form_of, TypeBytes.is_letter}
+use Rattle.nbfx_records.specs.Records.{IsHead, IsHeadOnly, IsName}
 use Rattle.nbfx_records.proofs.KindBytes.{letter_parts}
-use Rattle.nbfx_records.proofs.PartBytes.{IsRawString, PrefixIs, NameIs}
+use Rattle.nbfx_records.proofs.PartBytes.{IsRawString, NameIs, PrefixIs}
 
 pub string_there : (s bytes : List ℕ) → IsRawString s bytes → is_utf8 s ≡ true → IsString s bytes
 string_there s bytes h t = record {

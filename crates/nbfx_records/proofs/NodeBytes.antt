@@ -1,51 +1,36 @@
 -- A record that is read is one that stands there, and the other way round.
-use Rattle.std.proofs.Common.{◌≡◌, ℕ, List, [], ◌∷◌, ◌++◌, length, Bool, true, false, Option, Some}
-use Rattle.std.proofs.Common.{None, Ok, Err, refl, sym, ap, ◌∙◌, subst, arith}
-use Rattle.std.specs.Prelude.{◌&&◌, ◌||◌, not, if◌then◌else◌, ok_or}
-use Rattle.std.specs.Str.{is_utf8}
-use Rattle.std.proofs.lemmas.Bool.{and_parts, and_from}
-use Rattle.std.proofs.lemmas.List.{take_all}
-use Rattle.unit_streams.specs.Front.{whole}
-use Rattle.unit_streams.specs.Parts.{ReadsJust}
-use Rattle.unit_streams.proofs.Spelled.{just_judged}
-use Rattle.unit_streams.proofs.Taken.{none_goes_on}
-use Rattle.nbfx_records.specs.declared.nodes.ArrayNode.{ArrayNode}
-use Rattle.nbfx_records.specs.declared.nodes.AttrNode.{AttrNode}
+use Rattle.std.proofs.Common.{◌≡◌, ℕ, Bool, true, false, not, ◌&&◌, ◌||◌, List, [], ◌∷◌, ◌++◌}
+use Rattle.std.proofs.Common.{length, if◌then◌else◌, Some, None, Ok, Err, Option, ok_or, option_map}
+use Rattle.std.proofs.Common.{sym, refl, ap, ◌∙◌, subst, arith, take_all}
+use Rattle.std.{proofs.lemmas.Bool.and_from, proofs.lemmas.Bool.and_parts, specs.Str.is_utf8}
+use Rattle.unit_streams.proofs.{Spelled.just_judged, Taken.none_goes_on}
+use Rattle.unit_streams.specs.{Front.whole, Parts.ReadsJust}
+use Rattle.nbfx_records.specs.declared.kinds.{NameForm.NameForm, PrefixForm.PrefixForm}
+use Rattle.nbfx_records.specs.declared.kinds.{RecordKind.RecordKind, TextKind.TextKind}
+use Rattle.nbfx_records.specs.declared.nodes.{ArrayNode.ArrayNode, Node.Node}
+use Rattle.nbfx_records.specs.declared.nodes.{AttrNode.AttrNode, NameRef.NameRef}
+use Rattle.nbfx_records.specs.declared.nodes.Node.TheVariants.{Array, Attribute, Comment, Element}
+use Rattle.nbfx_records.specs.declared.nodes.Node.TheVariants.{EndElement, Text, Xmlns}
+use Rattle.nbfx_records.specs.declared.nodes.{NodePlace.NodePlace, RawValue.RawValue}
+use Rattle.nbfx_records.specs.declared.nodes.NodePlace.TheVariants.{AfterRoot, BeforeRoot, Within}
+use Rattle.nbfx_records.specs.Contents.{array_of, attribute_node, attribute_value, contents}
+use Rattle.nbfx_records.specs.Contents.{is_text, name_is_text, node_of}
+use Rattle.nbfx_records.specs.{Kinds.record_kind, Places.Stands, TypeBytes.form_of}
+use Rattle.nbfx_records.specs.Laws.{NoRecordGoesOn, RecordsAreRead}
+use Rattle.nbfx_records.specs.{RecordAtFront.node_at, Shapes.shape_at}
+use Rattle.nbfx_records.specs.Records.{IsArray, IsAttrNode, IsNode}
+use Rattle.nbfx_records.specs.Shapes.{adds, AttributeShape, begins_element, comments, ends_element}
+use Rattle.nbfx_records.specs.Shapes.{ends_list, is_attribute, misplaced, opens, repeats, Shape}
+use Rattle.nbfx_records.proofs.ArrayBytes.{array_back, array_there}
+use Rattle.nbfx_records.proofs.AttributeBytes.{element_back, element_there, part_back, part_there}
+use Rattle.nbfx_records.proofs.{AttributeBytes.PartIs, KindBytes.byte_is}
+use Rattle.nbfx_records.proofs.NameBytes.{string_back, string_there}
+use Rattle.nbfx_records.proofs.{PartBytes.just_as, ShapeFronts.node_fronts}
+use Rattle.nbfx_records.proofs.ShapeBytes.{IsShape, just_shape, PlacedIs, RecordIs}
+use Rattle.nbfx_records.proofs.ValueBytes.{mapped_some, SpellsText, text_back, text_there}
 use Rattle.nbfx_records.specs.declared.nodes.AttrNode.TheVariants as attribute_nodes
-use Rattle.nbfx_records.specs.declared.nodes.Node.{Node}
-use Rattle.nbfx_records.specs.declared.nodes.Node.TheVariants.{EndElement, Comment, Array}
-use Rattle.nbfx_records.specs.declared.nodes.Node.TheVariants.{Attribute, Xmlns, Element, Text}
-use Rattle.nbfx_records.specs.declared.nodes.NodePlace.{NodePlace}
-use Rattle.nbfx_records.specs.declared.nodes.NodePlace.TheVariants.{BeforeRoot, Within, AfterRoot}
 use Rattle.nbfx_records.specs.declared.nodes.RecordFault.TheVariants as faults
-use Rattle.nbfx_records.specs.declared.kinds.TextKind.{TextKind}
-use Rattle.nbfx_records.specs.declared.nodes.NameRef.{NameRef}
-use Rattle.nbfx_records.specs.declared.nodes.RawValue.{RawValue}
-use Rattle.std.specs.Option.{option_map}
-use Rattle.nbfx_records.specs.declared.kinds.PrefixForm.{PrefixForm}
-use Rattle.nbfx_records.specs.declared.kinds.NameForm.{NameForm}
-use Rattle.nbfx_records.specs.declared.kinds.RecordKind.{RecordKind}
 use Rattle.nbfx_records.specs.declared.kinds.RecordKind.TheVariants as records
-use Rattle.nbfx_records.specs.Kinds.{record_kind}
-use Rattle.nbfx_records.specs.Shapes.{AttributeShape, Shape, ends_element, comments, begins_element}
-use Rattle.nbfx_records.specs.Shapes.{adds, repeats, misplaced, opens, is_attribute, ends_list}
-use Rattle.nbfx_records.specs.Shapes.{shape_at}
-use Rattle.nbfx_records.specs.Contents.{name_is_text, is_text, attribute_value, array_of}
-use Rattle.nbfx_records.specs.Contents.{attribute_node, node_of, contents}
-use Rattle.nbfx_records.specs.RecordAtFront.{node_at}
-use Rattle.nbfx_records.specs.Records.{IsAttrNode, IsArray, IsNode}
-use Rattle.nbfx_records.specs.Places.{Stands}
-use Rattle.nbfx_records.specs.Laws.{RecordsAreRead, NoRecordGoesOn}
-use Rattle.nbfx_records.proofs.ShapeFronts.{node_fronts}
-use Rattle.nbfx_records.proofs.PartBytes.{just_as}
-use Rattle.nbfx_records.proofs.ShapeBytes.{RecordIs, PlacedIs, IsShape, just_shape}
-use Rattle.nbfx_records.proofs.KindBytes.{byte_is}
-use Rattle.nbfx_records.proofs.ValueBytes.{mapped_some, SpellsText, text_there, text_back}
-use Rattle.nbfx_records.specs.TypeBytes.{form_of}
-use Rattle.nbfx_records.proofs.NameBytes.{string_there, string_back}
-use Rattle.nbfx_records.proofs.AttributeBytes.{PartIs, part_there, part_back, element_there}
-use Rattle.nbfx_records.proofs.AttributeBytes.{element_back}
-use Rattle.nbfx_records.proofs.ArrayBytes.{array_there, array_back}
 
 -- what a whole shape says, by its texts and its values
 pub contents_parts : (shape : Shape) (node : Node) → contents shape ≡ Ok node

@@ -1,19 +1,14 @@
 -- Numbers with a sign, and the record that is chosen for one.
-use Rattle.std.proofs.Common.{◌≡◌, ◌≢◌, ℕ, ◌-◌, ◌^◌, ◌<◌, Bool, true, false, List, ◌∷◌, refl, sym}
-use Rattle.std.proofs.Common.{ap, ◌∙◌, subst, arith, to_z-of_z}
-use Rattle.std.specs.Prelude.{Result, ℤ, pos, negsuc, nat_lt, FitsSigned, unsigned_abs}
-use Rattle.std.specs.Int.{Width, w8, w16, w32, w64, w128, cast_signed, cast_unsigned, to_le_bytes}
-use Rattle.std.specs.Ordering.{int_eq}
-use Rattle.std.specs.Cmp.{signed_Decides}
+use Rattle.std.proofs.Common.{◌≡◌, ℕ, ◌-◌, ◌^◌, ◌<◌, Bool, true, false, ◌≢◌, List, ◌∷◌, ℤ, pos}
+use Rattle.std.proofs.Common.{negsuc, nat_lt, unsigned_abs, FitsSigned, Result, int_eq, sym, refl}
+use Rattle.std.proofs.Common.{ap, ◌∙◌, subst, arith, to_z-of_z, w8, w16, w32, w64, le-ltb, lt-ltb}
+use Rattle.{std.specs.Cmp.signed_Decides, nbfx_values.specs.Scalars.is_signed}
+use Rattle.std.specs.Int.{Width, cast_signed, cast_unsigned, to_le_bytes, w128}
 use mir.Val.{hbits}
-use Rattle.std.proofs.lemmas.Bool.{le-ltb, lt-ltb}
-use Rattle.nbfx_values.specs.Scalars.{is_signed}
-use Rattle.nbfx_records.specs.declared.kinds.TextKind.{TextKind}
+use Rattle.nbfx_records.specs.{declared.kinds.TextKind.TextKind, Putting.Puts, TypeBytes.byte_of}
+use Rattle.nbfx_records.specs.Chosen.{chosen_number, record_bytes, signed, sized}
 use Rattle.nbfx_records.specs.declared.kinds.TextKind.TheVariants as texts
 use Rattle.nbfx_records.specs.declared.kinds.RecordKind.TheVariants as records
-use Rattle.nbfx_records.specs.Chosen.{sized, signed, chosen_number, record_bytes}
-use Rattle.nbfx_records.specs.Putting.{Puts}
-use Rattle.nbfx_records.specs.TypeBytes.{byte_of}
 
 below_true : (p n : ℕ) → n < p → nat_lt (p - 1) n ≡ false
 below_true p n h = le-ltb (p - 1) n (omega arith)

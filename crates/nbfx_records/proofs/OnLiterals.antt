@@ -1,19 +1,13 @@
 -- What a proof unfolds to compute the definitions on literal bytes.
-use Rattle.std.specs.Prelude.{◌≡◌, ⊤, ℕ, List, length, map, true}
-use Rattle.std.specs.Char.{encode_utf8}
-use Rattle.std.specs.Char.Utf16.{utf16_chars}
-use Rattle.std.specs.Str.{chars, is_utf8}
-use Rattle.unit_streams.specs.Parts.{◌>>=◌, many, repeated}
+use Rattle.std.proofs.Common.{◌≡◌, ℕ, true, List, map, length}
+use Rattle.std.specs.{Prelude.⊤, Char.encode_utf8, Char.Utf16.utf16_chars, Str.chars, Str.is_utf8}
+use Rattle.unit_streams.specs.{Front.whole, Parts.many, Parts.repeated, Parts.◌>>=◌}
 use Rattle.multibyte_ints.specs.Integer.{int_at, int_ending_at, shortest, shortest_within, value_of}
 use Rattle.multibyte_ints.specs.Text.{string_bytes_of}
-use Rattle.unit_streams.specs.Front.{whole}
-use Rattle.nbfx_records.specs.declared.nodes.Node.{Node}
-use Rattle.nbfx_records.specs.declared.nodes.NodePlace.TheVariants.{Within}
-use Rattle.nbfx_records.specs.Chosen.{chosen_bytes}
-use Rattle.nbfx_records.specs.Kinds.{record_kind}
+use Rattle.nbfx_records.specs.declared.nodes.{Node.Node, NodePlace.TheVariants.Within}
+use Rattle.nbfx_records.specs.{Chosen.chosen_bytes, Kinds.record_kind, RecordAtFront.node_at}
+use Rattle.nbfx_records.specs.Contents.{contents, scalar_of}
 use Rattle.nbfx_records.specs.Shapes.{array_at, record_at, shape_at}
-use Rattle.nbfx_records.specs.Contents.{scalar_of, contents}
-use Rattle.nbfx_records.specs.RecordAtFront.{node_at}
 
 unfoldable pub records_on_literals : ⊤
 unfolding encode_utf8 utf16_chars chars is_utf8 ◌>>=◌ many repeated int_at int_ending_at value_of

@@ -1,39 +1,30 @@
 -- What the bytes of each part of a record are, up to a list, where no text and no value is judged.
-use Rattle.std.proofs.Common.{◌≡◌, ℕ, List, [], ◌∷◌, ◌++◌, length, take, Bool, true, false, Option}
-use Rattle.std.proofs.Common.{Some, None, refl, sym, ap, ◌∙◌, subst}
-use Rattle.std.specs.Prelude.{if◌then◌else◌}
-use Rattle.std.specs.Int.{byte_len}
-use Rattle.std.proofs.lemmas.List.{append-nil}
-use Rattle.unit_streams.specs.Parts.{Reader, given, refuse, a_byte, some_bytes, ◌>>=◌, seen, Turn}
-use Rattle.unit_streams.specs.Parts.{more, stop, Many, ReadsJust, Joined, AreMany}
-use Rattle.unit_streams.proofs.Parts.{then_begun}
-use Rattle.unit_streams.proofs.Spelled.{just_given, just_refuse, just_byte, just_bytes, just_then}
-use Rattle.unit_streams.proofs.Spelled.{just_seen}
-use Rattle.unit_streams.proofs.Repeated.{just_many}
-use Rattle.multibyte_ints.specs.Integer.{Spells, int_at}
+use Rattle.std.proofs.Common.{◌≡◌, ℕ, Bool, true, false, List, [], ◌∷◌, ◌++◌, length, take}
+use Rattle.std.proofs.Common.{if◌then◌else◌, Some, None, Option, sym, refl, ap, ◌∙◌, subst}
+use Rattle.std.{proofs.Common.append-nil, specs.Int.byte_len}
+use Rattle.unit_streams.proofs.{Parts.then_begun, Repeated.just_many, Spelled.just_then}
+use Rattle.unit_streams.proofs.Spelled.{just_byte, just_bytes, just_given, just_refuse, just_seen}
+use Rattle.unit_streams.specs.Parts.{a_byte, AreMany, given, Joined, Many, more, Reader, ReadsJust}
+use Rattle.unit_streams.specs.Parts.{refuse, seen, some_bytes, stop, Turn, ◌>>=◌}
 use Rattle.multibyte_ints.proofs.IntegerLaws.{spells_from_whole, whole_from_spells}
-use Rattle.nbfx_records.specs.declared.kinds.TextKind.{TextKind}
-use Rattle.nbfx_records.specs.declared.kinds.TextKind.TheVariants as texts
-use Rattle.nbfx_records.specs.declared.nodes.NameRef.{NameRef}
-use Rattle.nbfx_records.specs.declared.nodes.NameRef.TheVariants.{Inline, Id}
-use Rattle.nbfx_records.specs.declared.nodes.RecordFault.{RecordFault}
-use Rattle.nbfx_records.specs.declared.nodes.RecordFault.TheVariants as faults
-use Rattle.nbfx_records.specs.declared.kinds.PrefixForm.{PrefixForm}
-use Rattle.nbfx_records.specs.declared.kinds.NameForm.{NameForm}
-use Rattle.nbfx_records.specs.declared.kinds.RecordKind.{RecordKind}
-use Rattle.nbfx_records.specs.declared.kinds.Body.{Body}
-use Rattle.nbfx_records.specs.declared.kinds.LengthForm.{LengthForm}
-use Rattle.nbfx_records.specs.declared.kinds.PrefixForm.TheVariants.{Unprefixed, Lettered, Prefixed}
-use Rattle.nbfx_records.specs.declared.kinds.NameForm.TheVariants.{Inlined, Identified}
-use Rattle.nbfx_records.specs.declared.kinds.Body.TheVariants.{Fixed, Counted, Named, Qualified}
-use Rattle.nbfx_records.specs.declared.kinds.Body.TheVariants.{Listed, Ending}
-use Rattle.nbfx_records.specs.declared.kinds.RecordKind.TheVariants as records
-use Rattle.nbfx_records.specs.Kinds.{record_kind, body_of}
-use Rattle.nbfx_records.specs.Shapes.{ScalarShape, bytes_of, named_by, qualified_by, an_integer}
-use Rattle.nbfx_records.specs.Shapes.{a_string, prefix_at, name_at, width_in, is_negative}
-use Rattle.nbfx_records.specs.Shapes.{length_of, said_length, given_or, a_length, counted_bytes}
-use Rattle.nbfx_records.specs.Shapes.{body_at, scalar_at, turn_of, list_turn, list_at}
+use Rattle.multibyte_ints.specs.Integer.{int_at, Spells}
+use Rattle.nbfx_records.specs.declared.kinds.Body.{Body, TheVariants.Named, TheVariants.Qualified}
+use Rattle.nbfx_records.specs.declared.kinds.Body.TheVariants.{Counted, Ending, Fixed, Listed}
+use Rattle.nbfx_records.specs.declared.kinds.{LengthForm.LengthForm, NameForm.NameForm}
+use Rattle.nbfx_records.specs.declared.kinds.NameForm.TheVariants.{Identified, Inlined}
+use Rattle.nbfx_records.specs.declared.kinds.{PrefixForm.PrefixForm, TextKind.TextKind}
+use Rattle.nbfx_records.specs.declared.kinds.PrefixForm.TheVariants.{Lettered, Prefixed, Unprefixed}
+use Rattle.nbfx_records.specs.declared.{kinds.RecordKind.RecordKind, nodes.RecordFault.RecordFault}
+use Rattle.nbfx_records.specs.declared.nodes.NameRef.{NameRef, TheVariants.Id, TheVariants.Inline}
+use Rattle.nbfx_records.specs.Kinds.{body_of, record_kind}
+use Rattle.nbfx_records.specs.Shapes.{a_length, a_string, an_integer, body_at, bytes_of}
+use Rattle.nbfx_records.specs.Shapes.{counted_bytes, given_or, is_negative, length_of, list_at}
+use Rattle.nbfx_records.specs.Shapes.{list_turn, name_at, named_by, prefix_at, qualified_by}
+use Rattle.nbfx_records.specs.Shapes.{said_length, scalar_at, ScalarShape, turn_of, width_in}
 use Rattle.nbfx_records.proofs.ShapeFronts.{reads_list_turn}
+use Rattle.nbfx_records.specs.declared.kinds.TextKind.TheVariants as texts
+use Rattle.nbfx_records.specs.declared.nodes.RecordFault.TheVariants as faults
+use Rattle.nbfx_records.specs.declared.kinds.RecordKind.TheVariants as records
 
 -- the same bytes, said otherwise
 pub just_as : {A R : Type 0} (f : Reader A R) (P Q : A → List ℕ → Type 0) → ReadsJust f P

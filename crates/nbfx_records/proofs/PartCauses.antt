@@ -1,63 +1,56 @@
 -- What makes each part of a record wrong, from numbers up to the whole record.
-use Rattle.std.proofs.Common.{◌≡◌, ℕ, ◌+◌, ◌*◌, ◌^◌, ◌<◌, ◌≤◌, List, [], ◌∷◌, length, take, drop}
-use Rattle.std.proofs.Common.{Bool, true, false, Option, Some, None, refl, sym, ap, ◌∙◌, inl, inr}
-use Rattle.std.proofs.Common.{arith, ◌⊎◌}
-use Rattle.std.specs.Prelude.{⊤, ◌↔◌, nat_le, nat_lt, ◌==◌, ◌&&◌, ◌||◌, not, if◌then◌else◌}
-use Rattle.std.specs.Int.{w32, from_le_bytes}
-use Rattle.std.proofs.lemmas.Bool.{cases_lt, lt-ltb, le-ltb, le-leb, leb-true, eqb-true}
-use Rattle.unit_streams.specs.Front.{Front, begun, whole, wrong}
-use Rattle.unit_streams.specs.Parts.{Reader, given, refuse, a_byte, some_bytes, further, ◌>>=◌}
-use Rattle.unit_streams.specs.Parts.{seen, more, stop}
-use Rattle.unit_streams.proofs.Parts.{then_begun, then_wrong, then_whole}
+use Rattle.std.proofs.Common.{◌≡◌, ℕ, ◌+◌, ◌*◌, ◌^◌, ◌<◌, ◌≤◌, Bool, true, false, not, ◌&&◌, ◌||◌}
+use Rattle.std.proofs.Common.{◌⊎◌, ◌↔◌, List, [], ◌∷◌, length, take, drop, if◌then◌else◌, nat_lt}
+use Rattle.std.proofs.Common.{nat_le, ◌==◌, Some, None, Option, sym, refl, ap, ◌∙◌, inl, inr, arith}
+use Rattle.std.proofs.Common.{w32, le-ltb, lt-ltb, eqb-true, le-leb, leb-true}
+use Rattle.std.{specs.Prelude.⊤, proofs.lemmas.Bool.cases_lt, specs.Int.from_le_bytes}
+use Rattle.unit_streams.proofs.Parts.{then_begun, then_whole, then_wrong}
+use Rattle.unit_streams.specs.Front.{begun, Front, whole, wrong}
+use Rattle.unit_streams.specs.Parts.{a_byte, further, given, more, Reader, refuse, seen, some_bytes}
+use Rattle.unit_streams.specs.Parts.{stop, ◌>>=◌}
+use Rattle.multibyte_ints.proofs.{IntegerBytes.above_from, IntegerFacts.wrong_is}
 use Rattle.multibyte_ints.specs.Integer.{int_at}
-use Rattle.multibyte_ints.proofs.IntegerBytes.{above_from}
-use Rattle.multibyte_ints.proofs.IntegerFacts.{wrong_is}
 use Rattle.nbfx_values.specs.declared.content.ArrayKind.{ArrayKind}
-use Rattle.nbfx_records.specs.declared.kinds.Body.{Body}
-use Rattle.nbfx_records.specs.declared.kinds.Body.TheVariants.{Fixed, Counted, Named, Qualified}
-use Rattle.nbfx_records.specs.declared.kinds.Body.TheVariants.{Listed, Ending}
-use Rattle.nbfx_records.specs.declared.kinds.LengthForm.TheVariants.{OneByte, TwoBytes, FourBytes}
-use Rattle.nbfx_records.specs.declared.kinds.NameForm.{NameForm}
-use Rattle.nbfx_records.specs.declared.kinds.NameForm.TheVariants.{Inlined, Identified}
-use Rattle.nbfx_records.specs.declared.kinds.PrefixForm.{PrefixForm}
-use Rattle.nbfx_records.specs.declared.kinds.PrefixForm.TheVariants.{Unprefixed, Lettered, Prefixed}
-use Rattle.nbfx_records.specs.declared.kinds.RecordKind.{RecordKind}
-use Rattle.nbfx_records.specs.declared.kinds.RecordKind.TheVariants as records
-use Rattle.nbfx_records.specs.declared.kinds.TextKind.{TextKind}
-use Rattle.nbfx_records.specs.declared.kinds.TextKind.TheVariants as texts
-use Rattle.nbfx_records.specs.declared.nodes.NameRef.TheVariants.{Inline, Id}
-use Rattle.nbfx_records.specs.declared.nodes.RecordFault.{RecordFault}
-use Rattle.nbfx_records.specs.declared.nodes.RecordFault.TheVariants as faults
-use Rattle.nbfx_records.specs.declared.nodes.NodePlace.{NodePlace}
-use Rattle.nbfx_records.specs.declared.nodes.NodePlace.TheVariants.{BeforeRoot, Within, AfterRoot}
-use Rattle.nbfx_records.specs.Kinds.{array_kind, body_of, record_kind, width_of}
-use Rattle.nbfx_records.specs.Shapes.{CellsShape, NamedShape, a_length, a_string, adds, an_integer}
-use Rattle.nbfx_records.specs.Shapes.{array_at, array_cells, array_element, array_part, array_parts}
-use Rattle.nbfx_records.specs.Shapes.{array_shape, array_turn, array_values, attribute_at}
-use Rattle.nbfx_records.specs.Shapes.{attributes, begins_element, body_at, bytes_of, cells_of}
-use Rattle.nbfx_records.specs.Shapes.{cells_shape, comments, counted_bytes, counted_cells}
-use Rattle.nbfx_records.specs.Shapes.{declaration_at, declares, element_at, element_of}
-use Rattle.nbfx_records.specs.Shapes.{ends_element, ends_list, given_or, has_text, is_attribute}
-use Rattle.nbfx_records.specs.Shapes.{list_at, list_turn, misplaced, name_at, named_by, named_shape}
-use Rattle.nbfx_records.specs.Shapes.{one, opens, placed, prefix_at, qualified_by, record_at}
-use Rattle.nbfx_records.specs.Shapes.{content_at, repeats, said_length, scalar_at, several}
-use Rattle.nbfx_records.specs.Shapes.{shape_at}
-use Rattle.nbfx_records.specs.Shapes.{turn_of, unless_misplaced, value_at, value_of_kind}
-use Rattle.nbfx_records.specs.Causes.{Behind, InArray, InAttribute, InBody, InCells, InCellsOf}
-use Rattle.nbfx_records.specs.Causes.{InElement, InElementOf, InItem, InList, InNamed, InPartOf}
-use Rattle.nbfx_records.specs.Causes.{InParts, InPlaced, InPrefix, InRecord, InRecordOf, InText}
-use Rattle.nbfx_records.specs.Causes.{InTurn, InValue, InValueOf, IsBadInt, IsNegative, IsNone, Now}
-use Rattle.nbfx_records.specs.Causes.{cells_refused, cells_type, count, element_refused}
-use Rattle.nbfx_records.specs.Causes.{element_type, integer, item_refused, item_type, long_length}
+use Rattle.nbfx_records.specs.declared.kinds.Body.{Body, TheVariants.Named, TheVariants.Qualified}
+use Rattle.nbfx_records.specs.declared.kinds.Body.TheVariants.{Counted, Ending, Fixed, Listed}
+use Rattle.nbfx_records.specs.declared.kinds.LengthForm.TheVariants.{FourBytes, OneByte, TwoBytes}
+use Rattle.nbfx_records.specs.declared.kinds.{NameForm.NameForm, PrefixForm.PrefixForm}
+use Rattle.nbfx_records.specs.declared.kinds.NameForm.TheVariants.{Identified, Inlined}
+use Rattle.nbfx_records.specs.declared.kinds.PrefixForm.TheVariants.{Lettered, Prefixed, Unprefixed}
+use Rattle.nbfx_records.specs.declared.kinds.{RecordKind.RecordKind, TextKind.TextKind}
+use Rattle.nbfx_records.specs.declared.nodes.NameRef.TheVariants.{Id, Inline}
+use Rattle.nbfx_records.specs.declared.nodes.{NodePlace.NodePlace, RecordFault.RecordFault}
+use Rattle.nbfx_records.specs.declared.nodes.NodePlace.TheVariants.{AfterRoot, BeforeRoot, Within}
+use Rattle.nbfx_records.specs.Causes.{Behind, cells_refused, cells_type, count, element_refused}
+use Rattle.nbfx_records.specs.Causes.{element_type, InArray, InAttribute, InBody, InCells}
+use Rattle.nbfx_records.specs.Causes.{InCellsOf, InElement, InElementOf, InItem, InList, InNamed}
+use Rattle.nbfx_records.specs.Causes.{InPartOf, InParts, InPlaced, InPrefix, InRecord, InRecordOf}
+use Rattle.nbfx_records.specs.Causes.{integer, InText, InTurn, InValue, InValueOf, IsBadInt}
+use Rattle.nbfx_records.specs.Causes.{IsNegative, IsNone, item_refused, item_type, long_length, Now}
 use Rattle.nbfx_records.specs.Causes.{part_refused, part_type, record_refused, record_type}
 use Rattle.nbfx_records.specs.Causes.{value_refused, value_type}
-use Rattle.nbfx_records.proofs.CauseFacts.{BranchOf, Nowhere, WrongJust, after_never, carried, leaf}
-use Rattle.nbfx_records.proofs.CauseFacts.{never_wrong, refuses, then_never, unseen, wrong_as}
+use Rattle.nbfx_records.specs.Kinds.{array_kind, body_of, record_kind, width_of}
+use Rattle.nbfx_records.specs.Shapes.{a_length, a_string, adds, an_integer, array_at, array_cells}
+use Rattle.nbfx_records.specs.Shapes.{array_element, array_part, array_parts, array_shape}
+use Rattle.nbfx_records.specs.Shapes.{array_turn, array_values, attribute_at, attributes}
+use Rattle.nbfx_records.specs.Shapes.{begins_element, body_at, bytes_of, cells_of, cells_shape}
+use Rattle.nbfx_records.specs.Shapes.{CellsShape, comments, content_at, counted_bytes}
+use Rattle.nbfx_records.specs.Shapes.{counted_cells, declaration_at, declares, element_at}
+use Rattle.nbfx_records.specs.Shapes.{element_of, ends_element, ends_list, given_or, has_text}
+use Rattle.nbfx_records.specs.Shapes.{is_attribute, list_at, list_turn, misplaced, name_at}
+use Rattle.nbfx_records.specs.Shapes.{named_by, named_shape, NamedShape, one, opens, placed}
+use Rattle.nbfx_records.specs.Shapes.{prefix_at, qualified_by, record_at, repeats, said_length}
+use Rattle.nbfx_records.specs.Shapes.{scalar_at, several, shape_at, turn_of, unless_misplaced}
+use Rattle.nbfx_records.specs.Shapes.{value_at, value_of_kind}
+use Rattle.nbfx_records.proofs.CauseFacts.{after_never, BranchOf, carried, leaf, never_wrong}
+use Rattle.nbfx_records.proofs.CauseFacts.{Nowhere, refuses, then_never, unseen, wrong_as}
 use Rattle.nbfx_records.proofs.CauseFacts.{wrong_both, wrong_many, wrong_seen, wrong_typed}
-use Rattle.nbfx_records.proofs.CursorFacts.{further_wrong}
-use Rattle.nbfx_records.proofs.ListFacts.{nothing_turned}
-use Rattle.nbfx_records.proofs.PartsFacts.{nothing_parted}
+use Rattle.nbfx_records.proofs.{CauseFacts.WrongJust, CursorFacts.further_wrong}
+use Rattle.nbfx_records.proofs.{ListFacts.nothing_turned, PartsFacts.nothing_parted}
 use Rattle.nbfx_records.proofs.ShapeFronts.{reads_array_turn, reads_list_turn}
+use Rattle.nbfx_records.specs.declared.kinds.RecordKind.TheVariants as records
+use Rattle.nbfx_records.specs.declared.kinds.TextKind.TheVariants as texts
+use Rattle.nbfx_records.specs.declared.nodes.RecordFault.TheVariants as faults
 
 -- bytes are never wrong
 given_never : {A : Type 0} (a : A) → WrongJust (given {R = RecordFault} a) Nowhere

@@ -1,24 +1,17 @@
 -- The parts of a record that are read from an offset on, by their own parts.
-use Rattle.std.proofs.Common.{◌≡◌, ℕ, List, Option, Some, None, Bool, true, false, refl, sym, subst}
-use Rattle.std.specs.Int.{byte_len}
-use Rattle.unit_streams.specs.Parts.{Reader, a_byte, some_bytes, ◌>>=◌, more}
-use Rattle.nbfx_records.specs.declared.cursor.Stop.{Stop}
-use Rattle.nbfx_records.specs.declared.kinds.LengthForm.{LengthForm}
-use Rattle.nbfx_records.specs.declared.nodes.RecordFault.{RecordFault}
+use Rattle.std.proofs.Common.{◌≡◌, ℕ, Bool, true, false, List, Some, None, Ok, Option, Result, sym}
+use Rattle.std.{proofs.Common.refl, proofs.Common.subst, proofs.Common.Bor, specs.Int.byte_len}
+use Rattle.unit_streams.specs.Parts.{a_byte, more, Reader, some_bytes, ◌>>=◌}
+use Rattle.nbfx_records.specs.declared.cursor.Stop.{Stop, TheVariants.Fault}
+use Rattle.nbfx_records.specs.declared.kinds.{LengthForm.LengthForm, TextKind.TextKind}
+use Rattle.nbfx_records.specs.declared.{kinds.RecordKind.RecordKind, nodes.RecordFault.RecordFault}
+use Rattle.nbfx_records.specs.{Cursor.Stops, Cursor.Tells, Kinds.record_kind, Shapes.width_in}
+use Rattle.nbfx_records.specs.Shapes.{a_length, given_or, said_length, scalar_at, text_turn}
+use Rattle.nbfx_records.proofs.CursorFacts.{given_tells, refuse_stops, seen_stops, then_stops}
+use Rattle.nbfx_records.proofs.CursorFacts.{then_stops_behind, then_tells}
 use Rattle.nbfx_records.specs.declared.nodes.RecordFault.TheVariants as faults
-use Rattle.std.proofs.Common.{Result, Ok}
-use Rattle.nbfx_records.specs.declared.cursor.Stop.TheVariants.{Fault}
-use denote.Ref.{Bor}
 use Rattle.nbfx_records.specs.Asked as asked
-use Rattle.nbfx_records.specs.Cursor.{Stops, Tells}
-use Rattle.nbfx_records.specs.declared.kinds.RecordKind.{RecordKind}
-use Rattle.nbfx_records.specs.Kinds.{record_kind}
-use Rattle.nbfx_records.specs.declared.kinds.TextKind.{TextKind}
 use Rattle.nbfx_records.specs.declared.kinds.TextKind.TheVariants as texts
-use Rattle.nbfx_records.specs.Shapes.{width_in, said_length, given_or, a_length, scalar_at}
-use Rattle.nbfx_records.specs.Shapes.{text_turn}
-use Rattle.nbfx_records.proofs.CursorFacts.{then_stops, then_tells, then_stops_behind, seen_stops}
-use Rattle.nbfx_records.proofs.CursorFacts.{given_tells, refuse_stops}
 
 -- a length, by its bytes
 module _ (form : LengthForm) (bytes : List ℕ) (at width : ℕ)

@@ -1,20 +1,17 @@
 -- The attributes of an array that are read one by one, and their bytes.
-use Rattle.std.proofs.Common.{◌≡◌, ℕ, ◌-◌, ◌<◌, List, [], ◌∷◌, ◌++◌, length, take, drop, sym, ap}
-use Rattle.std.proofs.Common.{◌∙◌, subst, refl, arith, length-drop}
-use Rattle.std.proofs.lemmas.List.{append-nil, length-take-le, take_all}
-use Rattle.unit_streams.specs.Front.{begun, whole, on_whole}
-use Rattle.unit_streams.specs.Parts.{a_byte, more, stop, Many}
-use Rattle.unit_streams.proofs.Parts.{then_begun}
-use Rattle.nbfx_records.specs.declared.cursor.Stop.{Stop}
-use Rattle.nbfx_records.specs.Asked as asked
-use Rattle.nbfx_records.specs.Cursor.{IsWhole, Stops}
-use Rattle.nbfx_records.specs.Resuming.{Passes}
-use Rattle.nbfx_records.specs.Shapes.{AttributeShape, array_turn, array_parts}
-use Rattle.nbfx_records.specs.Views.{parts_of, AreParts}
-use Rattle.nbfx_records.proofs.ShapeFronts.{reads_array_turn, reads_array_parts}
+use Rattle.std.proofs.Common.{◌≡◌, ℕ, ◌-◌, ◌<◌, List, [], ◌∷◌, ◌++◌, length, take, drop, sym, refl}
+use Rattle.std.proofs.Common.{ap, ◌∙◌, subst, append-nil, arith, length-drop, length-take-le}
+use Rattle.{std.proofs.Common.take_all, unit_streams.proofs.Parts.then_begun}
+use Rattle.unit_streams.specs.Front.{begun, on_whole, whole}
+use Rattle.unit_streams.specs.Parts.{a_byte, Many, more, stop}
+use Rattle.nbfx_records.specs.{declared.cursor.Stop.Stop, Resuming.Passes}
+use Rattle.nbfx_records.specs.{Cursor.IsWhole, Cursor.Stops, Views.AreParts, Views.parts_of}
+use Rattle.nbfx_records.specs.Shapes.{array_parts, array_turn, AttributeShape}
 use Rattle.nbfx_records.proofs.CursorFacts.{further_whole}
-use Rattle.nbfx_records.proofs.ManyFacts.{moves, all_stop, all_more, never_stops, many_whole}
-use Rattle.nbfx_records.proofs.ManyFacts.{many_stops, passes_more}
+use Rattle.nbfx_records.proofs.ManyFacts.{all_more, all_stop, many_stops, many_whole, moves}
+use Rattle.nbfx_records.proofs.ManyFacts.{never_stops, passes_more}
+use Rattle.nbfx_records.proofs.ShapeFronts.{reads_array_parts, reads_array_turn}
+use Rattle.nbfx_records.specs.Asked as asked
 
 pub nothing_parted : array_turn [] ≡ begun
 nothing_parted = then_begun a_byte _ [] refl

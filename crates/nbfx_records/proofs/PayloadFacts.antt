@@ -1,30 +1,22 @@
 -- Records one behind the other, and the strings of a table as they are written.
-use Rattle.std.proofs.Common.{◌≡◌, ℕ, ◌+◌, ◌*◌, ◌^◌, ◌<◌, ◌≤◌, List, [], ◌∷◌, ◌++◌, length, drop}
-use Rattle.std.proofs.Common.{true, refl, sym, ap, ◌∙◌, subst, arith, append_assoc, length-append}
-use Rattle.std.specs.Prelude.{◌&&◌, flat_map}
-use Rattle.std.specs.List.{list_all}
-use Rattle.std.specs.Str.{is_utf8}
-use Rattle.std.proofs.lemmas.Bool.{and_parts, and_from, lt-ltb, ltb-true}
-use Rattle.std.proofs.lemmas.List.Concat.{flat_map-cons}
-use Rattle.std.proofs.lemmas.List.Sums.{sum_by-cons}
-use Rattle.std.proofs.lemmas.Str.{IsUtf8-from_is_utf8}
-use Rattle.std.proofs.Math.Seq.{drop-append_seam}
-use Rattle.unit_streams.specs.Front.{whole}
-use Rattle.multibyte_ints.specs.Integer.{shortest}
-use Rattle.multibyte_ints.specs.Text.{IsString, string_at, string_bytes_of}
-use Rattle.multibyte_ints.proofs.ShortestLaws.{shortest_spells}
-use Rattle.multibyte_ints.proofs.TextBytes.{string_reads_front}
-use Rattle.multibyte_ints.proofs.TextLaws.{string_alone, string_bytes_are}
-use Rattle.nbfx_values.specs.declared.content.Item.{Item}
+use Rattle.std.proofs.Common.{◌≡◌, ℕ, ◌+◌, ◌*◌, ◌^◌, ◌<◌, ◌≤◌, true, ◌&&◌, List, [], ◌∷◌, ◌++◌}
+use Rattle.std.proofs.Common.{length, drop, flat_map, sym, refl, ap, ◌∙◌, subst, append_assoc}
+use Rattle.std.proofs.Common.{arith, length-append, ltb-true, lt-ltb}
+use Rattle.std.{proofs.Math.Seq.drop-append_seam, specs.List.list_all, specs.Str.is_utf8}
+use Rattle.std.proofs.lemmas.{Bool.and_from, Bool.and_parts, Str.IsUtf8-from_is_utf8}
+use Rattle.std.proofs.lemmas.List.{Concat.flat_map-cons, Sums.sum_by-cons}
+use Rattle.{unit_streams.specs.Front.whole, multibyte_ints.specs.Integer.shortest}
 use Rattle.string_tables.specs.SessionStrings.{cost, used_cost}
-use Rattle.nbfx_records.specs.Chosen.{chosen_bytes}
+use Rattle.multibyte_ints.proofs.{ShortestLaws.shortest_spells, TextBytes.string_reads_front}
+use Rattle.multibyte_ints.proofs.TextLaws.{string_alone, string_bytes_are}
+use Rattle.multibyte_ints.specs.Text.{IsString, string_at, string_bytes_of}
+use Rattle.nbfx_values.specs.declared.content.Item.{Item}
+use Rattle.nbfx_records.specs.{Chosen.chosen_bytes, Payloads.record_then}
 use Rattle.nbfx_records.specs.Payloads.{AreRecords, AreStrings, IsRecordMeaning, no_record}
-use Rattle.nbfx_records.specs.Payloads.{record_then}
 use Rattle.nbfx_records.specs.Valid.{fits_node, is_short, is_valid_node}
 use Rattle.nbfx_records.specs.WritingLaws.{RecordsJoin, RecordsStay, StringsAreOnce}
 use Rattle.nbfx_records.specs.WritingLaws.{WrittenAreRecords, WrittenAreStrings, WrittenIsTable}
-use Rattle.nbfx_records.proofs.ChosenNodes.{chosen_is}
-use Rattle.nbfx_records.proofs.StayFacts.{meanings_stay}
+use Rattle.nbfx_records.proofs.{ChosenNodes.chosen_is, StayFacts.meanings_stay}
 
 pub records_stay : RecordsStay
 records_stay table more items bytes no_record = no_record

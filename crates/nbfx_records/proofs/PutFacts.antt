@@ -1,13 +1,9 @@
 -- What stands behind others when one more is appended, and when there is no memory for it.
-use Rattle.std.proofs.Common.{◌≡◌, ℕ, suc, ◌<◌, List, ◌∷◌, ◌++◌, length, get_or, take, drop, Bool}
-use Rattle.std.proofs.Common.{true, false, Result, Ok, Err, refl, sym, ap, ◌∙◌, subst}
-use Rattle.std.specs.Prelude.{IsTrue, IsErr, flat_map}
-use Rattle.std.specs.List.{list_all}
-use Rattle.std.proofs.lemmas.Grind.{flat_map-append}
-use Rattle.std.proofs.lemmas.List.{append_assoc, take-append-drop}
-use Rattle.std.proofs.lemmas.List.Folds.{list_all_at}
-use Rattle.std.proofs.Math.Seq.{drop-cons}
-use Rattle.nbfx_records.specs.Putting.{Puts}
+use Rattle.std.proofs.Common.{◌≡◌, ℕ, suc, ◌<◌, Bool, true, false, List, ◌∷◌, ◌++◌, length, get_or}
+use Rattle.std.proofs.Common.{take, drop, IsErr, IsTrue, Ok, Err, Result, flat_map, sym, refl, ap}
+use Rattle.std.proofs.Common.{◌∙◌, subst, append_assoc, take-append-drop}
+use Rattle.{std.proofs.Math.Seq.drop-cons, std.specs.List.list_all, nbfx_records.specs.Putting.Puts}
+use Rattle.std.proofs.lemmas.{Grind.flat_map-append, List.Folds.list_all_at}
 
 -- of those that all pass each does
 pub passes_at : {X : Type 0} (p : X → Bool) (xs : List X) (i : ℕ) (x : X) → IsTrue (list_all p xs)

@@ -1,35 +1,24 @@
 -- What a reader of records answers to a piece.
-use Rattle.std.proofs.Common.{◌≡◌, ℕ, zero, suc, ◌+◌, ◌-◌, ◌<◌, ◌≤◌, List, [], ◌∷◌, ◌++◌, length}
-use Rattle.std.proofs.Common.{take, drop, Result, Ok, Err, inl, inr, sym, ap, ◌∙◌, subst, arith}
-use Rattle.std.proofs.Common.{append_assoc, length-append, length-drop}
-use Rattle.std.proofs.Math.Nat.{min-le_right}
-use Rattle.std.proofs.Math.Seq.{take-add}
-use Rattle.std.proofs.lemmas.List.{length-take-le, take-append-drop, take_all}
-use Rattle.std.specs.Prelude.{◌⊎◌, IsErrAnd, IsTrue, min}
-use Rattle.std.proofs.lemmas.Result.{err_from_is_err_and}
-use Rattle.unit_streams.specs.Front.{Front, begun, whole, wrong}
+use Rattle.std.proofs.Common.{◌≡◌, ℕ, zero, suc, ◌+◌, ◌-◌, ◌<◌, ◌≤◌, min, ◌⊎◌, List, [], ◌∷◌, ◌++◌}
+use Rattle.std.proofs.Common.{length, take, drop, IsErrAnd, IsTrue, Ok, Err, Result, sym, ap, ◌∙◌}
+use Rattle.std.proofs.Common.{subst, inl, inr, append_assoc, arith, length-append, length-drop}
+use Rattle.std.proofs.Common.{take-append-drop, length-take-le, take_all}
+use Rattle.std.proofs.{Math.Nat.min-le_right, Math.Seq.take-add, lemmas.Result.err_from_is_err_and}
 use Rattle.unit_streams.proofs.Fronts.{leaves_or_decides, whole_some}
-use Rattle.unit_streams.proofs.Peeling.{Decides, Leaves, extent}
-use Rattle.multibyte_ints.specs.Integer.{IsBytes}
-use Rattle.nbfx_records.specs.declared.cursor.Stop.TheVariants as stops
-use Rattle.nbfx_records.specs.declared.nodes.Node.{Node}
-use Rattle.nbfx_records.specs.declared.nodes.RecordFault.{RecordFault}
-use Rattle.nbfx_records.specs.declared.nodes.NodePlace.{NodePlace}
-use Rattle.nbfx_records.specs.declared.reader.NodeStep.{NodeStep}
-use Rattle.nbfx_records.specs.declared.reader.NodeStep.TheVariants.{Done}
-use Rattle.nbfx_records.specs.declared.nodes.NodeFault.{NodeFault}
-use Rattle.nbfx_records.specs.declared.nodes.NodeFault.TheVariants.{Record, Memory}
-use Rattle.nbfx_records.specs.Answers.{FeedAnswers}
-use Rattle.nbfx_records.specs.Asked as asked
-use Rattle.nbfx_records.specs.Contents.{contents}
-use Rattle.nbfx_records.specs.Cursor.{IsWhole, Stops}
-use Rattle.nbfx_records.specs.Judged.{Makes}
-use Rattle.nbfx_records.specs.RecordAtFront.{node_at}
-use Rattle.nbfx_records.specs.Shapes.{Shape, shape_at}
-use Rattle.nbfx_records.specs.Valid.{is_valid_node}
+use Rattle.unit_streams.proofs.Peeling.{Decides, extent, Leaves}
+use Rattle.unit_streams.specs.Front.{begun, Front, whole, wrong}
+use Rattle.{multibyte_ints.specs.Integer.IsBytes, nbfx_records.proofs.ValidFacts.reads_valid}
+use Rattle.nbfx_records.specs.declared.nodes.{Node.Node, NodeFault.NodeFault}
+use Rattle.nbfx_records.specs.declared.nodes.NodeFault.TheVariants.{Memory, Record}
+use Rattle.nbfx_records.specs.declared.nodes.{NodePlace.NodePlace, RecordFault.RecordFault}
+use Rattle.nbfx_records.specs.declared.reader.NodeStep.{NodeStep, TheVariants.Done}
+use Rattle.nbfx_records.specs.{Answers.FeedAnswers, Judged.Makes, Valid.is_valid_node}
+use Rattle.nbfx_records.specs.{Contents.contents, RecordAtFront.node_at}
+use Rattle.nbfx_records.specs.{Cursor.IsWhole, Cursor.Stops, Shapes.Shape, Shapes.shape_at}
 use Rattle.nbfx_records.proofs.AnswerFacts.{stops_by, waits_begun, whole_node, whole_wrong}
 use Rattle.nbfx_records.proofs.ShapeFronts.{node_fronts, node_of_nothing}
-use Rattle.nbfx_records.proofs.ValidFacts.{reads_valid}
+use Rattle.nbfx_records.specs.declared.cursor.Stop.TheVariants as stops
+use Rattle.nbfx_records.specs.Asked as asked
 
 -- bytes behind bytes are bytes
 pub bytes_both : (a b : List ℕ) → IsBytes a → IsBytes b → IsBytes (a ++ b)

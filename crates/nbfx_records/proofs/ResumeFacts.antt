@@ -1,7 +1,6 @@
 -- What was seen of a record that isn't whole holds when more of its bytes came.
-use Rattle.std.proofs.Common.{ℕ, List, ◌++◌, true}
-use Rattle.nbfx_records.specs.declared.resume.Resume.{Resume}
-use Rattle.nbfx_records.specs.Resuming.{Fits}
+use Rattle.std.proofs.Common.{ℕ, true, List, ◌++◌}
+use Rattle.nbfx_records.specs.{declared.resume.Resume.Resume, Resuming.Fits}
 use Rattle.nbfx_records.specs.Shapes.{array_turn, list_turn}
 use Rattle.nbfx_records.proofs.ManyFacts.{passes_kept}
 

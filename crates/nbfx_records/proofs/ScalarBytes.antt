@@ -1,41 +1,31 @@
 -- A value that is read is one whose text record stands there, and the other way round.
-use Rattle.std.proofs.Common.{◌≡◌, ℕ, ◌+◌, ◌*◌, ◌^◌, ◌<◌, ◌≤◌, inl, inr, List, [], ◌∷◌, ◌++◌}
-use Rattle.std.proofs.Common.{length, take, drop, Bool, true, false, Some}
-use Rattle.std.proofs.Common.{refl, sym, ap, ◌∙◌, arith, length-append}
-use Rattle.std.specs.Prelude.{pos, ◌||◌, if◌then◌else◌, not}
-use Rattle.std.specs.Int.{Width, w8, w16, w32, w64, from_le_bytes, cast_signed}
-use Rattle.std.specs.Option.{option_map}
-use Rattle.std.specs.Str.{is_utf8}
-use Rattle.std.proofs.lemmas.Str.{is_utf8-from_IsUtf8}
-use Rattle.std.proofs.lemmas.Bool.{le-leb, lt-leb}
-use Rattle.std.proofs.Math.Seq.{take-append_seam, drop-append_seam}
+use Rattle.std.proofs.Common.{◌≡◌, ℕ, ◌+◌, ◌*◌, ◌^◌, ◌<◌, ◌≤◌, Bool, true, false, not, ◌||◌, List}
+use Rattle.std.proofs.Common.{[], ◌∷◌, ◌++◌, length, take, drop, pos, if◌then◌else◌, Some}
+use Rattle.std.proofs.Common.{option_map, sym, refl, ap, ◌∙◌, inl, inr, arith, length-append, w8}
+use Rattle.std.proofs.Common.{w16, w32, w64, le-leb}
+use Rattle.std.proofs.Math.Seq.{drop-append_seam, take-append_seam}
+use Rattle.std.proofs.lemmas.{Bool.lt-leb, Str.is_utf8-from_IsUtf8}
+use Rattle.std.specs.{Int.Width, Int.cast_signed, Int.from_le_bytes, Str.is_utf8}
 use Rattle.nbfx_values.specs.declared.scalars.Scalar.{Scalar}
-use Rattle.nbfx_values.specs.declared.scalars.Scalar.TheVariants.{Number, Float, Double, Decimal}
-use Rattle.nbfx_values.specs.declared.scalars.Scalar.TheVariants.{DateTime, TimeSpan}
-use Rattle.nbfx_values.specs.declared.scalars.Scalar.TheVariants.{Text as TextOf, UniqueId}
-use Rattle.nbfx_values.specs.declared.scalars.Scalar.TheVariants.{Uuid}
-use Rattle.nbfx_records.specs.declared.kinds.TextKind.{TextKind}
-use Rattle.nbfx_records.specs.declared.kinds.TextKind.TheVariants as texts
-use Rattle.nbfx_records.specs.declared.nodes.RawScalar.{RawScalar}
+use Rattle.nbfx_values.specs.declared.scalars.Scalar.TheVariants.{DateTime, Decimal, Double, Float}
+use Rattle.nbfx_values.specs.declared.scalars.Scalar.TheVariants.{Number, Text as TextOf, TimeSpan}
+use Rattle.nbfx_values.specs.declared.scalars.Scalar.TheVariants.{UniqueId, Uuid}
+use Rattle.nbfx_records.specs.declared.kinds.Body.{Body, TheVariants.Counted, TheVariants.Fixed}
+use Rattle.nbfx_records.specs.declared.kinds.{LengthForm.LengthForm, TextKind.TextKind}
+use Rattle.nbfx_records.specs.declared.kinds.LengthForm.TheVariants.{FourBytes, OneByte, TwoBytes}
+use Rattle.nbfx_records.specs.{declared.nodes.RawScalar.RawScalar, Kinds.body_of}
 use Rattle.nbfx_records.specs.declared.nodes.RawScalar.TheVariants.{Known, QName}
-use Rattle.nbfx_records.specs.declared.kinds.Body.{Body}
-use Rattle.nbfx_records.specs.declared.kinds.LengthForm.{LengthForm}
-use Rattle.nbfx_records.specs.declared.kinds.Body.TheVariants.{Fixed, Counted}
-use Rattle.nbfx_records.specs.declared.kinds.LengthForm.TheVariants.{OneByte, TwoBytes, FourBytes}
-use Rattle.nbfx_records.specs.Kinds.{body_of}
-use Rattle.nbfx_records.specs.Shapes.{ScalarShape, bytes_of, named_by, qualified_by, width_in}
-use Rattle.nbfx_records.specs.Shapes.{is_negative}
-use Rattle.nbfx_records.specs.Contents.{decimal_of, scalar_of}
-use Rattle.nbfx_records.specs.Contents.{is_chars, scalar_is_text, scalar_value}
-use Rattle.nbfx_records.specs.Records.{IsNumberOf, IsCounted, IsDecimal}
-use Rattle.nbfx_records.specs.Records.{SpellsAs}
+use Rattle.nbfx_records.specs.Contents.{decimal_of, is_chars, scalar_is_text, scalar_of}
+use Rattle.nbfx_records.specs.{Contents.scalar_value, Shapes.width_in, TypeBytes.text_byte}
+use Rattle.nbfx_records.specs.Records.{IsCounted, IsDecimal, IsNumberOf, SpellsAs}
+use Rattle.nbfx_records.specs.Shapes.{bytes_of, is_negative, named_by, qualified_by, ScalarShape}
 use Rattle.nbfx_records.proofs.PartBytes.{BodyIs, ScalarIs}
-use Rattle.nbfx_records.specs.TypeBytes.{text_byte}
-use Rattle.nbfx_records.proofs.ScalarParts.{of_fixed, of_counted, nothing_behind, number_behind}
-use Rattle.nbfx_records.proofs.ScalarParts.{short_enough, characters_behind, binary_behind}
-use Rattle.nbfx_records.proofs.ScalarParts.{unicode_behind, decimal_behind, truth_behind}
-use Rattle.nbfx_records.proofs.ScalarParts.{identifier_behind, identifier_says, named_behind}
-use Rattle.nbfx_records.proofs.ScalarParts.{qualified_behind, list_is_none, end_is_none}
+use Rattle.nbfx_records.proofs.ScalarParts.{binary_behind, characters_behind, decimal_behind}
+use Rattle.nbfx_records.proofs.ScalarParts.{end_is_none, identifier_behind, identifier_says}
+use Rattle.nbfx_records.proofs.ScalarParts.{list_is_none, named_behind, nothing_behind}
+use Rattle.nbfx_records.proofs.ScalarParts.{number_behind, of_counted, of_fixed, qualified_behind}
+use Rattle.nbfx_records.proofs.ScalarParts.{short_enough, truth_behind, unicode_behind}
+use Rattle.nbfx_records.specs.declared.kinds.TextKind.TheVariants as texts
 
 -- what is read is spelled so
 pub spelled_there : (kind : TextKind) (scalar : ScalarShape) (value : RawScalar) (rest : List ℕ)

@@ -1,32 +1,25 @@
 -- What stands behind the type byte of a value that is read.
-use Rattle.std.proofs.Common.{◌≡◌, ℕ, ◌+◌, ◌^◌, ◌<◌, inl, inr, List, [], ◌∷◌}
-use Rattle.std.proofs.Common.{length, take, drop, get_or, true, Option, Some, None}
-use Rattle.std.proofs.Common.{refl, sym, ap, ◌∙◌, arith, length-append, length-drop}
-use Rattle.std.specs.Prelude.{nat_le, ◌==◌, ◌&&◌, ◌||◌, if◌then◌else◌, not}
-use Rattle.std.specs.Int.{Width, w32, w64, byte_len, from_le_bytes}
-use Rattle.std.specs.Option.{option_map}
-use Rattle.std.specs.Str.{is_utf8}
-use Rattle.std.proofs.lemmas.List.{nil_from_length, length-take-le, take-append-drop}
-use Rattle.std.proofs.lemmas.Str.{IsUtf8-from_is_utf8}
-use Rattle.std.proofs.lemmas.Bool.{leb-true, leb-false, eqb-true, or_cases}
-use Rattle.std.proofs.lemmas.Bool.{and_parts, cases_eq, ne_eqb}
-use Rattle.std.proofs.lemmas.Option.{cond_some}
+use Rattle.std.proofs.Common.{◌≡◌, ℕ, ◌+◌, ◌^◌, ◌<◌, true, not, ◌&&◌, ◌||◌, List, [], ◌∷◌, length}
+use Rattle.std.proofs.Common.{get_or, take, drop, if◌then◌else◌, nat_le, ◌==◌, Some, None, Option}
+use Rattle.std.proofs.Common.{option_map, sym, refl, ap, ◌∙◌, inl, inr, arith, length-append}
+use Rattle.std.proofs.Common.{length-drop, take-append-drop, length-take-le, w32, w64, ne_eqb}
+use Rattle.std.proofs.Common.{eqb-true, leb-false, leb-true}
+use Rattle.std.proofs.lemmas.Bool.{and_parts, cases_eq, or_cases}
+use Rattle.std.proofs.lemmas.{List.nil_from_length, Option.cond_some, Str.IsUtf8-from_is_utf8}
+use Rattle.std.specs.{Int.Width, Int.byte_len, Int.from_le_bytes, Str.is_utf8}
 use Rattle.nbfx_values.specs.declared.scalars.Scalar.{Scalar}
-use Rattle.nbfx_values.specs.declared.scalars.Scalar.TheVariants.{Text as TextOf, Bytes}
-use Rattle.nbfx_records.specs.declared.kinds.TextKind.{TextKind}
-use Rattle.nbfx_records.specs.declared.kinds.TextKind.TheVariants as texts
-use Rattle.nbfx_records.specs.declared.nodes.RawScalar.{RawScalar}
+use Rattle.nbfx_values.specs.declared.scalars.Scalar.TheVariants.{Bytes, Text as TextOf}
+use Rattle.nbfx_records.specs.declared.kinds.Body.TheVariants.{Counted, Ending, Fixed, Listed}
+use Rattle.nbfx_records.specs.declared.kinds.LengthForm.{LengthForm, TheVariants.FourBytes}
+use Rattle.nbfx_records.specs.declared.{kinds.TextKind.TextKind, nodes.RawScalar.RawScalar}
 use Rattle.nbfx_records.specs.declared.nodes.RawScalar.TheVariants.{Known, QName}
-use Rattle.nbfx_records.specs.declared.kinds.LengthForm.{LengthForm}
-use Rattle.nbfx_records.specs.declared.kinds.Body.TheVariants.{Fixed, Counted, Listed, Ending}
-use Rattle.nbfx_records.specs.declared.kinds.LengthForm.TheVariants.{FourBytes}
-use Rattle.nbfx_records.specs.Shapes.{ScalarShape, bytes_of, named_by, qualified_by, width_in}
-use Rattle.nbfx_records.specs.Contents.{utf16_text, truth_of, decimal_of, identifier_of, scalar_of}
-use Rattle.nbfx_records.specs.Contents.{is_chars, scalar_is_text, scalar_value}
-use Rattle.nbfx_records.specs.Records.{IsCounted, IsFixed, IsSixteen}
-use Rattle.nbfx_records.specs.Records.{IsChars, IsUnicode, IsBinary, SpellsAs}
-use Rattle.nbfx_records.proofs.PartBytes.{IsLengthAnd, BodyIs, ScalarIs}
-use Rattle.nbfx_records.specs.TypeBytes.{text_byte}
+use Rattle.nbfx_records.specs.Contents.{decimal_of, identifier_of, is_chars, scalar_is_text}
+use Rattle.nbfx_records.specs.Contents.{scalar_of, scalar_value, truth_of, utf16_text}
+use Rattle.nbfx_records.specs.Records.{IsBinary, IsChars, IsCounted, IsFixed, IsSixteen, IsUnicode}
+use Rattle.nbfx_records.specs.{Records.SpellsAs, TypeBytes.text_byte}
+use Rattle.nbfx_records.specs.Shapes.{bytes_of, named_by, qualified_by, ScalarShape, width_in}
+use Rattle.nbfx_records.proofs.PartBytes.{BodyIs, IsLengthAnd, ScalarIs}
+use Rattle.nbfx_records.specs.declared.kinds.TextKind.TheVariants as texts
 
 -- what is read of so many bytes
 pub record OfFixed (kind : TextKind) (n : ℕ) (value : RawScalar) (rest : List ℕ) : Type 0 where

@@ -1,42 +1,34 @@
 -- What the bytes of attributes, arrays and whole records are, where no text and no value is judged.
-use Rattle.std.proofs.Common.{◌≡◌, ℕ, ◌*◌, List, [], ◌∷◌, ◌++◌, length, Bool, true, false, Option}
-use Rattle.std.proofs.Common.{Some, None, refl, sym, ap, ◌∙◌}
-use Rattle.std.specs.Prelude.{◌==◌, if◌then◌else◌}
-use Rattle.unit_streams.specs.Parts.{refuse, a_byte, some_bytes, ◌>>=◌, seen, Turn, more, stop}
-use Rattle.unit_streams.specs.Parts.{Many, ReadsJust, Joined, AreMany}
-use Rattle.unit_streams.proofs.Parts.{then_begun}
-use Rattle.unit_streams.proofs.Spelled.{just_given, just_refuse, just_byte, just_bytes, just_then}
-use Rattle.unit_streams.proofs.Spelled.{just_seen}
-use Rattle.unit_streams.proofs.Repeated.{just_many}
-use Rattle.multibyte_ints.specs.Integer.{Spells}
+use Rattle.std.proofs.Common.{◌≡◌, ℕ, ◌*◌, Bool, true, false, List, [], ◌∷◌, ◌++◌, length}
+use Rattle.std.proofs.Common.{if◌then◌else◌, ◌==◌, Some, None, Option, sym, refl, ap, ◌∙◌}
+use Rattle.unit_streams.proofs.{Parts.then_begun, Repeated.just_many, Spelled.just_then}
+use Rattle.unit_streams.proofs.Spelled.{just_byte, just_bytes, just_given, just_refuse, just_seen}
+use Rattle.unit_streams.specs.Parts.{a_byte, AreMany, Joined, Many, more, ReadsJust, refuse, seen}
+use Rattle.unit_streams.specs.Parts.{some_bytes, stop, Turn, ◌>>=◌}
+use Rattle.{multibyte_ints.specs.Integer.Spells, nbfx_records.proofs.ShapeFronts.reads_array_turn}
 use Rattle.nbfx_values.specs.declared.content.ArrayKind.{ArrayKind}
-use Rattle.nbfx_records.specs.declared.kinds.TextKind.{TextKind}
-use Rattle.nbfx_records.specs.declared.kinds.TextKind.TheVariants as texts
-use Rattle.nbfx_records.specs.declared.nodes.NameRef.{NameRef}
-use Rattle.nbfx_records.specs.declared.nodes.NodePlace.{NodePlace}
-use Rattle.nbfx_records.specs.declared.nodes.NodePlace.TheVariants.{BeforeRoot, Within, AfterRoot}
+use Rattle.nbfx_records.specs.declared.kinds.{NameForm.NameForm, PrefixForm.PrefixForm}
+use Rattle.nbfx_records.specs.declared.kinds.{RecordKind.RecordKind, TextKind.TextKind}
+use Rattle.nbfx_records.specs.declared.nodes.{NameRef.NameRef, NodePlace.NodePlace}
+use Rattle.nbfx_records.specs.declared.nodes.NodePlace.TheVariants.{AfterRoot, BeforeRoot, Within}
 use Rattle.nbfx_records.specs.declared.nodes.RecordFault.{RecordFault}
-use Rattle.nbfx_records.specs.declared.nodes.RecordFault.TheVariants as faults
-use Rattle.nbfx_records.specs.declared.kinds.PrefixForm.{PrefixForm}
-use Rattle.nbfx_records.specs.declared.kinds.NameForm.{NameForm}
-use Rattle.nbfx_records.specs.declared.kinds.RecordKind.{RecordKind}
-use Rattle.nbfx_records.specs.declared.kinds.RecordKind.TheVariants as records
 use Rattle.nbfx_records.specs.Kinds.{array_kind, width_of}
-use Rattle.nbfx_records.specs.Shapes.{ScalarShape, ValueShape, one, several, AttributeShape}
-use Rattle.nbfx_records.specs.Shapes.{attributes, declares, ArrayShape, Shape, ends_element}
-use Rattle.nbfx_records.specs.Shapes.{comments, begins_element, adds, has_text, repeats, NamedShape}
-use Rattle.nbfx_records.specs.Shapes.{named_shape, an_integer, a_string, prefix_at, name_at}
-use Rattle.nbfx_records.specs.Shapes.{scalar_at, list_at, value_of_kind, value_at, attribute_at}
-use Rattle.nbfx_records.specs.Shapes.{declaration_at, array_part, array_turn, array_parts}
-use Rattle.nbfx_records.specs.Shapes.{array_values, element_at, element_of, array_element}
-use Rattle.nbfx_records.specs.Shapes.{CellsShape, cells_shape, cells_of, array_cells, array_shape}
-use Rattle.nbfx_records.specs.Shapes.{array_at, content_at, record_at, misplaced, unless_misplaced}
-use Rattle.nbfx_records.specs.Shapes.{placed, shape_at}
-use Rattle.nbfx_records.proofs.ShapeFronts.{reads_array_turn}
-use Rattle.nbfx_records.proofs.PartBytes.{just_as, just_then_as, just_integer, IsRawString}
-use Rattle.nbfx_records.proofs.PartBytes.{just_string, PrefixIs, just_prefix, NameIs, just_name}
-use Rattle.nbfx_records.proofs.PartBytes.{ScalarIs, just_scalar, Typed, just_typed, ListIs}
-use Rattle.nbfx_records.proofs.PartBytes.{just_list}
+use Rattle.nbfx_records.specs.Shapes.{a_string, adds, an_integer, array_at, array_cells}
+use Rattle.nbfx_records.specs.Shapes.{array_element, array_part, array_parts, array_shape}
+use Rattle.nbfx_records.specs.Shapes.{array_turn, array_values, ArrayShape, attribute_at}
+use Rattle.nbfx_records.specs.Shapes.{attributes, AttributeShape, begins_element, cells_of}
+use Rattle.nbfx_records.specs.Shapes.{cells_shape, CellsShape, comments, content_at, declaration_at}
+use Rattle.nbfx_records.specs.Shapes.{declares, element_at, element_of, ends_element, has_text}
+use Rattle.nbfx_records.specs.Shapes.{list_at, misplaced, name_at, named_shape, NamedShape, one}
+use Rattle.nbfx_records.specs.Shapes.{placed, prefix_at, record_at, repeats, scalar_at, ScalarShape}
+use Rattle.nbfx_records.specs.Shapes.{several, Shape, shape_at, unless_misplaced, value_at}
+use Rattle.nbfx_records.specs.Shapes.{value_of_kind, ValueShape}
+use Rattle.nbfx_records.proofs.PartBytes.{IsRawString, just_as, just_integer, just_list, just_name}
+use Rattle.nbfx_records.proofs.PartBytes.{just_prefix, just_scalar, just_string, just_then_as}
+use Rattle.nbfx_records.proofs.PartBytes.{just_typed, ListIs, NameIs, PrefixIs, ScalarIs, Typed}
+use Rattle.nbfx_records.specs.declared.kinds.TextKind.TheVariants as texts
+use Rattle.nbfx_records.specs.declared.nodes.RecordFault.TheVariants as faults
+use Rattle.nbfx_records.specs.declared.kinds.RecordKind.TheVariants as records
 
 -- the value of an attribute
 abbrev pub ValueIs : Option RecordKind → ValueShape → List ℕ → Type 0

@@ -1,41 +1,33 @@
 -- Each part of a record is known by its own bytes.
-use Rattle.std.proofs.Common.{◌≡◌, ℕ, [], Bool, true, false, Option, Some, None, refl, ap}
-use Rattle.std.specs.Prelude.{◌==◌, ◌*◌, if◌then◌else◌}
-use Rattle.unit_streams.specs.Front.{begun, ReadsFront}
-use Rattle.unit_streams.specs.Parts.{refuse, a_byte, some_bytes, judged, more}
-use Rattle.unit_streams.proofs.Parts.{reads_given, reads_refuse, reads_byte, reads_bytes}
-use Rattle.unit_streams.proofs.Parts.{reads_then, reads_seen, reads_judged, then_begun}
-use Rattle.unit_streams.proofs.Repeated.{reads_many}
-use Rattle.multibyte_ints.specs.Integer.{int_at}
-use Rattle.multibyte_ints.proofs.IntegerBytes.{int_reads_front}
+use Rattle.std.proofs.Common.{◌≡◌, ℕ, ◌*◌, Bool, true, false, [], if◌then◌else◌, ◌==◌, Some, None}
+use Rattle.std.proofs.Common.{Option, refl, ap}
+use Rattle.unit_streams.proofs.Parts.{reads_byte, reads_bytes, reads_given, reads_judged}
+use Rattle.unit_streams.proofs.Parts.{reads_refuse, reads_seen, reads_then, then_begun}
+use Rattle.unit_streams.{proofs.Repeated.reads_many, specs.Front.begun, specs.Front.ReadsFront}
+use Rattle.unit_streams.specs.Parts.{a_byte, judged, more, refuse, some_bytes}
+use Rattle.multibyte_ints.{proofs.IntegerBytes.int_reads_front, specs.Integer.int_at}
 use Rattle.nbfx_values.specs.declared.content.ArrayKind.{ArrayKind}
-use Rattle.nbfx_records.specs.declared.kinds.TextKind.{TextKind}
-use Rattle.nbfx_records.specs.declared.kinds.TextKind.TheVariants as texts
-use Rattle.nbfx_records.specs.declared.nodes.NodePlace.{NodePlace}
-use Rattle.nbfx_records.specs.declared.nodes.NodePlace.TheVariants.{BeforeRoot, Within, AfterRoot}
-use Rattle.nbfx_records.specs.declared.nodes.RecordFault.{RecordFault}
-use Rattle.nbfx_records.specs.declared.nodes.RecordFault.TheVariants as faults
-use Rattle.nbfx_records.specs.declared.kinds.PrefixForm.{PrefixForm}
-use Rattle.nbfx_records.specs.declared.kinds.NameForm.{NameForm}
-use Rattle.nbfx_records.specs.declared.kinds.RecordKind.{RecordKind}
-use Rattle.nbfx_records.specs.declared.kinds.Body.{Body}
-use Rattle.nbfx_records.specs.declared.kinds.LengthForm.{LengthForm}
-use Rattle.nbfx_records.specs.declared.kinds.PrefixForm.TheVariants.{Unprefixed, Lettered, Prefixed}
-use Rattle.nbfx_records.specs.declared.kinds.NameForm.TheVariants.{Inlined, Identified}
-use Rattle.nbfx_records.specs.declared.kinds.Body.TheVariants.{Fixed, Counted, Named, Qualified}
-use Rattle.nbfx_records.specs.declared.kinds.Body.TheVariants.{Listed, Ending}
-use Rattle.nbfx_records.specs.declared.kinds.RecordKind.TheVariants as records
-use Rattle.nbfx_records.specs.Kinds.{record_kind, body_of, array_kind}
-use Rattle.nbfx_records.specs.Kinds.{width_of}
-use Rattle.nbfx_records.specs.Contents.{contents}
+use Rattle.nbfx_records.specs.declared.kinds.Body.{Body, TheVariants.Named, TheVariants.Qualified}
+use Rattle.nbfx_records.specs.declared.kinds.Body.TheVariants.{Counted, Ending, Fixed, Listed}
+use Rattle.nbfx_records.specs.declared.kinds.{LengthForm.LengthForm, NameForm.NameForm}
+use Rattle.nbfx_records.specs.declared.kinds.NameForm.TheVariants.{Identified, Inlined}
+use Rattle.nbfx_records.specs.declared.kinds.{PrefixForm.PrefixForm, TextKind.TextKind}
+use Rattle.nbfx_records.specs.declared.kinds.PrefixForm.TheVariants.{Lettered, Prefixed, Unprefixed}
+use Rattle.nbfx_records.specs.{declared.kinds.RecordKind.RecordKind, Contents.contents}
+use Rattle.nbfx_records.specs.declared.nodes.{NodePlace.NodePlace, RecordFault.RecordFault}
+use Rattle.nbfx_records.specs.declared.nodes.NodePlace.TheVariants.{AfterRoot, BeforeRoot, Within}
+use Rattle.nbfx_records.specs.Kinds.{array_kind, body_of, record_kind, width_of}
 use Rattle.nbfx_records.specs.RecordAtFront.{node_at}
-use Rattle.nbfx_records.specs.Shapes.{one, has_text, array_turn, an_integer, a_string, prefix_at}
-use Rattle.nbfx_records.specs.Shapes.{name_at, said_length, given_or, a_length, counted_bytes}
-use Rattle.nbfx_records.specs.Shapes.{body_at, scalar_at, turn_of, list_turn, list_at}
-use Rattle.nbfx_records.specs.Shapes.{value_of_kind, value_at, attribute_at, declaration_at}
-use Rattle.nbfx_records.specs.Shapes.{array_part, array_parts, array_values, element_at, element_of}
-use Rattle.nbfx_records.specs.Shapes.{array_element, cells_of, array_cells, array_at, content_at}
-use Rattle.nbfx_records.specs.Shapes.{record_at, unless_misplaced, placed, shape_at}
+use Rattle.nbfx_records.specs.Shapes.{a_length, a_string, an_integer, array_at, array_cells}
+use Rattle.nbfx_records.specs.Shapes.{array_element, array_part, array_parts, array_turn}
+use Rattle.nbfx_records.specs.Shapes.{array_values, attribute_at, body_at, cells_of, content_at}
+use Rattle.nbfx_records.specs.Shapes.{counted_bytes, declaration_at, element_at, element_of}
+use Rattle.nbfx_records.specs.Shapes.{given_or, has_text, list_at, list_turn, name_at, one, placed}
+use Rattle.nbfx_records.specs.Shapes.{prefix_at, record_at, said_length, scalar_at, shape_at}
+use Rattle.nbfx_records.specs.Shapes.{turn_of, unless_misplaced, value_at, value_of_kind}
+use Rattle.nbfx_records.specs.declared.kinds.TextKind.TheVariants as texts
+use Rattle.nbfx_records.specs.declared.nodes.RecordFault.TheVariants as faults
+use Rattle.nbfx_records.specs.declared.kinds.RecordKind.TheVariants as records
 
 pub reads_integer : ReadsFront an_integer
 reads_integer = reads_seen (λ n. n) (λ _. faults.BadInt) int_at int_reads_front

@@ -1,7 +1,6 @@
 -- Units of two bytes, one after the other.
-use Rattle.std.proofs.Common.{◌≡◌, ℕ, ◌*◌, ◌/◌, ◌<◌, ◌≤◌, List, [], ◌∷◌, ◌++◌, length, drop, refl}
-use Rattle.std.proofs.Common.{sym, ap, ◌∙◌, arith, length-drop}
-use Rattle.std.proofs.lemmas.List.{append-nil}
+use Rattle.std.proofs.Common.{◌≡◌, ℕ, ◌*◌, ◌/◌, ◌<◌, ◌≤◌, List, [], ◌∷◌, ◌++◌, length, drop, sym}
+use Rattle.std.proofs.Common.{refl, ap, ◌∙◌, append-nil, arith, length-drop}
 use Rattle.nbfx_records.specs.Contents.{units_of}
 
 -- fewer than two bytes have none

@@ -1,60 +1,46 @@
 -- A record of bytes is one of a valid node.
-use Rattle.std.proofs.Common.{take, ◌≡◌, ℕ, zero, suc, ◌+◌, ◌-◌, ◌*◌, ◌^◌, ◌<◌, ◌≤◌, List, [], ◌∷◌}
-use Rattle.std.proofs.Common.{◌++◌, length, drop, get_or, Bool, true, false, Some, None, refl, sym}
-use Rattle.std.proofs.Common.{ap, ◌∙◌, subst, inl, inr, arith, append_assoc, ◌%◌}
+use Rattle.std.proofs.Common.{◌≡◌, ℕ, zero, suc, ◌+◌, ◌-◌, ◌*◌, ◌%◌, ◌^◌, ◌<◌, ◌≤◌, Bool, true}
+use Rattle.std.proofs.Common.{false, ◌&&◌, ◌||◌, List, [], ◌∷◌, ◌++◌, map, length, get_or, take}
+use Rattle.std.proofs.Common.{drop, ℤ, pos, negsuc, if◌then◌else◌, IsTrue, nat_lt, nat_le, ◌==◌}
+use Rattle.std.proofs.Common.{FitsSigned, Some, None, encode_utf8_all, unwrap_or, sym, refl, ap}
+use Rattle.std.proofs.Common.{◌∙◌, subst, inl, inr, append_assoc, arith, take-append-drop, w8, w16}
+use Rattle.std.proofs.Common.{w32, w64, ltb-false, ltb-true, le-ltb, lt-ltb, eq-eqb, le-leb}
+use Rattle.std.proofs.Common.{leb-false, leb-true}
 use Rattle.std.proofs.Math.Facts.{sfits_to_z, sfits_widen}
-use Rattle.std.specs.Prelude.{IsTrue, ℤ, pos, negsuc, FitsSigned, map, nat_le, nat_lt, ◌==◌, ◌&&◌}
-use Rattle.std.specs.Prelude.{◌||◌, encode_utf8_all, if◌then◌else◌}
-use Rattle.std.specs.Int.{Width, w8, w16, w32, w64, cast_signed, from_le_bytes}
+use Rattle.std.proofs.lemmas.Bool.{and_cases, and_from, and_parts, cond_both}
+use Rattle.std.proofs.lemmas.Str.{IsUtf8-nil, is_utf8-from_IsUtf8}
 use Rattle.std.specs.Char.Utf16.{has_unpaired_surrogate, is_high_surrogate, is_low_surrogate}
 use Rattle.std.specs.Char.Utf16.{lone_unit_char, surrogate_pair_char, utf16_chars}
-use Rattle.std.specs.Char.Utf16.{utf16_lossy_chars}
-use Rattle.std.specs.List.{list_all}
-use Rattle.std.specs.Option.{unwrap_or}
-use Rattle.std.specs.Str.{is_utf8}
+use Rattle.std.specs.{Char.Utf16.utf16_lossy_chars, List.list_all, Str.is_utf8}
+use Rattle.std.specs.Int.{Width, cast_signed, from_le_bytes}
 use lib.Utf8.{scalar, scalars}
-use Rattle.std.proofs.lemmas.Bool.{and_parts, and_from, cond_both, eq-eqb, le-leb, le-ltb, leb-true}
-use Rattle.std.proofs.lemmas.Bool.{leb-false, lt-ltb, ltb-true, ltb-false, and_cases}
-use Rattle.std.proofs.lemmas.List.{take-append-drop}
-use Rattle.std.proofs.lemmas.Str.{IsUtf8-nil, is_utf8-from_IsUtf8}
-use Rattle.unit_streams.specs.Front.{whole}
-use Rattle.multibyte_ints.specs.Integer.{IsBytes}
-use Rattle.nbfx_values.specs.Items.{fits_kind}
+use Rattle.{unit_streams.specs.Front.whole, multibyte_ints.specs.Integer.IsBytes}
+use Rattle.nbfx_values.specs.declared.{content.ArrayKind.ArrayKind, scalars.Scalar.Scalar}
+use Rattle.nbfx_values.specs.declared.scalars.Scalar.TheVariants.{DateTime, Decimal, Double, Float}
+use Rattle.nbfx_values.specs.declared.scalars.Scalar.TheVariants.{Number, TimeSpan, Truth, Uuid}
+use Rattle.{nbfx_values.specs.Items.fits_kind, nbfx_records.proofs.NodeBytes.records_are_read}
 use Rattle.nbfx_values.specs.Scalars.{are_bytes, is_identifier, is_number, is_unsigned}
-use Rattle.nbfx_values.specs.declared.content.ArrayKind.{ArrayKind}
-use Rattle.nbfx_values.specs.declared.content.ArrayKind.TheVariants as arrays
-use Rattle.nbfx_values.specs.declared.scalars.Scalar.{Scalar}
-use Rattle.nbfx_values.specs.declared.scalars.Scalar.TheVariants.{Number, Truth, Float, Double}
-use Rattle.nbfx_values.specs.declared.scalars.Scalar.TheVariants.{Decimal, DateTime, TimeSpan, Uuid}
-use Rattle.nbfx_records.specs.declared.kinds.TextKind.{TextKind}
-use Rattle.nbfx_records.specs.declared.kinds.TextKind.TheVariants as texts
-use Rattle.nbfx_records.specs.declared.nodes.ArrayNode.{ArrayNode}
-use Rattle.nbfx_records.specs.declared.nodes.AttrNode.{AttrNode}
-use Rattle.nbfx_records.specs.declared.nodes.AttrNode.TheVariants as attribute_nodes
-use Rattle.nbfx_records.specs.declared.nodes.NameRef.{NameRef}
-use Rattle.nbfx_records.specs.declared.nodes.NameRef.TheVariants.{Inline, Id}
-use Rattle.nbfx_records.specs.declared.nodes.Node.{Node}
-use Rattle.nbfx_records.specs.declared.nodes.Node.TheVariants.{EndElement, Comment, Array}
-use Rattle.nbfx_records.specs.declared.nodes.Node.TheVariants.{Attribute, Xmlns, Element, Text}
-use Rattle.nbfx_records.specs.declared.nodes.RawScalar.{RawScalar}
-use Rattle.nbfx_records.specs.declared.nodes.RawScalar.TheVariants.{Known}
-use Rattle.nbfx_records.specs.declared.nodes.RawValue.{RawValue}
-use Rattle.nbfx_records.specs.declared.nodes.RawValue.TheVariants.{One, List as ListOf}
-use Rattle.nbfx_records.specs.declared.nodes.NodePlace.{NodePlace}
+use Rattle.nbfx_records.specs.{declared.kinds.TextKind.TextKind, Kinds.text_kind_in}
+use Rattle.nbfx_records.specs.declared.nodes.{ArrayNode.ArrayNode, Node.Node, RawValue.RawValue}
+use Rattle.nbfx_records.specs.declared.nodes.{AttrNode.AttrNode, NodePlace.NodePlace}
+use Rattle.nbfx_records.specs.declared.nodes.NameRef.{NameRef, TheVariants.Id, TheVariants.Inline}
+use Rattle.nbfx_records.specs.declared.nodes.Node.TheVariants.{Array, Attribute, Comment, Element}
+use Rattle.nbfx_records.specs.declared.nodes.Node.TheVariants.{EndElement, Text, Xmlns}
+use Rattle.nbfx_records.specs.declared.nodes.RawScalar.{RawScalar, TheVariants.Known}
+use Rattle.nbfx_records.specs.declared.nodes.RawValue.TheVariants.{List as ListOf, One}
 use Rattle.nbfx_records.specs.Contents.{units_of, utf16_text}
-use Rattle.nbfx_records.specs.Kinds.{text_kind_in}
-use Rattle.nbfx_records.specs.Laws.{RecordsAreValid}
-use Rattle.nbfx_records.specs.RecordAtFront.{node_at}
-use Rattle.nbfx_records.specs.Records.{AreAttrNodes, AreCells, IsArray, IsAttrNode, IsBinary}
-use Rattle.nbfx_records.specs.Records.{IsChars, IsCounted, IsDecimal, IsElement, IsFixed, IsName}
-use Rattle.nbfx_records.specs.Records.{IsUnicode, SpellsAs, SpellsLast, SpellsList, SpellScalars}
-use Rattle.nbfx_records.specs.Records.{SpellsScalar, SpellsValue, array_byte}
+use Rattle.nbfx_records.specs.{Laws.RecordsAreValid, RecordAtFront.node_at}
+use Rattle.nbfx_records.specs.Records.{AreAttrNodes, AreCells, array_byte, IsArray, IsAttrNode}
+use Rattle.nbfx_records.specs.Records.{IsBinary, IsChars, IsCounted, IsDecimal, IsElement, IsFixed}
+use Rattle.nbfx_records.specs.Records.{IsName, IsUnicode, SpellsAs, SpellScalars, SpellsLast}
+use Rattle.nbfx_records.specs.Records.{SpellsList, SpellsScalar, SpellsValue}
 use Rattle.nbfx_records.specs.Valid.{are_valid_names, is_valid_array, is_valid_known, is_valid_name}
 use Rattle.nbfx_records.specs.Valid.{is_valid_node, is_valid_part, is_valid_raw, is_valid_text}
 use Rattle.nbfx_records.proofs.AttributeBytes.{attribute_head_back, declaration_head_back}
-use Rattle.nbfx_records.proofs.AttributeBytes.{element_head_back}
-use Rattle.nbfx_records.proofs.NodeBytes.{records_are_read}
-use Rattle.nbfx_records.proofs.NumberFacts.{signed_true}
+use Rattle.nbfx_records.proofs.{AttributeBytes.element_head_back, NumberFacts.signed_true}
+use Rattle.nbfx_values.specs.declared.content.ArrayKind.TheVariants as arrays
+use Rattle.nbfx_records.specs.declared.kinds.TextKind.TheVariants as texts
+use Rattle.nbfx_records.specs.declared.nodes.AttrNode.TheVariants as attribute_nodes
 
 -- parts of bytes are bytes
 pub bytes_front : (a b : List ℕ) → IsBytes (a ++ b) → IsBytes a

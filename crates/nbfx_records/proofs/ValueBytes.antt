@@ -1,32 +1,26 @@
 -- A text's value that is read, a list too, is one that is spelled there, and the other way round.
-use Rattle.std.proofs.Common.{◌≡◌, ℕ, ◌+◌, List, [], ◌∷◌, ◌++◌, Bool, true, false, Option, Some}
-use Rattle.std.proofs.Common.{None, refl, sym, ap, ◌∙◌, subst, append_assoc}
+use Rattle.std.proofs.Common.{◌≡◌, ℕ, ◌+◌, Bool, true, false, List, [], ◌∷◌, ◌++◌, Some, None}
+use Rattle.std.proofs.Common.{Option, option_map, option_and_then, sym, refl, ap, ◌∙◌, subst}
+use Rattle.std.proofs.{Common.append_assoc, lemmas.Bool.and_from, lemmas.Bool.and_parts}
 use Rattle.std.specs.List.{list_all}
-use Rattle.std.specs.Option.{option_map, option_and_then}
-use Rattle.std.proofs.lemmas.Bool.{and_parts, and_from}
-use Rattle.unit_streams.specs.Parts.{more, stop, AreMany}
-use Rattle.nbfx_records.specs.declared.kinds.TextKind.{TextKind}
-use Rattle.nbfx_records.specs.declared.kinds.TextKind.TheVariants as texts
-use Rattle.nbfx_records.specs.declared.nodes.RawScalar.{RawScalar}
-use Rattle.nbfx_records.specs.declared.nodes.Node.{Node}
-use Rattle.nbfx_records.specs.declared.nodes.Node.TheVariants.{Text}
-use Rattle.nbfx_records.specs.declared.nodes.RawValue.{RawValue}
-use Rattle.nbfx_records.specs.declared.nodes.RawValue.TheVariants.{One, List as ListOf}
-use Rattle.nbfx_records.specs.declared.kinds.RecordKind.{RecordKind}
-use Rattle.nbfx_records.specs.declared.kinds.RecordKind.TheVariants as records
-use Rattle.nbfx_records.specs.Kinds.{record_kind}
-use Rattle.nbfx_records.specs.Shapes.{ScalarShape, ValueShape, one, several, Shape, has_text}
-use Rattle.nbfx_records.specs.Shapes.{ends_list}
-use Rattle.nbfx_records.specs.Contents.{scalar_is_text, value_is_text, scalar_value, each}
-use Rattle.nbfx_records.specs.Contents.{shape_value, is_text, node_of}
-use Rattle.nbfx_records.specs.Records.{SpellsAs, SpellsScalar, SpellScalars, SpellsList}
-use Rattle.nbfx_records.specs.Records.{SpellsValue, SpellsLast}
-use Rattle.nbfx_records.proofs.PartBytes.{ScalarIs, TurnIs, IsTurn}
-use Rattle.nbfx_records.proofs.ShapeBytes.{ValueIs, IsValue, TextIs}
-use Rattle.nbfx_records.specs.TypeBytes.{text_byte, byte_of, is_kind}
+use Rattle.unit_streams.specs.Parts.{AreMany, more, stop}
+use Rattle.nbfx_records.specs.declared.kinds.{RecordKind.RecordKind, TextKind.TextKind}
+use Rattle.nbfx_records.specs.declared.nodes.Node.{Node, TheVariants.Text}
+use Rattle.nbfx_records.specs.declared.nodes.{RawScalar.RawScalar, RawValue.RawValue}
+use Rattle.nbfx_records.specs.declared.nodes.RawValue.TheVariants.{List as ListOf, One}
+use Rattle.nbfx_records.specs.Contents.{each, is_text, node_of, scalar_is_text, scalar_value}
+use Rattle.nbfx_records.specs.Contents.{shape_value, value_is_text}
+use Rattle.nbfx_records.specs.{Kinds.record_kind, Records.SpellsValue, Shapes.ValueShape}
+use Rattle.nbfx_records.specs.Records.{SpellsAs, SpellScalars, SpellsLast, SpellsList, SpellsScalar}
+use Rattle.nbfx_records.specs.Shapes.{ends_list, has_text, one, ScalarShape, several, Shape}
+use Rattle.nbfx_records.specs.TypeBytes.{byte_of, is_kind, text_byte}
 use Rattle.nbfx_records.proofs.KindBytes.{byte_is, kind_of_byte}
-use Rattle.nbfx_records.proofs.ScalarBytes.{spelled_there, spelled_back}
+use Rattle.nbfx_records.proofs.PartBytes.{IsTurn, ScalarIs, TurnIs}
+use Rattle.nbfx_records.proofs.ScalarBytes.{spelled_back, spelled_there}
 use Rattle.nbfx_records.proofs.ScalarParts.{end_is_none, list_is_none}
+use Rattle.nbfx_records.proofs.ShapeBytes.{IsValue, TextIs, ValueIs}
+use Rattle.nbfx_records.specs.declared.kinds.TextKind.TheVariants as texts
+use Rattle.nbfx_records.specs.declared.kinds.RecordKind.TheVariants as records
 
 -- a mapped option that is there
 pub mapped_some : {A B : Type 0} (f : A → B) (o : Option A) (y : B) → option_map f o ≡ Some y

@@ -1,39 +1,25 @@
 -- No record of a value is shorter than the one that is chosen, unless it has a text in UTF-16.
-use Rattle.std.proofs.Common.{◌≡◌, ℕ, suc, ◌+◌, ◌<◌, ◌≤◌, List, [], ◌∷◌, length}
-use Rattle.std.proofs.Common.{Bool, true, false, Option, Some, None, refl, sym, ap, ◌∙◌}
+use Rattle.std.proofs.Common.{◌≡◌, ℕ, suc, ◌+◌, ◌<◌, ◌≤◌, Bool, true, false, not, List, [], ◌∷◌}
+use Rattle.std.proofs.Common.{length, Some, None, Option, option_map, flat_map, sym, refl, ap, ◌∙◌}
 use Rattle.std.proofs.Common.{subst, arith, length-append}
-use Rattle.std.specs.Prelude.{not, flat_map}
-use Rattle.std.specs.List.{list_all}
-use Rattle.std.specs.Option.{option_map}
-use Rattle.std.proofs.lemmas.Bool.{and_parts, not-true}
-use Rattle.std.proofs.lemmas.List.Concat.{flat_map-cons}
-use Rattle.unit_streams.specs.Parts.{AreMany}
+use Rattle.std.proofs.lemmas.{Bool.and_parts, Bool.not-true, List.Concat.flat_map-cons}
+use Rattle.{std.specs.List.list_all, unit_streams.specs.Parts.AreMany}
 use Rattle.multibyte_ints.specs.Integer.{IsBytes}
-use Rattle.nbfx_records.specs.declared.kinds.RecordKind.{RecordKind}
-use Rattle.nbfx_records.specs.declared.kinds.RecordKind.TheVariants as records
-use Rattle.nbfx_records.specs.declared.kinds.TextKind.{TextKind}
-use Rattle.nbfx_records.specs.declared.kinds.TextKind.TheVariants as texts
-use Rattle.nbfx_records.specs.declared.nodes.RawScalar.{RawScalar}
-use Rattle.nbfx_records.specs.declared.nodes.RawValue.{RawValue}
-use Rattle.nbfx_records.specs.declared.nodes.RawValue.TheVariants.{One, List as ListOf}
-use Rattle.nbfx_records.specs.Causes.{scalars_of_value}
-use Rattle.nbfx_records.specs.Chosen.{is_utf16}
-use Rattle.nbfx_records.specs.Chosen.{scalar_bytes}
-use Rattle.nbfx_records.specs.Chosen.{value_bytes}
-use Rattle.nbfx_records.specs.Contents.{each}
-use Rattle.nbfx_records.specs.Contents.{scalar_is_text, scalar_value, value_is_text, shape_value}
-use Rattle.nbfx_records.specs.Kinds.{record_kind}
-use Rattle.nbfx_records.specs.Shapes.{ScalarShape}
-use Rattle.nbfx_records.specs.Shapes.{ValueShape, bytes_of, named_by, qualified_by}
-use Rattle.nbfx_records.specs.TypeBytes.{text_byte}
-use Rattle.nbfx_records.proofs.ChosenShort.{of_utf16}
-use Rattle.nbfx_records.proofs.ChosenShort.{spelled_long}
-use Rattle.nbfx_records.proofs.ScalarBytes.{spelled_there}
-use Rattle.nbfx_records.proofs.ShapeBytes.{IsValue}
-use Rattle.nbfx_records.proofs.ShapeBytes.{ValueIs}
-use Rattle.nbfx_records.proofs.PartBytes.{IsTurn, ScalarIs}
+use Rattle.nbfx_records.specs.declared.kinds.{RecordKind.RecordKind, TextKind.TextKind}
+use Rattle.nbfx_records.specs.declared.nodes.{RawScalar.RawScalar, RawValue.RawValue}
+use Rattle.nbfx_records.specs.declared.nodes.RawValue.TheVariants.{List as ListOf, One}
+use Rattle.nbfx_records.specs.{Causes.scalars_of_value, Kinds.record_kind}
+use Rattle.nbfx_records.specs.Chosen.{is_utf16, scalar_bytes, value_bytes}
+use Rattle.nbfx_records.specs.Contents.{each, scalar_is_text, scalar_value, shape_value}
+use Rattle.nbfx_records.specs.{Contents.value_is_text, TypeBytes.text_byte}
+use Rattle.nbfx_records.specs.Shapes.{bytes_of, named_by, qualified_by, ScalarShape, ValueShape}
+use Rattle.nbfx_records.proofs.ChosenShort.{of_utf16, spelled_long}
+use Rattle.nbfx_records.proofs.{PartBytes.IsTurn, PartBytes.ScalarIs, ScalarBytes.spelled_there}
+use Rattle.nbfx_records.proofs.ShapeBytes.{IsValue, ValueIs}
 use Rattle.nbfx_records.proofs.ValidFacts.{bytes_front, bytes_rest}
 use Rattle.nbfx_records.proofs.ValueBytes.{bound_some, item_there, mapped_some}
+use Rattle.nbfx_records.specs.declared.kinds.RecordKind.TheVariants as records
+use Rattle.nbfx_records.specs.declared.kinds.TextKind.TheVariants as texts
 
 -- no value is in UTF-16
 abbrev pub Plain : List ScalarShape → Type 0

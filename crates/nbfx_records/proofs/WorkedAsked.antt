@@ -1,10 +1,8 @@
 -- How many bytes are asked for where they end within a record, worked.
-use Rattle.std.proofs.Common.{[], ◌∷◌, true, refl, arith}
-use Rattle.nbfx_records.specs.declared.nodes.NodePlace.{NodePlace}
-use Rattle.nbfx_records.specs.declared.nodes.NodePlace.TheVariants.{Within}
+use Rattle.std.proofs.Common.{true, [], ◌∷◌, refl, arith}
+use Rattle.nbfx_records.specs.declared.nodes.NodePlace.{NodePlace, TheVariants.Within}
+use Rattle.nbfx_records.{specs.Asked.here, specs.Asked.later, proofs.OnLiterals.records_on_literals}
 use Rattle.nbfx_records.specs.Asked as asked
-use Rattle.nbfx_records.specs.Asked.{here, later}
-use Rattle.nbfx_records.proofs.OnLiterals.{records_on_literals}
 
 abbrev within : NodePlace
 within = Within true true

@@ -1,16 +1,12 @@
 -- Texts of lengths at which the width of a length changes, as they are written. That they are read
 -- so is the law `written`.
-use Rattle.std.proofs.Common.{◌≡◌, ℕ, List, ◌∷◌, ◌++◌, length, Bool, true, false, ap}
-use Rattle.std.specs.Prelude.{if◌then◌else◌}
+use Rattle.std.proofs.Common.{◌≡◌, ℕ, Bool, true, false, List, ◌∷◌, ◌++◌, length, if◌then◌else◌, ap}
 use Rattle.std.specs.Int.{to_le_bytes}
-use Rattle.nbfx_values.specs.declared.scalars.Scalar.TheVariants.{Text as TextOf, Bytes}
-use Rattle.nbfx_records.specs.declared.kinds.LengthForm.{LengthForm}
-use Rattle.nbfx_records.specs.declared.kinds.TextKind.{TextKind}
-use Rattle.nbfx_records.specs.declared.nodes.Node.TheVariants.{Text}
-use Rattle.nbfx_records.specs.declared.nodes.RawScalar.TheVariants.{Known}
-use Rattle.nbfx_records.specs.declared.nodes.RawValue.TheVariants.{One}
+use Rattle.nbfx_values.specs.declared.scalars.Scalar.TheVariants.{Bytes, Text as TextOf}
+use Rattle.nbfx_records.specs.declared.kinds.{LengthForm.LengthForm, TextKind.TextKind}
+use Rattle.nbfx_records.specs.declared.nodes.{Node.TheVariants.Text, RawScalar.TheVariants.Known}
+use Rattle.nbfx_records.specs.{declared.nodes.RawValue.TheVariants.One, Shapes.width_in}
 use Rattle.nbfx_records.specs.Chosen.{binary, characters, chosen_bytes, least_form, record_bytes}
-use Rattle.nbfx_records.specs.Shapes.{width_in}
 
 -- what is written of a text that isn't empty, and of bytes, which may end the element that holds
 -- them

@@ -1,21 +1,17 @@
 -- Each other record, by computation alone: a node, and the bytes that are read as it and written of
 -- it.
-use Rattle.std.proofs.Common.{ℕ, List, [], ◌∷◌, true, false, refl}
-use Rattle.std.specs.Prelude.{pos, negsuc}
-use Rattle.nbfx_values.specs.declared.content.ArrayKind.{ArrayKind}
-use Rattle.nbfx_values.specs.declared.content.ArrayKind.TheVariants as arrays
-use Rattle.nbfx_values.specs.declared.scalars.Scalar.{Scalar}
-use Rattle.nbfx_values.specs.declared.scalars.Scalar.TheVariants.{Number, Truth, Float, Double}
-use Rattle.nbfx_values.specs.declared.scalars.Scalar.TheVariants.{Decimal, DateTime, TimeSpan, Uuid}
-use Rattle.nbfx_records.specs.declared.nodes.AttrNode.TheVariants as attribute_nodes
-use Rattle.nbfx_records.specs.declared.nodes.NameRef.TheVariants.{Inline, Id}
-use Rattle.nbfx_records.specs.declared.nodes.RawScalar.TheVariants.{Known}
-use Rattle.nbfx_records.specs.declared.nodes.RawValue.{RawValue}
-use Rattle.nbfx_records.specs.declared.nodes.RawValue.TheVariants.{One, List as ListOf}
-use Rattle.nbfx_records.specs.declared.nodes.Node.{Node}
-use Rattle.nbfx_records.specs.declared.nodes.Node.TheVariants.{EndElement, Comment, Array}
-use Rattle.nbfx_records.specs.declared.nodes.Node.TheVariants.{Attribute, Xmlns, Element}
+use Rattle.std.proofs.Common.{ℕ, true, false, List, [], ◌∷◌, pos, negsuc, refl}
+use Rattle.nbfx_values.specs.declared.{content.ArrayKind.ArrayKind, scalars.Scalar.Scalar}
+use Rattle.nbfx_values.specs.declared.scalars.Scalar.TheVariants.{DateTime, Decimal, Double, Float}
+use Rattle.nbfx_values.specs.declared.scalars.Scalar.TheVariants.{Number, TimeSpan, Truth, Uuid}
+use Rattle.nbfx_records.specs.declared.nodes.NameRef.TheVariants.{Id, Inline}
+use Rattle.nbfx_records.specs.declared.nodes.Node.{Node, TheVariants.EndElement, TheVariants.Xmlns}
+use Rattle.nbfx_records.specs.declared.nodes.Node.TheVariants.{Array, Attribute, Comment, Element}
+use Rattle.nbfx_records.specs.declared.nodes.{RawScalar.TheVariants.Known, RawValue.RawValue}
+use Rattle.nbfx_records.specs.declared.nodes.RawValue.TheVariants.{List as ListOf, One}
 use Rattle.nbfx_records.proofs.OnLiterals.{AllRead, AllWritten, records_on_literals}
+use Rattle.nbfx_values.specs.declared.content.ArrayKind.TheVariants as arrays
+use Rattle.nbfx_records.specs.declared.nodes.AttrNode.TheVariants as attribute_nodes
 
 abbrev one : RawValue
 one = One (Known (Number (pos 1)))

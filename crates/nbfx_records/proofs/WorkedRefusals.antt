@@ -1,16 +1,12 @@
 -- Bytes that are no record, or not yet, by computation alone.
-use Rattle.std.proofs.Common.{◌≡◌, List, ℕ, [], ◌∷◌, true, false, refl}
-use Rattle.std.specs.Prelude.{map}
+use Rattle.std.proofs.Common.{◌≡◌, ℕ, true, false, List, [], ◌∷◌, map, refl}
 use Rattle.unit_streams.specs.Front.{begun, wrong}
-use Rattle.nbfx_records.specs.declared.nodes.RecordFault.{RecordFault}
-use Rattle.nbfx_records.specs.declared.nodes.RecordFault.TheVariants.{UnknownNode, OutOfPlace}
-use Rattle.nbfx_records.specs.declared.nodes.RecordFault.TheVariants.{TrailingBytes, TooDeep}
-use Rattle.nbfx_records.specs.declared.nodes.RecordFault.TheVariants.{BadInt, BadArray, BadUtf8}
-use Rattle.nbfx_records.specs.declared.nodes.RecordFault.TheVariants.{BadValue}
-use Rattle.nbfx_records.specs.declared.nodes.NodePlace.{NodePlace}
-use Rattle.nbfx_records.specs.declared.nodes.NodePlace.TheVariants.{BeforeRoot, Within, AfterRoot}
-use Rattle.nbfx_records.specs.RecordAtFront.{node_at}
-use Rattle.nbfx_records.proofs.OnLiterals.{records_on_literals}
+use Rattle.nbfx_records.specs.declared.nodes.{NodePlace.NodePlace, RecordFault.RecordFault}
+use Rattle.nbfx_records.specs.declared.nodes.NodePlace.TheVariants.{AfterRoot, BeforeRoot, Within}
+use Rattle.nbfx_records.specs.declared.nodes.RecordFault.TheVariants.{BadArray, BadInt, BadUtf8}
+use Rattle.nbfx_records.specs.declared.nodes.RecordFault.TheVariants.{BadValue, OutOfPlace, TooDeep}
+use Rattle.nbfx_records.specs.declared.nodes.RecordFault.TheVariants.{TrailingBytes, UnknownNode}
+use Rattle.nbfx_records.{specs.RecordAtFront.node_at, proofs.OnLiterals.records_on_literals}
 
 abbrev within : NodePlace
 within = Within true true

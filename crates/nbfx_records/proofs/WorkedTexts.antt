@@ -1,17 +1,13 @@
 -- Each text record, by computation alone: a node, and the bytes that are read as it and written of
 -- it; of other spellings, that are read as it.
-use Rattle.std.proofs.Common.{ℕ, List, [], ◌∷◌, true, false, refl}
-use Rattle.std.specs.Prelude.{pos, negsuc}
-use Rattle.nbfx_values.specs.declared.scalars.Dec.{Dec}
-use Rattle.nbfx_values.specs.declared.scalars.Scalar.{Scalar}
-use Rattle.nbfx_values.specs.declared.scalars.Scalar.TheVariants.{Number, Truth, Float, Double}
-use Rattle.nbfx_values.specs.declared.scalars.Scalar.TheVariants.{Decimal, DateTime, TimeSpan}
-use Rattle.nbfx_values.specs.declared.scalars.Scalar.TheVariants.{Text as TextOf, Bytes, UniqueId}
-use Rattle.nbfx_values.specs.declared.scalars.Scalar.TheVariants.{Uuid}
-use Rattle.nbfx_records.specs.declared.nodes.Node.{Node}
-use Rattle.nbfx_records.specs.declared.nodes.RawScalar.TheVariants.{Known, Dictionary, QName}
-use Rattle.nbfx_records.specs.declared.nodes.RawValue.TheVariants.{One, List as ListOf}
-use Rattle.nbfx_records.specs.declared.nodes.Node.TheVariants.{Text}
+use Rattle.std.proofs.Common.{ℕ, true, false, List, [], ◌∷◌, pos, negsuc, refl}
+use Rattle.nbfx_values.specs.declared.scalars.{Dec.Dec, Scalar.Scalar}
+use Rattle.nbfx_values.specs.declared.scalars.Scalar.TheVariants.{Bytes, DateTime, Decimal, Double}
+use Rattle.nbfx_values.specs.declared.scalars.Scalar.TheVariants.{Float, Number, Text as TextOf}
+use Rattle.nbfx_values.specs.declared.scalars.Scalar.TheVariants.{TimeSpan, Truth, UniqueId, Uuid}
+use Rattle.nbfx_records.specs.declared.nodes.Node.{Node, TheVariants.Text}
+use Rattle.nbfx_records.specs.declared.nodes.RawScalar.TheVariants.{Dictionary, Known, QName}
+use Rattle.nbfx_records.specs.declared.nodes.RawValue.TheVariants.{List as ListOf, One}
 use Rattle.nbfx_records.proofs.OnLiterals.{AllRead, AllWritten, records_on_literals}
 
 -- a text of one value, and one with which its element ends

@@ -1,15 +1,13 @@
 -- What is written of the strings of a table, and of which nodes each QName has an identifier: at
 -- written ones.
-use Rattle.std.specs.Prelude.{◌≡◌, ℕ, List, [], ◌∷◌, Bool, true, false, codes, map, pos, refl}
-use Rattle.nbfx_values.specs.declared.scalars.Scalar.TheVariants as scalars
-use Rattle.nbfx_records.specs.declared.nodes.NameRef.TheVariants.{Id}
-use Rattle.nbfx_records.specs.declared.nodes.RawScalar.TheVariants.{Known, Dictionary, QName}
-use Rattle.nbfx_records.specs.declared.nodes.RawValue.TheVariants.{One, List as ListOf}
-use Rattle.nbfx_records.specs.declared.nodes.Node.{Node}
-use Rattle.nbfx_records.specs.declared.nodes.Node.TheVariants.{EndElement, Attribute, Text}
-use Rattle.nbfx_records.specs.Chosen.{table_bytes}
-use Rattle.nbfx_records.specs.Valid.{names_qnames}
+use Rattle.std.proofs.Common.{◌≡◌, ℕ, Bool, true, false, List, [], ◌∷◌, map, pos, codes, refl}
+use Rattle.nbfx_records.specs.declared.nodes.{NameRef.TheVariants.Id, Node.Node}
+use Rattle.nbfx_records.specs.declared.nodes.Node.TheVariants.{Attribute, EndElement, Text}
+use Rattle.nbfx_records.specs.declared.nodes.RawScalar.TheVariants.{Dictionary, Known, QName}
+use Rattle.nbfx_records.specs.declared.nodes.RawValue.TheVariants.{List as ListOf, One}
+use Rattle.nbfx_records.specs.{Chosen.table_bytes, Valid.names_qnames}
 use Rattle.nbfx_records.proofs.OnLiterals.{records_on_literals}
+use Rattle.nbfx_values.specs.declared.scalars.Scalar.TheVariants as scalars
 
 -- the strings, and the bytes
 abbrev StringsRow : Type 0

@@ -1,50 +1,39 @@
 -- A node that says what is valid, with no more content and no greater identifiers than 31 bits
 -- hold, may be written.
-use Rattle.std.proofs.Common.{◌≡◌, ℕ, ◌+◌, ◌^◌, ◌<◌, ◌≤◌, List, [], ◌∷◌, ◌++◌, length, Bool, true}
-use Rattle.std.proofs.Common.{refl, sym, ap, ◌∙◌, subst, arith}
-use Rattle.std.specs.Prelude.{◌&&◌, nat_le, nat_lt, flat_map, sum_by}
-use Rattle.std.specs.List.{list_all}
-use Rattle.std.specs.Str.{is_utf8}
-use Rattle.std.proofs.lemmas.Bool.{and_parts, and_from, lt-ltb}
-use Rattle.std.proofs.lemmas.List.Concat.{flat_map-cons}
-use Rattle.std.proofs.lemmas.List.Folds.{list_all-append}
-use Rattle.std.proofs.lemmas.List.Sums.{sum_by-cons}
-use Rattle.nbfx_values.specs.Items as items_spec
+use Rattle.std.proofs.Common.{◌≡◌, ℕ, ◌+◌, ◌^◌, ◌<◌, ◌≤◌, Bool, true, ◌&&◌, List, [], ◌∷◌, ◌++◌}
+use Rattle.std.proofs.Common.{length, nat_lt, nat_le, sum_by, flat_map, sym, refl, ap, ◌∙◌, subst}
+use Rattle.std.proofs.{Common.arith, Common.lt-ltb, lemmas.Bool.and_from, lemmas.Bool.and_parts}
+use Rattle.std.proofs.lemmas.List.{Concat.flat_map-cons, Folds.list_all-append, Sums.sum_by-cons}
+use Rattle.std.specs.{List.list_all, Str.is_utf8}
+use Rattle.string_tables.specs.StringTable.{StringTable}
+use Rattle.nbfx_values.specs.declared.content.{ArrayItem.ArrayItem, Item.Item}
+use Rattle.nbfx_values.specs.declared.content.{ArrayKind.ArrayKind, AttrItem.AttrItem}
+use Rattle.nbfx_values.specs.declared.scalars.{Scalar.Scalar, Value.Value}
 use Rattle.nbfx_values.specs.Items.{are_texts, fits_kind, is_valid_attribute, is_valid_item}
 use Rattle.nbfx_values.specs.Measures.{array_content, attribute_content, content_of, item_content}
 use Rattle.nbfx_values.specs.Measures.{scalar_content, value_content}
 use Rattle.nbfx_values.specs.Scalars.{is_unsigned, is_valid_scalar, is_valid_value}
-use Rattle.nbfx_values.specs.declared.content.ArrayItem.{ArrayItem}
-use Rattle.nbfx_values.specs.declared.content.ArrayKind.{ArrayKind}
-use Rattle.nbfx_values.specs.declared.content.ArrayKind.TheVariants as arrays
-use Rattle.nbfx_values.specs.declared.content.AttrItem.{AttrItem}
-use Rattle.nbfx_values.specs.declared.content.Item.{Item}
-use Rattle.nbfx_values.specs.declared.content.Item.TheVariants as items
-use Rattle.nbfx_values.specs.declared.scalars.Scalar.{Scalar}
-use Rattle.nbfx_values.specs.declared.scalars.Scalar.TheVariants as scalars
-use Rattle.nbfx_values.specs.declared.scalars.Value.{Value}
-use Rattle.string_tables.specs.StringTable.{StringTable}
-use Rattle.nbfx_records.specs.declared.nodes.NameRef.{NameRef}
-use Rattle.nbfx_records.specs.declared.nodes.NameRef.TheVariants.{Inline, Id}
-use Rattle.nbfx_records.specs.declared.nodes.RawScalar.{RawScalar}
-use Rattle.nbfx_records.specs.declared.nodes.RawScalar.TheVariants.{Known, Dictionary, QName}
-use Rattle.nbfx_records.specs.declared.nodes.RawValue.{RawValue}
-use Rattle.nbfx_records.specs.declared.nodes.RawValue.TheVariants.{One, List as ListOf}
-use Rattle.nbfx_records.specs.declared.nodes.AttrNode.{AttrNode}
-use Rattle.nbfx_records.specs.declared.nodes.AttrNode.TheVariants as attribute_nodes
-use Rattle.nbfx_records.specs.declared.nodes.ArrayNode.{ArrayNode}
-use Rattle.nbfx_records.specs.declared.nodes.Node.{Node}
-use Rattle.nbfx_records.specs.declared.nodes.Node.TheVariants.{EndElement, Comment, Array}
-use Rattle.nbfx_records.specs.declared.nodes.Node.TheVariants.{Attribute, Xmlns, Element, Text}
-use Rattle.nbfx_records.specs.Meaning.{ArrayMeans, EachMeans, Means, NameMeans, PartMeans}
-use Rattle.nbfx_records.specs.Meaning.{ScalarMeans, ValueMeans, closing, identifiers, ids_of_name}
-use Rattle.nbfx_records.specs.Meaning.{ids_of_part, ids_of_scalar, ids_of_value}
+use Rattle.nbfx_records.specs.declared.nodes.{ArrayNode.ArrayNode, Node.Node, RawValue.RawValue}
+use Rattle.nbfx_records.specs.declared.nodes.{AttrNode.AttrNode, RawScalar.RawScalar}
+use Rattle.nbfx_records.specs.declared.nodes.NameRef.{NameRef, TheVariants.Id, TheVariants.Inline}
+use Rattle.nbfx_records.specs.declared.nodes.Node.TheVariants.{Array, Attribute, Comment, Element}
+use Rattle.nbfx_records.specs.declared.nodes.Node.TheVariants.{EndElement, Text, Xmlns}
+use Rattle.nbfx_records.specs.declared.nodes.RawScalar.TheVariants.{Dictionary, Known, QName}
+use Rattle.nbfx_records.specs.declared.nodes.RawValue.TheVariants.{List as ListOf, One}
+use Rattle.nbfx_records.specs.Meaning.{ArrayMeans, closing, EachMeans, identifiers, ids_of_name}
+use Rattle.nbfx_records.specs.Meaning.{ids_of_part, ids_of_scalar, ids_of_value, Means, NameMeans}
+use Rattle.nbfx_records.specs.Meaning.{PartMeans, ScalarMeans, ValueMeans}
 use Rattle.nbfx_records.specs.Valid.{are_valid_names, fit_names, fits_array, fits_known, fits_node}
 use Rattle.nbfx_records.specs.Valid.{fits_part, fits_raw, fits_text, is_short, is_valid_array}
 use Rattle.nbfx_records.specs.Valid.{is_valid_known, is_valid_node, is_valid_part, is_valid_raw}
 use Rattle.nbfx_records.specs.Valid.{is_valid_text, names_qnames, names_qnames_part}
 use Rattle.nbfx_records.specs.Valid.{names_qnames_raw, names_qnames_text}
 use Rattle.nbfx_records.specs.WritingLaws.{SaidMayBeWritten}
+use Rattle.nbfx_values.specs.Items as items_spec
+use Rattle.nbfx_values.specs.declared.content.ArrayKind.TheVariants as arrays
+use Rattle.nbfx_values.specs.declared.content.Item.TheVariants as items
+use Rattle.nbfx_values.specs.declared.scalars.Scalar.TheVariants as scalars
+use Rattle.nbfx_records.specs.declared.nodes.AttrNode.TheVariants as attribute_nodes
 
 -- in both ways a record asks for
 record May (valid fits : Bool) : Type 0 where

@@ -1,17 +1,14 @@
 -- What is answered to bytes at whose front a record is read.
-use Rattle.std.specs.Prelude.{◌≡◌, ⊤, ℕ, ◌+◌, ◌<◌, ◌≤◌, List, [], ◌++◌, length, IsTrue, Result, Ok}
-use Rattle.std.specs.Prelude.{Err}
+use Rattle.std.specs.Prelude.{◌≡◌, ℕ, ◌+◌, ◌<◌, ◌≤◌, List, [], ◌++◌, length, IsTrue, Ok, Err}
+use Rattle.std.specs.Prelude.{Result, ⊤}
 use Rattle.unit_streams.specs.Front.{begun, whole, wrong}
-use Rattle.nbfx_records.specs.declared.cursor.Stop.{Stop}
+use Rattle.nbfx_records.specs.declared.{cursor.Stop.Stop, reader.NodeStep.NodeStep}
+use Rattle.nbfx_records.specs.declared.nodes.{NodeFault.NodeFault, NodePlace.NodePlace}
+use Rattle.nbfx_records.specs.declared.nodes.NodeFault.TheVariants.{Memory, Record}
+use Rattle.nbfx_records.specs.declared.reader.NodeStep.TheVariants.{Done, More}
+use Rattle.nbfx_records.specs.{RecordAtFront.node_at, Valid.is_valid_node}
 use Rattle.nbfx_records.specs.declared.cursor.Stop.TheVariants as stops
-use Rattle.nbfx_records.specs.declared.nodes.NodePlace.{NodePlace}
-use Rattle.nbfx_records.specs.declared.reader.NodeStep.{NodeStep}
-use Rattle.nbfx_records.specs.declared.reader.NodeStep.TheVariants.{More, Done}
-use Rattle.nbfx_records.specs.declared.nodes.NodeFault.{NodeFault}
-use Rattle.nbfx_records.specs.declared.nodes.NodeFault.TheVariants.{Record, Memory}
 use Rattle.nbfx_records.specs.Asked as asked
-use Rattle.nbfx_records.specs.RecordAtFront.{node_at}
-use Rattle.nbfx_records.specs.Valid.{is_valid_node}
 
 -- Fewer than so many bytes in all decide nothing, however they go on: so many are asked for where
 -- the bytes end, which is up to the end of a text, of bytes or of an array's values where their

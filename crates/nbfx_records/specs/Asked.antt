@@ -1,29 +1,22 @@
 -- How many bytes are asked for where the bytes end within a part of a record: those of a text, of
 -- bytes or of values whose number is known, to their last; else one more.
-use Rattle.std.specs.Prelude.{◌≡◌, ℕ, ◌+◌, ◌*◌, ◌<◌, List, [], length, Bool, true, false, Option}
-use Rattle.std.specs.Prelude.{Some, None}
-use Rattle.std.specs.Int.{byte_len}
-use Rattle.unit_streams.specs.Front.{begun}
-use Rattle.unit_streams.specs.Parts as parts
-use Rattle.unit_streams.specs.Parts.{Reader}
+use Rattle.std.specs.Prelude.{◌≡◌, ℕ, ◌+◌, ◌*◌, ◌<◌, Bool, true, false, List, [], length, Some}
+use Rattle.std.specs.{Prelude.None, Prelude.Option, Int.byte_len}
+use Rattle.unit_streams.specs.{Front.begun, Parts.Reader}
 use Rattle.multibyte_ints.specs.Integer.{int_at}
 use Rattle.nbfx_values.specs.declared.content.ArrayKind.{ArrayKind}
-use Rattle.nbfx_records.specs.declared.kinds.Body.{Body}
-use Rattle.nbfx_records.specs.declared.kinds.Body.TheVariants.{Fixed, Counted, Named, Qualified}
-use Rattle.nbfx_records.specs.declared.kinds.LengthForm.{LengthForm}
-use Rattle.nbfx_records.specs.declared.kinds.NameForm.{NameForm}
-use Rattle.nbfx_records.specs.declared.kinds.NameForm.TheVariants.{Inlined, Identified}
-use Rattle.nbfx_records.specs.declared.kinds.PrefixForm.{PrefixForm}
-use Rattle.nbfx_records.specs.declared.kinds.PrefixForm.TheVariants.{Prefixed}
-use Rattle.nbfx_records.specs.declared.kinds.RecordKind.{RecordKind}
-use Rattle.nbfx_records.specs.declared.kinds.RecordKind.TheVariants as records
-use Rattle.nbfx_records.specs.declared.kinds.TextKind.{TextKind}
-use Rattle.nbfx_records.specs.declared.kinds.TextKind.TheVariants as texts
+use Rattle.nbfx_records.specs.declared.kinds.{Body.Body, LengthForm.LengthForm, TextKind.TextKind}
+use Rattle.nbfx_records.specs.declared.kinds.Body.TheVariants.{Counted, Fixed, Named, Qualified}
+use Rattle.nbfx_records.specs.declared.kinds.{NameForm.NameForm, RecordKind.RecordKind}
+use Rattle.nbfx_records.specs.declared.kinds.NameForm.TheVariants.{Identified, Inlined}
+use Rattle.nbfx_records.specs.declared.kinds.PrefixForm.{PrefixForm, TheVariants.Prefixed}
+use Rattle.nbfx_records.specs.declared.nodes.NodePlace.{NodePlace, TheVariants.AfterRoot}
 use Rattle.nbfx_records.specs.declared.nodes.RecordFault.{RecordFault}
-use Rattle.nbfx_records.specs.declared.nodes.NodePlace.{NodePlace}
-use Rattle.nbfx_records.specs.declared.nodes.NodePlace.TheVariants.{AfterRoot}
 use Rattle.nbfx_records.specs.Causes.{Behind, BehindMany}
 use Rattle.nbfx_records.specs.Kinds.{array_kind, body_of, record_kind, width_of}
+use Rattle.unit_streams.specs.Parts as parts
+use Rattle.nbfx_records.specs.declared.kinds.RecordKind.TheVariants as records
+use Rattle.nbfx_records.specs.declared.kinds.TextKind.TheVariants as texts
 use Rattle.nbfx_records.specs.Shapes as shapes
 
 -- A part that ends with its bytes asks for none. One byte, so many, and an integer:

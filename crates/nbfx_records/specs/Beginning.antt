@@ -1,11 +1,8 @@
 -- Which record some bytes begin.
 use Rattle.std.specs.Prelude.{◌≡◌, ℕ, List, Some, None}
 use Rattle.unit_streams.specs.Parts.{a_byte}
-use Rattle.nbfx_records.specs.declared.kinds.RecordKind.{RecordKind}
-use Rattle.nbfx_records.specs.declared.nodes.NodePlace.{NodePlace}
-use Rattle.nbfx_records.specs.Cursor.{IsWhole}
-use Rattle.nbfx_records.specs.Kinds.{record_kind}
-use Rattle.nbfx_records.specs.Shapes.{misplaced}
+use Rattle.nbfx_records.specs.declared.{kinds.RecordKind.RecordKind, nodes.NodePlace.NodePlace}
+use Rattle.nbfx_records.specs.{Cursor.IsWhole, Kinds.record_kind, Shapes.misplaced}
 
 -- their first is the type byte of a record of this kind
 pub record BeginsKind (bytes : List ℕ) (kind : RecordKind) : Type 0 where

@@ -1,38 +1,29 @@
 -- What may be wrong with a record: a type byte or a number in it, once those before are whole; or a
 -- text or a value of one that is whole.
-use Rattle.std.specs.Prelude.{◌≡◌, ◌≢◌, ⊤, ℕ, ◌+◌, ◌%◌, ◌^◌, ◌<◌, ◌≤◌, ◌⊎◌, List, [], ◌∷◌, ◌++◌}
-use Rattle.std.specs.Prelude.{length, take, drop, slice_index, Bool, true, false, not, ◌&&◌}
-use Rattle.std.specs.Prelude.{if◌then◌else◌, Option, Some, None, IsUtf8, Contains, flat_map}
-use Rattle.std.specs.Int.{w32, from_le_bytes}
-use Rattle.std.specs.Char.Utf16.{has_unpaired_surrogate}
-use Rattle.unit_streams.specs.Front.{whole}
-use Rattle.unit_streams.specs.Parts.{Reader, a_byte, Turn, more}
-use Rattle.multibyte_ints.specs.Integer.{int_at}
-use Rattle.multibyte_ints.specs.Laws.{FifthIsAbove}
+use Rattle.std.specs.Prelude.{◌≡◌, ℕ, ◌+◌, ◌%◌, ◌^◌, ◌<◌, ◌≤◌, Bool, true, false, not, ◌&&◌, ◌≢◌}
+use Rattle.std.specs.Prelude.{◌⊎◌, List, [], ◌∷◌, ◌++◌, length, take, drop, if◌then◌else◌}
+use Rattle.std.specs.Prelude.{slice_index, Some, None, IsUtf8, Contains, Option, flat_map, ⊤}
+use Rattle.std.specs.{Char.Utf16.has_unpaired_surrogate, Int.from_le_bytes, Int.w32}
+use Rattle.unit_streams.specs.{Front.whole, Parts.a_byte, Parts.more, Parts.Reader, Parts.Turn}
+use Rattle.multibyte_ints.specs.{Integer.int_at, Laws.FifthIsAbove}
 use Rattle.nbfx_values.specs.declared.content.ArrayKind.{ArrayKind}
-use Rattle.nbfx_records.specs.declared.kinds.Body.{Body}
+use Rattle.nbfx_records.specs.declared.kinds.{Body.Body, LengthForm.TheVariants.FourBytes}
 use Rattle.nbfx_records.specs.declared.kinds.Body.TheVariants.{Counted, Named, Qualified}
-use Rattle.nbfx_records.specs.declared.kinds.LengthForm.TheVariants.{FourBytes}
-use Rattle.nbfx_records.specs.declared.kinds.NameForm.{NameForm}
-use Rattle.nbfx_records.specs.declared.kinds.PrefixForm.{PrefixForm}
-use Rattle.nbfx_records.specs.declared.kinds.PrefixForm.TheVariants.{Prefixed}
-use Rattle.nbfx_records.specs.declared.kinds.RecordKind.{RecordKind}
-use Rattle.nbfx_records.specs.declared.kinds.RecordKind.TheVariants as records
-use Rattle.nbfx_records.specs.declared.kinds.TextKind.{TextKind}
-use Rattle.nbfx_records.specs.declared.kinds.TextKind.TheVariants as texts
-use Rattle.nbfx_records.specs.declared.nodes.RecordFault.{RecordFault}
-use Rattle.nbfx_records.specs.declared.nodes.RecordFault.TheVariants as faults
-use Rattle.nbfx_records.specs.declared.nodes.NodePlace.{NodePlace}
-use Rattle.nbfx_records.specs.declared.nodes.NodePlace.TheVariants.{AfterRoot}
-use Rattle.nbfx_records.specs.declared.nodes.NameRef.{NameRef}
-use Rattle.nbfx_records.specs.declared.nodes.NameRef.TheVariants.{Inline, Id}
+use Rattle.nbfx_records.specs.declared.kinds.{NameForm.NameForm, RecordKind.RecordKind}
+use Rattle.nbfx_records.specs.declared.kinds.PrefixForm.{PrefixForm, TheVariants.Prefixed}
+use Rattle.nbfx_records.specs.declared.{kinds.TextKind.TextKind, nodes.RecordFault.RecordFault}
+use Rattle.nbfx_records.specs.declared.nodes.NameRef.{NameRef, TheVariants.Id, TheVariants.Inline}
+use Rattle.nbfx_records.specs.declared.nodes.NodePlace.{NodePlace, TheVariants.AfterRoot}
 use Rattle.nbfx_records.specs.Contents.{cells, is_chars, units_of}
 use Rattle.nbfx_records.specs.Kinds.{array_kind, body_of, record_kind, text_kind_in, width_of}
-use Rattle.nbfx_records.specs.Shapes.{ScalarShape, bytes_of, qualified_by, ValueShape, one, several}
-use Rattle.nbfx_records.specs.Shapes.{AttributeShape, attributes, declares, ArrayShape, Shape}
-use Rattle.nbfx_records.specs.Shapes.{ends_element, comments, begins_element, adds, has_text}
-use Rattle.nbfx_records.specs.Shapes.{repeats, array_element, array_parts, array_turn, list_turn}
-use Rattle.nbfx_records.specs.Shapes.{misplaced, name_at, prefix_at, shape_at}
+use Rattle.nbfx_records.specs.Shapes.{adds, array_element, array_parts, array_turn, ArrayShape}
+use Rattle.nbfx_records.specs.Shapes.{attributes, AttributeShape, begins_element, bytes_of}
+use Rattle.nbfx_records.specs.Shapes.{comments, declares, ends_element, has_text, list_turn}
+use Rattle.nbfx_records.specs.Shapes.{misplaced, name_at, one, prefix_at, qualified_by, repeats}
+use Rattle.nbfx_records.specs.Shapes.{ScalarShape, several, Shape, shape_at, ValueShape}
+use Rattle.nbfx_records.specs.declared.kinds.RecordKind.TheVariants as records
+use Rattle.nbfx_records.specs.declared.kinds.TextKind.TheVariants as texts
+use Rattle.nbfx_records.specs.declared.nodes.RecordFault.TheVariants as faults
 
 -- what can be wrong in the structure of a record
 pub data Part : Type 0 where

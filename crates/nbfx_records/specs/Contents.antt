@@ -1,37 +1,29 @@
 -- What a whole shape says: its node, unless one of its texts isn't UTF-8 or one of its values is
 -- none of its kind.
-use Rattle.std.specs.Prelude.{ℕ, zero, suc, ◌+◌, ◌*◌, ◌%◌, ◌^◌, pos, List, [], ◌∷◌, ◌++◌, length}
-use Rattle.std.specs.Prelude.{take, drop, slice_index, Bool, true, false, Option, Some, None, ok_or}
-use Rattle.std.specs.Prelude.{Result, Ok, Err, nat_le, ◌==◌, ◌&&◌, ◌||◌, not, if◌then◌else◌}
-use Rattle.std.specs.Prelude.{encode_utf8_all}
-use Rattle.std.specs.Int.{Width, w8, w16, w32, w64, from_le_bytes, cast_signed}
+use Rattle.std.specs.Prelude.{ℕ, zero, suc, ◌+◌, ◌*◌, ◌%◌, ◌^◌, Bool, true, false, not, ◌&&◌, ◌||◌}
+use Rattle.std.specs.Prelude.{List, [], ◌∷◌, ◌++◌, length, take, drop, pos, if◌then◌else◌, nat_le}
+use Rattle.std.specs.Prelude.{◌==◌, slice_index, Some, None, Ok, Err, Option, Result, ok_or}
+use Rattle.std.specs.Prelude.{option_map, option_and_then, encode_utf8_all}
 use Rattle.std.specs.Char.Utf16.{has_unpaired_surrogate, utf16_lossy_chars}
-use Rattle.std.specs.List.{list_all}
-use Rattle.std.specs.Option.{option_map, option_and_then}
-use Rattle.std.specs.Str.{is_utf8}
-use Rattle.nbfx_values.specs.declared.scalars.Scalar.{Scalar}
+use Rattle.std.specs.Int.{Width, cast_signed, from_le_bytes, w16, w32, w64, w8}
+use Rattle.std.specs.{List.list_all, Str.is_utf8}
+use Rattle.nbfx_values.specs.declared.{content.ArrayKind.ArrayKind, scalars.Scalar.Scalar}
+use Rattle.nbfx_records.specs.{declared.kinds.TextKind.TextKind, Kinds.text_kind_in, Kinds.width_of}
+use Rattle.nbfx_records.specs.declared.nodes.{ArrayNode.ArrayNode, Node.Node}
+use Rattle.nbfx_records.specs.declared.nodes.{AttrNode.AttrNode, RawScalar.RawScalar}
+use Rattle.nbfx_records.specs.declared.nodes.NameRef.{NameRef, TheVariants.Id, TheVariants.Inline}
+use Rattle.nbfx_records.specs.declared.nodes.RawScalar.TheVariants.{Dictionary, Known, QName}
+use Rattle.nbfx_records.specs.declared.nodes.{RawValue.RawValue, RecordFault.RecordFault}
+use Rattle.nbfx_records.specs.declared.nodes.RawValue.TheVariants.{List as ListOf, One}
+use Rattle.nbfx_records.specs.Shapes.{adds, ArrayShape, attributes, AttributeShape, begins_element}
+use Rattle.nbfx_records.specs.Shapes.{bytes_of, CellsShape, comments, declares, ends_element}
+use Rattle.nbfx_records.specs.Shapes.{has_text, named_by, NamedShape, one, qualified_by, repeats}
+use Rattle.nbfx_records.specs.Shapes.{ScalarShape, several, Shape, ValueShape}
 use Rattle.nbfx_values.specs.declared.scalars.Scalar.TheVariants as scalars
-use Rattle.nbfx_values.specs.declared.content.ArrayKind.{ArrayKind}
-use Rattle.nbfx_records.specs.declared.kinds.TextKind.{TextKind}
 use Rattle.nbfx_records.specs.declared.kinds.TextKind.TheVariants as texts
-use Rattle.nbfx_records.specs.declared.nodes.NameRef.{NameRef}
-use Rattle.nbfx_records.specs.declared.nodes.NameRef.TheVariants.{Inline, Id}
-use Rattle.nbfx_records.specs.declared.nodes.RawScalar.{RawScalar}
-use Rattle.nbfx_records.specs.declared.nodes.RawScalar.TheVariants.{Known, Dictionary, QName}
-use Rattle.nbfx_records.specs.declared.nodes.RawValue.{RawValue}
-use Rattle.nbfx_records.specs.declared.nodes.RawValue.TheVariants.{One, List as ListOf}
-use Rattle.nbfx_records.specs.declared.nodes.AttrNode.{AttrNode}
 use Rattle.nbfx_records.specs.declared.nodes.AttrNode.TheVariants as attribute_nodes
-use Rattle.nbfx_records.specs.declared.nodes.ArrayNode.{ArrayNode}
-use Rattle.nbfx_records.specs.declared.nodes.Node.{Node}
 use Rattle.nbfx_records.specs.declared.nodes.Node.TheVariants as nodes
-use Rattle.nbfx_records.specs.declared.nodes.RecordFault.{RecordFault}
 use Rattle.nbfx_records.specs.declared.nodes.RecordFault.TheVariants as faults
-use Rattle.nbfx_records.specs.Kinds.{text_kind_in, width_of}
-use Rattle.nbfx_records.specs.Shapes.{ScalarShape, bytes_of, named_by, qualified_by, ValueShape}
-use Rattle.nbfx_records.specs.Shapes.{one, several, AttributeShape, attributes, declares}
-use Rattle.nbfx_records.specs.Shapes.{NamedShape, CellsShape, ArrayShape, Shape, ends_element}
-use Rattle.nbfx_records.specs.Shapes.{comments, begins_element, adds, has_text, repeats}
 
 -- two bytes a unit, the lower first, as far as there are two
 abbrev pub units_of : List ℕ → List ℕ

@@ -1,10 +1,9 @@
 -- What is told of a part of a record that is read from an offset on: what stands there, whatever
 -- follows the bytes, or how many are wanted.
-use Rattle.std.specs.Prelude.{◌≡◌, ⊤, ℕ, ◌+◌, ◌<◌, ◌≤◌, List, ◌++◌, length, drop, Result, Ok, Err}
-use Rattle.unit_streams.specs.Front.{Front, begun, whole, wrong}
-use Rattle.unit_streams.specs.Parts.{Reader, further}
-use Rattle.nbfx_records.specs.declared.cursor.Stop.{Stop}
-use Rattle.nbfx_records.specs.declared.cursor.Stop.TheVariants.{More, Fault}
+use Rattle.std.specs.Prelude.{◌≡◌, ℕ, ◌+◌, ◌<◌, ◌≤◌, List, ◌++◌, length, drop, Ok, Err, Result, ⊤}
+use Rattle.unit_streams.specs.Front.{begun, Front, whole, wrong}
+use Rattle.unit_streams.specs.Parts.{further, Reader}
+use Rattle.nbfx_records.specs.declared.cursor.Stop.{Stop, TheVariants.Fault, TheVariants.More}
 use Rattle.nbfx_records.specs.declared.nodes.RecordFault.{RecordFault}
 
 -- what a reader says of the bytes from an offset on, its lengths counted from their beginning

@@ -1,9 +1,8 @@
 -- What a function returns that makes something of a whole part: what the part says, unless there is
 -- no memory.
-use Rattle.std.specs.Prelude.{◌≡◌, ⊤, Result, Ok, Err}
-use Rattle.nbfx_records.specs.declared.nodes.RecordFault.{RecordFault}
-use Rattle.nbfx_records.specs.declared.nodes.NodeFault.{NodeFault}
-use Rattle.nbfx_records.specs.declared.nodes.NodeFault.TheVariants.{Record, Memory}
+use Rattle.std.specs.Prelude.{◌≡◌, Ok, Err, Result, ⊤}
+use Rattle.nbfx_records.specs.declared.nodes.{NodeFault.NodeFault, RecordFault.RecordFault}
+use Rattle.nbfx_records.specs.declared.nodes.NodeFault.TheVariants.{Memory, Record}
 
 abbrev pub Made : {X : Type 0} → Result X NodeFault → Result X RecordFault → Type 0
 Made (Ok x) judged = judged ≡ Ok x

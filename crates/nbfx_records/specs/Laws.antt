@@ -1,25 +1,18 @@
 -- What holds of records by their definitions alone, whatever bytes they are read from.
-use Rattle.std.specs.Prelude.{◌≡◌, ◌≢◌, ℕ, ◌≤◌, ◌↔◌, List, [], ◌++◌, length, take, IsTrue, IsUtf8}
-use Rattle.std.specs.Prelude.{not, Ok, Some, None, Contains}
-use Rattle.std.specs.List.{list_all}
-use Rattle.nbfx_values.specs.Items.{is_valid_item}
-use Rattle.nbfx_values.specs.declared.content.Item.{Item}
-use Rattle.string_tables.specs.StringTable.{Names, StringTable, named_text}
-use Rattle.multibyte_ints.specs.Integer.{IsBytes}
+use Rattle.std.specs.Prelude.{◌≡◌, ℕ, ◌≤◌, not, ◌≢◌, ◌↔◌, List, [], ◌++◌, length, take, IsTrue}
+use Rattle.std.specs.Prelude.{Some, None, Ok, IsUtf8, Contains}
+use Rattle.{std.specs.List.list_all, multibyte_ints.specs.Integer.IsBytes}
 use Rattle.unit_streams.specs.Front.{begun, whole, wrong}
-use Rattle.nbfx_records.specs.declared.nodes.Node.{Node}
-use Rattle.nbfx_records.specs.declared.nodes.NodePlace.{NodePlace}
-use Rattle.nbfx_records.specs.declared.nodes.RecordFault.{RecordFault}
-use Rattle.nbfx_records.specs.declared.nodes.RecordFault.TheVariants as faults
+use Rattle.string_tables.specs.StringTable.{named_text, Names, StringTable}
+use Rattle.nbfx_values.specs.{declared.content.Item.Item, Items.is_valid_item}
+use Rattle.nbfx_records.specs.declared.nodes.{Node.Node, NodePlace.NodePlace}
+use Rattle.nbfx_records.specs.{declared.nodes.RecordFault.RecordFault, Places.Stands}
 use Rattle.nbfx_records.specs.Causes.{Caused, HasBadText, HasBadValue, InRecord, scalars_in}
 use Rattle.nbfx_records.specs.Chosen.{chosen_bytes, is_utf16}
-use Rattle.nbfx_records.specs.Contents.{contents}
-use Rattle.nbfx_records.specs.Meaning.{Means, identifiers, items_of}
-use Rattle.nbfx_records.specs.Places.{Stands}
-use Rattle.nbfx_records.specs.RecordAtFront.{node_at}
-use Rattle.nbfx_records.specs.Records.{IsNode}
-use Rattle.nbfx_records.specs.Shapes.{Shape, shape_at}
-use Rattle.nbfx_records.specs.Valid.{fits_node, is_valid_node}
+use Rattle.nbfx_records.specs.{Contents.contents, RecordAtFront.node_at, Records.IsNode}
+use Rattle.nbfx_records.specs.Meaning.{identifiers, items_of, Means}
+use Rattle.nbfx_records.specs.{Shapes.Shape, Shapes.shape_at, Valid.fits_node, Valid.is_valid_node}
+use Rattle.nbfx_records.specs.declared.nodes.RecordFault.TheVariants as faults
 
 -- no byte is judged where there is none
 abbrev pub NothingIsBegun : Type 0

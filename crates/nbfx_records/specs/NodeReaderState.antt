@@ -1,7 +1,6 @@
 -- What a reader of records holds.
 use Rattle.std.specs.Prelude.{ℕ, List, Option}
-use Rattle.nbfx_records.specs.declared.reader.NodeReader.{NodeReader}
-use Rattle.nbfx_records.specs.declared.nodes.NodeFault.{NodeFault}
+use Rattle.nbfx_records.specs.declared.{nodes.NodeFault.NodeFault, reader.NodeReader.NodeReader}
 
 -- the bytes since the last record, and why it has failed
 abbrev pub begun_of : NodeReader → List ℕ

@@ -1,19 +1,13 @@
 -- Which bytes are a payload of a document (MC-NBFS, and MC-NBFSE where it begins with strings of
 -- its own), by the tables of the standards alone.
 use Rattle.std.specs.Prelude.{◌≡◌, ℕ, ◌≤◌, List, [], ◌∷◌, ◌++◌, length}
-use Rattle.multibyte_ints.specs.Integer.{Spells}
-use Rattle.multibyte_ints.specs.Text.{IsString}
-use Rattle.nbfx_values.specs.Documents.{IsDocument}
-use Rattle.nbfx_values.specs.Limits.{Limits}
-use Rattle.nbfx_values.specs.Measures.{content_of, depth_of}
-use Rattle.nbfx_values.specs.declared.content.Item.{Item}
-use Rattle.nbfx_values.specs.declared.session.Kind.{Kind}
-use Rattle.nbfx_values.specs.declared.session.Kind.TheVariants.{Plain, Session}
 use Rattle.string_tables.specs.SessionStrings.{used_cost}
 use Rattle.string_tables.specs.StringTable.{StringTable, with_strings}
-use Rattle.nbfx_records.specs.declared.nodes.Node.{Node}
-use Rattle.nbfx_records.specs.Records.{IsNode}
-use Rattle.nbfx_records.specs.Meaning.{Means}
+use Rattle.multibyte_ints.specs.{Integer.Spells, Text.IsString}
+use Rattle.nbfx_values.specs.{declared.content.Item.Item, Documents.IsDocument, Limits.Limits}
+use Rattle.nbfx_values.specs.declared.session.Kind.{Kind, TheVariants.Plain, TheVariants.Session}
+use Rattle.nbfx_values.specs.Measures.{content_of, depth_of}
+use Rattle.nbfx_records.specs.{declared.nodes.Node.Node, Meaning.Means, Records.IsNode}
 
 -- one record, and the items that it means
 pub record IsRecordMeaning (table : StringTable) (items : List Item) (bytes : List ℕ) : Type 0 where

@@ -1,9 +1,8 @@
 -- Where in a document a node may stand.
-use Rattle.std.specs.Prelude.{⊤, IsTrue}
-use Rattle.nbfx_records.specs.declared.nodes.Node.{Node}
-use Rattle.nbfx_records.specs.declared.nodes.Node.TheVariants.{Array, Attribute, Xmlns, Element}
-use Rattle.nbfx_records.specs.declared.nodes.NodePlace.{NodePlace}
-use Rattle.nbfx_records.specs.declared.nodes.NodePlace.TheVariants.{BeforeRoot, Within, AfterRoot}
+use Rattle.std.specs.Prelude.{IsTrue, ⊤}
+use Rattle.nbfx_records.specs.declared.nodes.{Node.Node, NodePlace.NodePlace}
+use Rattle.nbfx_records.specs.declared.nodes.Node.TheVariants.{Array, Attribute, Element, Xmlns}
+use Rattle.nbfx_records.specs.declared.nodes.NodePlace.TheVariants.{AfterRoot, BeforeRoot, Within}
 
 -- Before the root only an element, behind it nothing. Within it an element or an array where one
 -- more may be opened, an attribute or a declaration where one may stand, and anything else

@@ -1,9 +1,7 @@
 -- The record at the front of some bytes.
-use Rattle.unit_streams.specs.Parts.{Reader, judged}
-use Rattle.nbfx_records.specs.declared.nodes.Node.{Node}
-use Rattle.nbfx_records.specs.declared.nodes.NodePlace.{NodePlace}
-use Rattle.nbfx_records.specs.declared.nodes.RecordFault.{RecordFault}
-use Rattle.nbfx_records.specs.Shapes.{shape_at}
+use Rattle.unit_streams.specs.Parts.{judged, Reader}
+use Rattle.nbfx_records.specs.declared.nodes.{Node.Node, NodePlace.NodePlace}
+use Rattle.nbfx_records.specs.{declared.nodes.RecordFault.RecordFault, Shapes.shape_at}
 use Rattle.nbfx_records.specs.Contents.{contents}
 
 -- where it may come at this place: what it says is judged where it is whole

@@ -1,21 +1,17 @@
 -- How far a record that isn't whole was seen to be whole: positions alone.
-use Rattle.std.specs.Prelude.{◌≡◌, ⊤, ℕ, ◌<◌, ◌≤◌, List, [], ◌∷◌, length, Bool, true, false, Option}
-use Rattle.std.specs.Prelude.{Some, None}
+use Rattle.std.specs.Prelude.{◌≡◌, ℕ, ◌<◌, ◌≤◌, Bool, true, false, List, [], ◌∷◌, length, Some}
+use Rattle.std.specs.Prelude.{None, Option, ⊤}
 use Rattle.unit_streams.specs.Front.{begun, whole}
-use Rattle.unit_streams.specs.Parts.{Reader, Turn, more, a_byte}
-use Rattle.nbfx_records.specs.declared.nodes.RecordFault.{RecordFault}
-use Rattle.nbfx_records.specs.declared.kinds.NameForm.{NameForm}
-use Rattle.nbfx_records.specs.declared.kinds.PrefixForm.{PrefixForm}
-use Rattle.nbfx_records.specs.declared.kinds.TextKind.{TextKind}
-use Rattle.nbfx_records.specs.declared.nodes.NameRef.{NameRef}
-use Rattle.nbfx_records.specs.declared.kinds.RecordKind.{RecordKind}
+use Rattle.unit_streams.specs.Parts.{a_byte, more, Reader, Turn}
+use Rattle.nbfx_records.specs.declared.kinds.{NameForm.NameForm, PrefixForm.PrefixForm}
+use Rattle.nbfx_records.specs.declared.kinds.{RecordKind.RecordKind, TextKind.TextKind}
+use Rattle.nbfx_records.specs.declared.nodes.{NameRef.NameRef, RecordFault.RecordFault}
+use Rattle.nbfx_records.specs.{declared.resume.Resume.Resume, Kinds.record_kind}
+use Rattle.nbfx_records.specs.Cursor.{IsWhole, read_from}
+use Rattle.nbfx_records.specs.Shapes.{array_element, array_parts, array_turn, list_turn, name_at}
+use Rattle.nbfx_records.specs.Shapes.{NamedShape, prefix_at}
 use Rattle.nbfx_records.specs.declared.kinds.RecordKind.TheVariants as records
 use Rattle.nbfx_records.specs.declared.kinds.TextKind.TheVariants as texts
-use Rattle.nbfx_records.specs.declared.resume.Resume.{Resume}
-use Rattle.nbfx_records.specs.Cursor.{IsWhole, read_from}
-use Rattle.nbfx_records.specs.Kinds.{record_kind}
-use Rattle.nbfx_records.specs.Shapes.{NamedShape, list_turn, array_element, array_parts, array_turn}
-use Rattle.nbfx_records.specs.Shapes.{name_at, prefix_at}
 
 -- whole things one behind the other, from an offset to another
 abbrev pub AreMore : {A B : Type 0} → Reader (Turn A B) RecordFault → List ℕ → ℕ → List A → ℕ

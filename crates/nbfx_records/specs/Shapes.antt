@@ -1,33 +1,27 @@
 -- What stands at the front of some bytes, as the parts of a record: type bytes and lengths are
 -- judged where they are read, and no text or value yet.
-use Rattle.std.specs.Prelude.{ℕ, ◌*◌, ◌^◌, List, [], ◌∷◌, Bool, true, false, Option, Some, None}
-use Rattle.std.specs.Prelude.{nat_le, ◌==◌, ◌&&◌, ◌||◌, not, if◌then◌else◌}
-use Rattle.std.specs.Int.{Width, w8, w16, w32, byte_len, from_le_bytes}
-use Rattle.unit_streams.specs.Front.{wrong}
-use Rattle.unit_streams.specs.Parts.{Reader, given, refuse, a_byte, some_bytes, ◌>>=◌, seen, Turn}
-use Rattle.unit_streams.specs.Parts.{more, stop, Many, many}
+use Rattle.std.specs.Prelude.{ℕ, ◌*◌, ◌^◌, Bool, true, false, not, ◌&&◌, ◌||◌, List, [], ◌∷◌}
+use Rattle.std.specs.Prelude.{if◌then◌else◌, nat_le, ◌==◌, Some, None, Option}
+use Rattle.std.specs.Int.{Width, byte_len, from_le_bytes, w16, w32, w8}
+use Rattle.unit_streams.specs.{Front.wrong, Parts.some_bytes, Parts.stop, Parts.Turn, Parts.◌>>=◌}
+use Rattle.unit_streams.specs.Parts.{a_byte, given, Many, many, more, Reader, refuse, seen}
 use Rattle.multibyte_ints.specs.Integer.{int_at}
 use Rattle.nbfx_values.specs.declared.content.ArrayKind.{ArrayKind}
-use Rattle.nbfx_records.specs.declared.kinds.TextKind.{TextKind}
-use Rattle.nbfx_records.specs.declared.kinds.TextKind.TheVariants as texts
-use Rattle.nbfx_records.specs.declared.nodes.NameRef.{NameRef}
-use Rattle.nbfx_records.specs.declared.nodes.NameRef.TheVariants.{Inline, Id}
-use Rattle.nbfx_records.specs.declared.nodes.NodePlace.{NodePlace}
-use Rattle.nbfx_records.specs.declared.nodes.NodePlace.TheVariants.{BeforeRoot, Within, AfterRoot}
-use Rattle.nbfx_records.specs.declared.nodes.RecordFault.{RecordFault}
-use Rattle.nbfx_records.specs.declared.nodes.RecordFault.TheVariants as faults
-use Rattle.nbfx_records.specs.declared.kinds.PrefixForm.{PrefixForm}
-use Rattle.nbfx_records.specs.declared.kinds.NameForm.{NameForm}
+use Rattle.nbfx_records.specs.declared.kinds.Body.{Body, TheVariants.Named, TheVariants.Qualified}
+use Rattle.nbfx_records.specs.declared.kinds.Body.TheVariants.{Counted, Ending, Fixed, Listed}
+use Rattle.nbfx_records.specs.declared.kinds.{LengthForm.LengthForm, NameForm.NameForm}
+use Rattle.nbfx_records.specs.declared.kinds.LengthForm.TheVariants.{FourBytes, OneByte, TwoBytes}
+use Rattle.nbfx_records.specs.declared.kinds.NameForm.TheVariants.{Identified, Inlined}
+use Rattle.nbfx_records.specs.declared.kinds.{PrefixForm.PrefixForm, TextKind.TextKind}
+use Rattle.nbfx_records.specs.declared.kinds.PrefixForm.TheVariants.{Lettered, Prefixed, Unprefixed}
 use Rattle.nbfx_records.specs.declared.kinds.RecordKind.{RecordKind}
-use Rattle.nbfx_records.specs.declared.kinds.Body.{Body}
-use Rattle.nbfx_records.specs.declared.kinds.LengthForm.{LengthForm}
-use Rattle.nbfx_records.specs.declared.kinds.PrefixForm.TheVariants.{Unprefixed, Lettered, Prefixed}
-use Rattle.nbfx_records.specs.declared.kinds.NameForm.TheVariants.{Inlined, Identified}
-use Rattle.nbfx_records.specs.declared.kinds.Body.TheVariants.{Fixed, Counted, Named, Qualified}
-use Rattle.nbfx_records.specs.declared.kinds.Body.TheVariants.{Listed, Ending}
-use Rattle.nbfx_records.specs.declared.kinds.LengthForm.TheVariants.{OneByte, TwoBytes, FourBytes}
+use Rattle.nbfx_records.specs.declared.nodes.NameRef.{NameRef, TheVariants.Id, TheVariants.Inline}
+use Rattle.nbfx_records.specs.declared.nodes.{NodePlace.NodePlace, RecordFault.RecordFault}
+use Rattle.nbfx_records.specs.declared.nodes.NodePlace.TheVariants.{AfterRoot, BeforeRoot, Within}
+use Rattle.nbfx_records.specs.Kinds.{array_kind, body_of, record_kind, width_of}
+use Rattle.nbfx_records.specs.declared.kinds.TextKind.TheVariants as texts
+use Rattle.nbfx_records.specs.declared.nodes.RecordFault.TheVariants as faults
 use Rattle.nbfx_records.specs.declared.kinds.RecordKind.TheVariants as records
-use Rattle.nbfx_records.specs.Kinds.{record_kind, body_of, array_kind, width_of}
 
 -- one value, whose bytes aren't judged
 pub data ScalarShape : Type 0 where

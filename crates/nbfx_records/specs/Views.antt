@@ -1,42 +1,33 @@
 -- The parts of a record as a function has them, with slices of its bytes, seen as the shapes that
 -- they are.
-use Rattle.std.specs.Prelude.{◌≡◌, ◌*◌, ⊤, length, Bool, true, false, ℕ, List, [], ◌∷◌}
-use Rattle.nbfx_records.specs.declared.parts.PrefixPart.{PrefixPart}
-use Rattle.nbfx_records.specs.declared.parts.PrefixPart.TheVariants.{Letter, Text as TextOf}
-use Rattle.nbfx_records.specs.declared.parts.NamePart.{NamePart}
-use Rattle.nbfx_records.specs.declared.parts.NamePart.TheVariants.{Inline as InlineAt, Id as IdAt}
-use Rattle.nbfx_records.specs.declared.parts.ScalarPart.{ScalarPart}
-use Rattle.nbfx_records.specs.declared.parts.ScalarPart.TheVariants as scalars
+use Rattle.std.specs.Prelude.{◌≡◌, ℕ, ◌*◌, Bool, true, false, List, [], ◌∷◌, length, ⊤}
 use denote.Ref.{Bor}
-use Rattle.unit_streams.specs.Front.{whole, on_whole}
-use Rattle.unit_streams.specs.Parts.{Turn, more, stop, Many}
-use Rattle.nbfx_records.specs.declared.lists.ListPart.{ListPart}
-use Rattle.nbfx_records.specs.declared.lists.ListHolder.{ListHolder}
-use Rattle.nbfx_records.specs.declared.lists.ListHolder.TheVariants as holders
-use Rattle.nbfx_records.specs.declared.lists.ListTurn.{ListTurn}
-use Rattle.nbfx_records.specs.declared.lists.ListTurn.TheVariants.{Value, End}
-use Rattle.nbfx_records.specs.declared.attributes.ValuePart.{ValuePart}
-use Rattle.nbfx_records.specs.declared.attributes.ValuePart.TheVariants.{One as OneAt}
-use Rattle.nbfx_records.specs.declared.attributes.ValuePart.TheVariants.{List as ListAt}
-use Rattle.nbfx_records.specs.declared.attributes.AttributePart.{AttributePart}
+use Rattle.unit_streams.specs.Front.{on_whole, whole}
+use Rattle.unit_streams.specs.Parts.{Many, more, stop, Turn}
+use Rattle.nbfx_records.specs.declared.arrays.{ArrayPart.ArrayPart, CellsPart.CellsPart}
+use Rattle.nbfx_records.specs.declared.arrays.ArrayTurn.{ArrayTurn, TheVariants.End as EndOfParts}
+use Rattle.nbfx_records.specs.declared.arrays.ArrayTurn.TheVariants.{Part as AttributePartAt}
+use Rattle.nbfx_records.specs.{declared.attributes.AttributePart.AttributePart, Kinds.width_of}
 use Rattle.nbfx_records.specs.declared.attributes.AttributePart.TheVariants.{Attribute as AttributeAt}
 use Rattle.nbfx_records.specs.declared.attributes.AttributePart.TheVariants.{Declaration as DeclarationAt}
-use Rattle.nbfx_records.specs.declared.parts.NamedPart.{NamedPart}
-use Rattle.nbfx_records.specs.declared.arrays.ArrayTurn.{ArrayTurn}
-use Rattle.nbfx_records.specs.declared.arrays.ArrayTurn.TheVariants.{Part as AttributePartAt}
-use Rattle.nbfx_records.specs.declared.arrays.ArrayTurn.TheVariants.{End as EndOfParts}
-use Rattle.nbfx_records.specs.declared.arrays.CellsPart.{CellsPart}
-use Rattle.nbfx_records.specs.declared.arrays.ArrayPart.{ArrayPart}
+use Rattle.nbfx_records.specs.declared.attributes.ValuePart.{ValuePart, TheVariants.List as ListAt}
+use Rattle.nbfx_records.specs.declared.attributes.ValuePart.TheVariants.{One as OneAt}
+use Rattle.nbfx_records.specs.declared.lists.{ListHolder.ListHolder, ListPart.ListPart}
+use Rattle.nbfx_records.specs.declared.lists.ListTurn.{ListTurn, TheVariants.End, TheVariants.Value}
+use Rattle.nbfx_records.specs.declared.nodes.NameRef.{NameRef, TheVariants.Id, TheVariants.Inline}
+use Rattle.nbfx_records.specs.declared.parts.{NamePart.NamePart, NamedPart.NamedPart}
+use Rattle.nbfx_records.specs.declared.parts.NamePart.TheVariants.{Id as IdAt, Inline as InlineAt}
+use Rattle.nbfx_records.specs.declared.parts.{PrefixPart.PrefixPart, ScalarPart.ScalarPart}
+use Rattle.nbfx_records.specs.declared.parts.PrefixPart.TheVariants.{Letter, Text as TextOf}
 use Rattle.nbfx_records.specs.declared.records.RecordPart.{RecordPart}
+use Rattle.nbfx_records.specs.Shapes.{adds, array_parts, array_shape, ArrayShape, attributes}
+use Rattle.nbfx_records.specs.Shapes.{AttributeShape, begins_element, bytes_of, cells_shape}
+use Rattle.nbfx_records.specs.Shapes.{CellsShape, comments, declares, ends_element, has_text}
+use Rattle.nbfx_records.specs.Shapes.{list_at, named_by, named_shape, NamedShape, one, qualified_by}
+use Rattle.nbfx_records.specs.Shapes.{repeats, ScalarShape, several, Shape, ValueShape}
+use Rattle.nbfx_records.specs.declared.parts.ScalarPart.TheVariants as scalars
+use Rattle.nbfx_records.specs.declared.lists.ListHolder.TheVariants as holders
 use Rattle.nbfx_records.specs.declared.records.RecordPart.TheVariants as records
-use Rattle.nbfx_records.specs.declared.nodes.NameRef.{NameRef}
-use Rattle.nbfx_records.specs.declared.nodes.NameRef.TheVariants.{Inline, Id}
-use Rattle.nbfx_records.specs.Kinds.{width_of}
-use Rattle.nbfx_records.specs.Shapes.{ScalarShape, bytes_of, named_by, qualified_by, ValueShape}
-use Rattle.nbfx_records.specs.Shapes.{one, several, AttributeShape, attributes, declares}
-use Rattle.nbfx_records.specs.Shapes.{NamedShape, named_shape, CellsShape, cells_shape, ArrayShape}
-use Rattle.nbfx_records.specs.Shapes.{array_shape, Shape, ends_element, comments, begins_element}
-use Rattle.nbfx_records.specs.Shapes.{adds, has_text, repeats, list_at, array_parts}
 
 abbrev pub prefix_seen : PrefixPart → List ℕ
 prefix_seen (Letter letter) = letter ∷ []

@@ -1,18 +1,13 @@
 -- What holds of what is written by the definitions alone: of nodes, of records one behind the
 -- other, and of the strings of a table.
 use Rattle.std.specs.Prelude.{◌≡◌, ℕ, ◌^◌, ◌<◌, ◌≤◌, ◌&&◌, List, ◌++◌, IsTrue, flat_map}
-use Rattle.std.specs.List.{list_all}
-use Rattle.std.specs.Str.{is_utf8}
-use Rattle.multibyte_ints.specs.Text.{string_bytes_of}
-use Rattle.nbfx_values.specs.Items.{is_valid_item}
-use Rattle.nbfx_values.specs.Measures.{content_of}
-use Rattle.nbfx_values.specs.Scalars.{is_unsigned}
-use Rattle.nbfx_values.specs.declared.content.Item.{Item}
-use Rattle.string_tables.specs.SessionStrings.{used_cost}
+use Rattle.std.specs.{List.list_all, Str.is_utf8}
+use Rattle.{string_tables.specs.SessionStrings.used_cost, multibyte_ints.specs.Text.string_bytes_of}
 use Rattle.string_tables.specs.StringTable.{StringTable, with_strings}
-use Rattle.nbfx_records.specs.declared.nodes.Node.{Node}
-use Rattle.nbfx_records.specs.Chosen.{chosen_bytes, table_bytes}
-use Rattle.nbfx_records.specs.Meaning.{EachMeans, Means, identifiers}
+use Rattle.nbfx_values.specs.{declared.content.Item.Item, Items.is_valid_item}
+use Rattle.nbfx_values.specs.{Measures.content_of, Scalars.is_unsigned}
+use Rattle.nbfx_records.specs.{declared.nodes.Node.Node, Chosen.chosen_bytes, Chosen.table_bytes}
+use Rattle.nbfx_records.specs.Meaning.{EachMeans, identifiers, Means}
 use Rattle.nbfx_records.specs.Payloads.{AreRecords, AreStrings, IsStringTable}
 use Rattle.nbfx_records.specs.Valid.{fits_node, is_short, is_valid_node, names_qnames}
 

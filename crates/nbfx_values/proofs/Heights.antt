@@ -1,14 +1,12 @@
 -- The depth of a walk is the height of what is walked.
-use Rattle.std.proofs.Common.{◌≡◌, ◌∙◌, ◌+◌, ◌-◌, ◌≤◌, ℕ, max, List, [], ◌∷◌, ◌++◌, map, refl, ap}
+use Rattle.std.proofs.Common.{◌≡◌, ℕ, ◌+◌, ◌-◌, ◌≤◌, max, List, [], ◌∷◌, ◌++◌, map, refl, ap, ◌∙◌}
 use Rattle.std.proofs.Common.{append_assoc, append-nil, arith}
-use Rattle.nbfx_values.specs.declared.content.AttrItem.{AttrItem}
+use Rattle.nbfx_values.specs.declared.content.AttrItem.{AttrItem, TheVariants.Attr as AttrOn}
 use Rattle.nbfx_values.specs.declared.content.AttrItem.TheVariants.{Xmlns as DeclaresOn}
-use Rattle.nbfx_values.specs.declared.content.AttrItem.TheVariants.{Attr as AttrOn}
-use Rattle.nbfx_values.specs.declared.content.Item.{Item}
-use Rattle.nbfx_values.specs.declared.content.Item.TheVariants.{Array, Close}
-use Rattle.nbfx_values.specs.Documents.{Children, no_more, text, comment, array, element, item_of}
-use Rattle.nbfx_values.specs.Documents.{walk, height}
-use Rattle.nbfx_values.specs.Measures.{open_at, opened, opened_by, most_open, depth_of}
+use Rattle.nbfx_values.specs.declared.content.Item.{Item, TheVariants.Array, TheVariants.Close}
+use Rattle.nbfx_values.specs.Documents.{array, Children, comment, element, height, item_of, no_more}
+use Rattle.nbfx_values.specs.Documents.{text, walk}
+use Rattle.nbfx_values.specs.Measures.{depth_of, most_open, open_at, opened, opened_by}
 
 open_at-least : (n : ℕ) (x : Item) → n ≤ open_at n x
 open_at-least n (Array a) = omega arith

@@ -1,16 +1,12 @@
 -- A text with the end of the element that holds it, behind other items.
-use Rattle.std.proofs.Common.{◌≡◌, ◌∙◌, ℕ, zero, suc, true, List, [], ◌∷◌, ◌++◌, append_assoc, refl}
-use Rattle.std.proofs.Common.{ap, subst, Some}
-use Rattle.nbfx_values.specs.declared.content.Item.{Item}
-use Rattle.nbfx_values.specs.declared.content.Item.TheVariants.{Text, Close}
-use Rattle.nbfx_values.specs.declared.measures.Measures.{Measures}
-use Rattle.nbfx_values.specs.declared.position.Position.{Position}
-use Rattle.nbfx_values.specs.declared.position.Position.TheVariants.{Before, Within, After}
-use Rattle.nbfx_values.specs.declared.scalars.Value.{Value}
-use Rattle.nbfx_values.specs.Measured.{AreMeasuresOf}
-use Rattle.nbfx_values.specs.Measures.{opened, opened_by}
+use Rattle.std.proofs.Common.{◌≡◌, ℕ, zero, suc, true, List, [], ◌∷◌, ◌++◌, Some, refl, ap, ◌∙◌}
+use Rattle.std.proofs.Common.{subst, append_assoc}
+use Rattle.nbfx_values.specs.declared.content.Item.{Item, TheVariants.Close, TheVariants.Text}
+use Rattle.nbfx_values.specs.declared.{measures.Measures.Measures, scalars.Value.Value}
+use Rattle.nbfx_values.specs.{declared.position.Position.Position, Measured.AreMeasuresOf}
+use Rattle.nbfx_values.specs.declared.position.Position.TheVariants.{After, Before, Within}
+use Rattle.nbfx_values.specs.{Measures.opened, Measures.opened_by, Scalars.is_valid_value}
 use Rattle.nbfx_values.specs.Positions.{moved, position_from, position_of}
-use Rattle.nbfx_values.specs.Scalars.{is_valid_value}
 use Rattle.nbfx_values.proofs.Positions.{position_from-append, stepped}
 
 -- a text leads nowhere else than its element's end alone

@@ -1,8 +1,5 @@
 -- What a proof unfolds to compute the definitions on literal items and values.
-use Rattle.std.specs.Prelude.{⊤}
-use Rattle.std.specs.Char.{encode_utf8}
-use Rattle.std.specs.Fmt.{digits}
-use Rattle.std.specs.Str.{chars, is_utf8}
+use Rattle.std.specs.{Prelude.⊤, Char.encode_utf8, Fmt.digits, Str.chars, Str.is_utf8}
 use Rattle.uuid.specs.Text.{by_index}
 
 unfoldable pub values_on_literals : ⊤

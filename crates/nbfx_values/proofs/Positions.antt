@@ -1,17 +1,14 @@
 -- Where items lead, one by one.
-use Rattle.std.proofs.Common.{◌≡◌, ◌∙◌, ◌+◌, ◌-◌, ◌≤◌, ◌<◌, ℕ, zero, suc, Bool, true, false}
-use Rattle.std.proofs.Common.{if◌then◌else◌, List, [], ◌∷◌, ◌++◌, length, get_or, take, drop, refl}
-use Rattle.std.proofs.Common.{sym, ap, subst, arith, Option, None, Some}
-use Rattle.std.specs.List.{list_all}
-use Rattle.std.proofs.lemmas.List.{take_more, take-append-drop, length-take}
-use Rattle.nbfx_values.specs.declared.content.Item.{Item}
-use Rattle.nbfx_values.specs.declared.content.Item.TheVariants.{Start, Xmlns, Attr, Close}
-use Rattle.nbfx_values.specs.declared.position.Position.{Position}
-use Rattle.nbfx_values.specs.declared.position.Position.TheVariants.{Before, Within, After}
-use Rattle.nbfx_values.specs.Items.{is_valid_item}
-use Rattle.nbfx_values.specs.Measures.{opened, opened_by}
-use Rattle.nbfx_values.specs.Positions.{moved, next_position, position_from, position_of}
-use Rattle.nbfx_values.specs.Positions.{open_count, StopsAt}
+use Rattle.std.proofs.Common.{◌≡◌, ℕ, zero, suc, ◌+◌, ◌-◌, ◌<◌, ◌≤◌, Bool, true, false, List, []}
+use Rattle.std.proofs.Common.{◌∷◌, ◌++◌, length, get_or, take, drop, if◌then◌else◌, Some, None}
+use Rattle.std.proofs.Common.{Option, sym, refl, ap, ◌∙◌, subst, arith, take-append-drop}
+use Rattle.std.{proofs.Common.length-take, proofs.lemmas.List.take_more, specs.List.list_all}
+use Rattle.nbfx_values.specs.declared.{content.Item.Item, position.Position.Position}
+use Rattle.nbfx_values.specs.declared.content.Item.TheVariants.{Attr, Close, Start, Xmlns}
+use Rattle.nbfx_values.specs.declared.position.Position.TheVariants.{After, Before, Within}
+use Rattle.nbfx_values.specs.{Items.is_valid_item, Measures.opened, Measures.opened_by}
+use Rattle.nbfx_values.specs.Positions.{moved, next_position, open_count, position_from}
+use Rattle.nbfx_values.specs.Positions.{position_of, StopsAt}
 
 pub position_from-none : (xs : List Item) → position_from None xs ≡ None
 position_from-none [] = refl

@@ -1,28 +1,22 @@
 -- A list of items is a document exactly where it leads from before the root to behind it, and a
 -- front of one
 -- exactly where it leads anywhere.
-use Rattle.std.proofs.Common.{◌≡◌, ◌∙◌, ◌+◌, ◌≤◌, ◌<◌, ℕ, zero, suc, Bool, true, false}
-use Rattle.std.proofs.Common.{if◌then◌else◌, List, [], ◌∷◌, ◌++◌, map, take, refl, sym, ap}
-use Rattle.std.proofs.Common.{append_assoc, arith, Option, None, Some, IsSome}
-use Rattle.std.specs.List.{list_all}
-use Rattle.nbfx_values.specs.declared.content.AttrItem.{AttrItem}
+use Rattle.std.proofs.Common.{◌≡◌, ℕ, zero, suc, ◌+◌, ◌<◌, ◌≤◌, Bool, true, false, ◌⊎◌, List, []}
+use Rattle.std.proofs.Common.{◌∷◌, ◌++◌, map, take, drop, if◌then◌else◌, IsSome, Some, None, Option}
+use Rattle.std.proofs.Common.{sym, refl, ap, ◌∙◌, inl, inr, append_assoc, arith, take-append-drop}
+use Rattle.std.proofs.{Common.take-take, lemmas.Bool.and_parts, lemmas.Bool.cases_lt}
+use Rattle.{std.specs.List.list_all, nbfx_values.proofs.OnLiterals.values_on_literals}
+use Rattle.nbfx_values.specs.declared.content.AttrItem.{AttrItem, TheVariants.Attr as AttrOn}
 use Rattle.nbfx_values.specs.declared.content.AttrItem.TheVariants.{Xmlns as DeclaresOn}
-use Rattle.nbfx_values.specs.declared.content.AttrItem.TheVariants.{Attr as AttrOn}
-use Rattle.nbfx_values.specs.declared.content.Item.{Item}
-use Rattle.nbfx_values.specs.declared.content.Item.TheVariants.{Start, Xmlns, Attr, Text, Comment}
-use Rattle.nbfx_values.specs.declared.content.Item.TheVariants.{Array, Close}
-use Rattle.nbfx_values.specs.declared.position.Position.{Position}
-use Rattle.nbfx_values.specs.declared.position.Position.TheVariants.{Before, Within, After}
-use Rattle.nbfx_values.specs.Items.{is_valid_item}
-use Rattle.nbfx_values.specs.Documents.{Children, no_more, text, comment, array, element, item_of}
-use Rattle.nbfx_values.specs.Documents.{walk, IsDocument, IsFront, IsRefusedAt}
-use Rattle.nbfx_values.proofs.OnLiterals.{values_on_literals}
+use Rattle.nbfx_values.specs.declared.content.Item.{Item, TheVariants.Text, TheVariants.Xmlns}
+use Rattle.nbfx_values.specs.declared.content.Item.TheVariants.{Array, Attr, Close, Comment, Start}
+use Rattle.nbfx_values.specs.{declared.position.Position.Position, Items.is_valid_item}
+use Rattle.nbfx_values.specs.declared.position.Position.TheVariants.{After, Before, Within}
+use Rattle.nbfx_values.specs.Documents.{array, Children, comment, element, IsDocument, IsFront}
+use Rattle.nbfx_values.specs.Documents.{IsRefusedAt, item_of, no_more, text, walk}
 use Rattle.nbfx_values.specs.Positions.{moved, position_from, position_of, StopsAt}
-use Rattle.nbfx_values.proofs.Positions.{position_from-none, position_from-append}
-use Rattle.nbfx_values.proofs.Positions.{position_from-valid, passed, stepped}
-use Rattle.std.proofs.Common.{drop, ◌⊎◌, inl, inr}
-use Rattle.std.proofs.lemmas.List.{take-append-drop, take-take}
-use Rattle.std.proofs.lemmas.Bool.{and_parts, cases_lt}
+use Rattle.nbfx_values.proofs.Positions.{passed, position_from-append, position_from-none}
+use Rattle.nbfx_values.proofs.Positions.{position_from-valid, stepped}
 
 valid-append : (xs ys : List Item) → list_all is_valid_item (xs ++ ys) ≡ true
     → (list_all is_valid_item xs ≡ true) × (list_all is_valid_item ys ≡ true)

@@ -1,19 +1,15 @@
 -- Worked cases: what the definitions make of literal items and values.
-use Rattle.std.proofs.Common.{◌≡◌, ◌^◌, ◌-◌, ℕ, List, [], ◌∷◌, codes, refl, pos, negsuc, Some}
-use Rattle.std.proofs.Common.{arith}
-use Rattle.nbfx_values.specs.declared.content.ArrayKind.TheVariants.{Int32}
-use Rattle.nbfx_values.specs.declared.content.Item.{Item}
-use Rattle.nbfx_values.specs.declared.content.Item.TheVariants.{Start, Xmlns, Attr, Text, Array}
-use Rattle.nbfx_values.specs.declared.content.Item.TheVariants.{Close}
-use Rattle.nbfx_values.specs.declared.scalars.Scalar.TheVariants.{Number, Text as TextOf, UniqueId}
-use Rattle.nbfx_values.specs.declared.scalars.Scalar.TheVariants.{Uuid, QName}
-use Rattle.nbfx_values.specs.declared.scalars.Value.TheVariants.{One}
-use Rattle.nbfx_values.specs.Characters.{value_characters}
-use Rattle.nbfx_values.specs.Documents.{no_more, array, IsDocument, IsRefusedAt}
+use Rattle.std.proofs.Common.{◌≡◌, ℕ, ◌-◌, ◌^◌, List, [], ◌∷◌, pos, negsuc, Some, codes, refl}
+use Rattle.{std.proofs.Common.arith, nbfx_values.specs.declared.content.ArrayKind.TheVariants.Int32}
+use Rattle.nbfx_values.specs.declared.content.Item.{Item, TheVariants.Xmlns}
+use Rattle.nbfx_values.specs.declared.content.Item.TheVariants.{Array, Attr, Close, Start, Text}
+use Rattle.nbfx_values.specs.declared.scalars.Scalar.TheVariants.{Number, QName, Text as TextOf}
+use Rattle.nbfx_values.specs.declared.scalars.Scalar.TheVariants.{UniqueId, Uuid}
+use Rattle.nbfx_values.specs.{declared.scalars.Value.TheVariants.One, Characters.value_characters}
+use Rattle.nbfx_values.specs.Documents.{array, IsDocument, IsRefusedAt, no_more}
 use Rattle.nbfx_values.specs.Limits.{limits, usual_limits}
 use Rattle.nbfx_values.specs.Measures.{content_of, depth_of}
-use Rattle.nbfx_values.proofs.OnLiterals.{values_on_literals}
-use Rattle.nbfx_values.proofs.Walks.{stops-refused}
+use Rattle.nbfx_values.proofs.{OnLiterals.values_on_literals, Walks.stops-refused}
 
 -- the quotas of a stack that nobody has set otherwise
 usual_numbers : usual_limits ≡ limits 65536 32 2048 262144 2048 (2 ^ 48)

@@ -1,13 +1,11 @@
 -- The characters of a value, where its kind has some here.
-use Rattle.std.specs.Prelude.{ℕ, ◌+◌, true, false, List, ◌∷◌, Option, None, Some, codes}
+use Rattle.std.specs.Prelude.{ℕ, ◌+◌, true, false, List, ◌∷◌, Some, None, codes, Option}
 use Rattle.std.specs.Fmt.{signed_decimal}
-use Rattle.uuid.specs.Parts.{swap_fields}
-use Rattle.uuid.specs.Text.{hyphenated_text, lower, urn_text}
-use Rattle.nbfx_values.specs.declared.scalars.Scalar.{Scalar}
-use Rattle.nbfx_values.specs.declared.scalars.Scalar.TheVariants.{Number, Truth, Text, UniqueId}
-use Rattle.nbfx_values.specs.declared.scalars.Scalar.TheVariants.{Uuid, QName}
-use Rattle.nbfx_values.specs.declared.scalars.Value.{Value}
-use Rattle.nbfx_values.specs.declared.scalars.Value.TheVariants.{One, List as ListOf}
+use Rattle.uuid.specs.{Parts.swap_fields, Text.hyphenated_text, Text.lower, Text.urn_text}
+use Rattle.nbfx_values.specs.declared.scalars.{Scalar.Scalar, Value.Value}
+use Rattle.nbfx_values.specs.declared.scalars.Scalar.TheVariants.{Number, QName, Text, Truth}
+use Rattle.nbfx_values.specs.declared.scalars.Scalar.TheVariants.{UniqueId, Uuid}
+use Rattle.nbfx_values.specs.declared.scalars.Value.TheVariants.{List as ListOf, One}
 
 -- an identifier's first three fields stand with their lowest byte first; a QName's letter 0 is a
 abbrev pub scalar_characters : Scalar → Option (List ℕ)

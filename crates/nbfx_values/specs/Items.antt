@@ -1,25 +1,19 @@
 -- Which items a document can hold.
-use Rattle.std.specs.Prelude.{ℕ, List, Option, Some, None, Bool, true, false, ◌&&◌, nat_lt, length}
-use Rattle.std.specs.List.{list_all}
-use Rattle.std.specs.Str.{is_utf8}
-use Rattle.nbfx_values.specs.declared.content.ArrayItem.{ArrayItem}
-use Rattle.nbfx_values.specs.declared.content.ArrayKind.{ArrayKind}
-use Rattle.nbfx_values.specs.declared.content.ArrayKind.TheVariants.{Bool as Bools, Int16, Int32}
-use Rattle.nbfx_values.specs.declared.content.ArrayKind.TheVariants.{Int64, Float as Floats}
-use Rattle.nbfx_values.specs.declared.content.ArrayKind.TheVariants.{Double as Doubles}
-use Rattle.nbfx_values.specs.declared.content.ArrayKind.TheVariants.{Decimal as Decimals}
+use Rattle.std.specs.Prelude.{ℕ, Bool, true, false, ◌&&◌, List, length, nat_lt, Some, None, Option}
+use Rattle.std.specs.{List.list_all, Str.is_utf8}
+use Rattle.nbfx_values.specs.declared.{content.ArrayItem.ArrayItem, scalars.Scalar.Scalar}
+use Rattle.nbfx_values.specs.declared.content.ArrayKind.{ArrayKind, TheVariants.Decimal as Decimals}
+use Rattle.nbfx_values.specs.declared.content.ArrayKind.TheVariants.{Bool as Bools, Uuid as Uuids}
 use Rattle.nbfx_values.specs.declared.content.ArrayKind.TheVariants.{DateTime as DateTimes}
-use Rattle.nbfx_values.specs.declared.content.ArrayKind.TheVariants.{TimeSpan as TimeSpans}
-use Rattle.nbfx_values.specs.declared.content.ArrayKind.TheVariants.{Uuid as Uuids}
-use Rattle.nbfx_values.specs.declared.content.AttrItem.{AttrItem}
+use Rattle.nbfx_values.specs.declared.content.ArrayKind.TheVariants.{Double as Doubles}
+use Rattle.nbfx_values.specs.declared.content.ArrayKind.TheVariants.{Float as Floats, Int16, Int32}
+use Rattle.nbfx_values.specs.declared.content.ArrayKind.TheVariants.{Int64, TimeSpan as TimeSpans}
+use Rattle.nbfx_values.specs.declared.content.AttrItem.{AttrItem, TheVariants.Attr as AttrOn}
 use Rattle.nbfx_values.specs.declared.content.AttrItem.TheVariants.{Xmlns as DeclaresOn}
-use Rattle.nbfx_values.specs.declared.content.AttrItem.TheVariants.{Attr as AttrOn}
-use Rattle.nbfx_values.specs.declared.content.Item.{Item}
-use Rattle.nbfx_values.specs.declared.content.Item.TheVariants.{Start, Xmlns, Attr, Text, Comment}
-use Rattle.nbfx_values.specs.declared.content.Item.TheVariants.{Array, Close}
-use Rattle.nbfx_values.specs.declared.scalars.Scalar.{Scalar}
-use Rattle.nbfx_values.specs.declared.scalars.Scalar.TheVariants.{Number, Truth, Float, Double}
-use Rattle.nbfx_values.specs.declared.scalars.Scalar.TheVariants.{Decimal, DateTime, TimeSpan, Uuid}
+use Rattle.nbfx_values.specs.declared.content.Item.{Item, TheVariants.Text, TheVariants.Xmlns}
+use Rattle.nbfx_values.specs.declared.content.Item.TheVariants.{Array, Attr, Close, Comment, Start}
+use Rattle.nbfx_values.specs.declared.scalars.Scalar.TheVariants.{DateTime, Decimal, Double, Float}
+use Rattle.nbfx_values.specs.declared.scalars.Scalar.TheVariants.{Number, TimeSpan, Truth, Uuid}
 use Rattle.nbfx_values.specs.Scalars.{is_signed, is_valid_scalar, is_valid_value}
 
 -- whether a value is of an array's kind, and in its range

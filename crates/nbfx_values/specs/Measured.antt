@@ -1,9 +1,7 @@
 -- The depth and the content of items, as they are kept beside them.
 use Rattle.std.specs.Prelude.{◌≡◌, List, Some}
-use Rattle.nbfx_values.specs.declared.content.Item.{Item}
-use Rattle.nbfx_values.specs.declared.measures.Measures.{Measures}
-use Rattle.nbfx_values.specs.declared.position.Position.{Position}
-use Rattle.nbfx_values.specs.Documents.{IsDocument}
+use Rattle.nbfx_values.specs.declared.{content.Item.Item, measures.Measures.Measures}
+use Rattle.nbfx_values.specs.{declared.position.Position.Position, Documents.IsDocument}
 use Rattle.nbfx_values.specs.Measures.{capped, content_of, depth_of}
 use Rattle.nbfx_values.specs.Positions.{position_of}
 

@@ -1,18 +1,17 @@
 -- The number and the name of each reason for refusing a stream.
 use Rattle.std.specs.Prelude.{ℕ, List, codes}
-use Rattle.nbfx_values.specs.declared.refusals.Reason.{Reason}
-use Rattle.nbfx_values.specs.declared.refusals.Reason.TheVariants.{BadInt, UnknownRecord}
-use Rattle.nbfx_values.specs.declared.refusals.Reason.TheVariants.{OutOfOrder, BadVersion, BadMode}
-use Rattle.nbfx_values.specs.declared.refusals.Reason.TheVariants.{TextTooLong, TextNotUtf8}
-use Rattle.nbfx_values.specs.declared.refusals.Reason.TheVariants.{EndpointNotFound, BadEncoding}
-use Rattle.nbfx_values.specs.declared.refusals.Reason.TheVariants.{UpgradeRefused, MessageTooLarge}
-use Rattle.nbfx_values.specs.declared.refusals.Reason.TheVariants.{TableCut, BadUtf8}
-use Rattle.nbfx_values.specs.declared.refusals.Reason.TheVariants.{DictionaryFull, UnknownNode}
-use Rattle.nbfx_values.specs.declared.refusals.Reason.TheVariants.{NodeOutOfPlace, UnknownString}
-use Rattle.nbfx_values.specs.declared.refusals.Reason.TheVariants.{BadValue, BadArray, TooDeep}
-use Rattle.nbfx_values.specs.declared.refusals.Reason.TheVariants.{TooMuchContent, DocumentCut}
-use Rattle.nbfx_values.specs.declared.refusals.Reason.TheVariants.{TrailingBytes, Truncated}
-use Rattle.nbfx_values.specs.declared.refusals.Reason.TheVariants.{SessionTooLong}
+use Rattle.nbfx_values.specs.declared.refusals.Reason.{Reason, TheVariants.UpgradeRefused}
+use Rattle.nbfx_values.specs.declared.refusals.Reason.TheVariants.{BadArray, BadEncoding, BadInt}
+use Rattle.nbfx_values.specs.declared.refusals.Reason.TheVariants.{BadMode, BadUtf8, BadValue}
+use Rattle.nbfx_values.specs.declared.refusals.Reason.TheVariants.{BadVersion, DictionaryFull}
+use Rattle.nbfx_values.specs.declared.refusals.Reason.TheVariants.{DocumentCut, EndpointNotFound}
+use Rattle.nbfx_values.specs.declared.refusals.Reason.TheVariants.{MessageTooLarge, NodeOutOfPlace}
+use Rattle.nbfx_values.specs.declared.refusals.Reason.TheVariants.{OutOfOrder, SessionTooLong}
+use Rattle.nbfx_values.specs.declared.refusals.Reason.TheVariants.{TableCut, TextNotUtf8}
+use Rattle.nbfx_values.specs.declared.refusals.Reason.TheVariants.{TextTooLong, TooDeep}
+use Rattle.nbfx_values.specs.declared.refusals.Reason.TheVariants.{TooMuchContent, TrailingBytes}
+use Rattle.nbfx_values.specs.declared.refusals.Reason.TheVariants.{Truncated, UnknownNode}
+use Rattle.nbfx_values.specs.declared.refusals.Reason.TheVariants.{UnknownRecord, UnknownString}
 
 abbrev pub reason_number : Reason → ℕ
 reason_number BadInt = 1

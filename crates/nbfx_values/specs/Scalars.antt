@@ -1,15 +1,13 @@
 -- Which values a record of MC-NBFX can hold. Numbers have no greatest here, and a text is any list,
 -- so what the types of a program keep anyway is said too.
-use Rattle.std.specs.Prelude.{◌^◌, ◌-◌, ℤ, pos, negsuc, Bool, true, not, ◌&&◌, nat_le, nat_lt}
-use Rattle.std.specs.Prelude.{int_lt, ◌==◌, length, List, ℕ}
-use Rattle.std.specs.List.{list_all}
-use Rattle.std.specs.Str.{is_utf8}
-use Rattle.nbfx_values.specs.declared.scalars.Scalar.{Scalar}
-use Rattle.nbfx_values.specs.declared.scalars.Scalar.TheVariants.{Number, Truth, Float, Double}
-use Rattle.nbfx_values.specs.declared.scalars.Scalar.TheVariants.{Decimal, DateTime, TimeSpan, Text}
-use Rattle.nbfx_values.specs.declared.scalars.Scalar.TheVariants.{Bytes, UniqueId, Uuid, QName}
-use Rattle.nbfx_values.specs.declared.scalars.Value.{Value}
-use Rattle.nbfx_values.specs.declared.scalars.Value.TheVariants.{One, List as ListOf}
+use Rattle.std.specs.Prelude.{ℕ, ◌-◌, ◌^◌, Bool, true, not, ◌&&◌, List, length, ℤ, pos, negsuc}
+use Rattle.std.specs.Prelude.{nat_lt, nat_le, ◌==◌, int_lt}
+use Rattle.std.specs.{List.list_all, Str.is_utf8}
+use Rattle.nbfx_values.specs.declared.scalars.{Scalar.Scalar, Value.Value}
+use Rattle.nbfx_values.specs.declared.scalars.Scalar.TheVariants.{Bytes, DateTime, Decimal, Double}
+use Rattle.nbfx_values.specs.declared.scalars.Scalar.TheVariants.{Float, Number, QName, Text}
+use Rattle.nbfx_values.specs.declared.scalars.Scalar.TheVariants.{TimeSpan, Truth, UniqueId, Uuid}
+use Rattle.nbfx_values.specs.declared.scalars.Value.TheVariants.{List as ListOf, One}
 
 -- whether a number is from the first to the last
 abbrev pub is_between : ℤ → ℤ → ℤ → Bool

@@ -1,9 +1,7 @@
 -- The bytes by which MC-NMF names modes and encodings.
-use Rattle.std.specs.Prelude.{ℕ}
-use Rattle.nbfx_values.specs.declared.session.Kind.{Kind}
-use Rattle.nbfx_values.specs.declared.session.Kind.TheVariants.{Plain, Session}
-use Rattle.nbfx_values.specs.declared.session.Mode.{Mode}
-use Rattle.nbfx_values.specs.declared.session.Mode.TheVariants.{Singleton, Duplex, Simplex}
+use Rattle.{std.specs.Prelude.ℕ, nbfx_values.specs.declared.session.Mode.Mode}
+use Rattle.nbfx_values.specs.declared.session.Kind.{Kind, TheVariants.Plain, TheVariants.Session}
+use Rattle.nbfx_values.specs.declared.session.Mode.TheVariants.{Duplex, Simplex, Singleton}
 
 abbrev pub mode_number : Mode → ℕ
 mode_number Singleton = 1

@@ -1,8 +1,6 @@
 //! The modes and encodings of sessions.
 
-ghost use Rattle.std.specs.Prelude.{◌≡◌, ◌≢◌, IfNone, IfSome};
-ghost use Rattle.nbfx_values.specs.declared.session.Kind.{Kind};
-ghost use Rattle.nbfx_values.specs.declared.session.Mode.{Mode};
+ghost use Rattle.std.specs.Prelude.{◌≡◌};
 ghost use Rattle.nbfx_values.specs.Session.{kind_number, mode_number};
 
 /// How the two ends of a session talk: the mode record of MC-NMF.
@@ -27,19 +25,6 @@ impl Mode {
             Mode::Simplex => 3,
         }
     }
-
-    /// The mode that a mode record's byte names.
-    pub fn from_number(number: u8) -> Option<Mode>
-        ensures some { IfSome result (λ m. mode_number m ≡ number) }
-        ensures none { IfNone result ((m : Mode) → mode_number m ≢ number) }
-    {
-        match number {
-            1 => Some(Mode::Singleton),
-            2 => Some(Mode::Duplex),
-            3 => Some(Mode::Simplex),
-            _ => None,
-        }
-    }
 }
 
 /// The binary encoding of a session's envelopes: the known encodings 7 and 8 of MC-NMF.
@@ -59,18 +44,6 @@ impl Kind {
         match self {
             Kind::Plain => 7,
             Kind::Session => 8,
-        }
-    }
-
-    /// The encoding that a known encoding record's byte names, if it is one of these two.
-    pub fn from_number(number: u8) -> Option<Kind>
-        ensures some { IfSome result (λ k. kind_number k ≡ number) }
-        ensures none { IfNone result ((k : Kind) → kind_number k ≢ number) }
-    {
-        match number {
-            7 => Some(Kind::Plain),
-            8 => Some(Kind::Session),
-            _ => None,
         }
     }
 }

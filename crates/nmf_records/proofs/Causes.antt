@@ -1,31 +1,23 @@
 -- The cause of each fault: what holds of bytes that are wrong by it.
-use Rattle.std.proofs.Common.{◌≡◌, ℕ, ◌+◌, ◌≤◌, ◌<◌, List, [], ◌∷◌, ◌++◌, length, take, drop, true}
-use Rattle.std.proofs.Common.{refl, sym, ap, ◌∙◌, inl, inr, arith}
-use Rattle.std.specs.Prelude.{nat_lt, ◌==◌, ◌||◌, ⊤}
-use Rattle.std.proofs.lemmas.Bool.{cond_both}
-use Rattle.std.proofs.lemmas.Bool.Decides.{nat_tests}
-use Rattle.std.proofs.lemmas.List.{length-take-le, take-append-drop, length-drop}
-use Rattle.unit_streams.specs.Front.{Front, begun, whole, wrong}
-use Rattle.multibyte_ints.specs.Integer.{int_at}
-use Rattle.multibyte_ints.specs.Text.{string_at, StringFault, bad_int, too_long, bad_utf8}
-use Rattle.multibyte_ints.specs.Laws.{FifthIsAbove}
-use Rattle.multibyte_ints.proofs.IntegerBytes.{above_from}
-use Rattle.multibyte_ints.proofs.IntegerLaws.{spells_from_whole}
-use Rattle.multibyte_ints.proofs.TextCauses.{bad_int_cause, too_long_cause, bad_text_cause}
-use Rattle.nmf_records.specs.declared.record_types.TheConstants.{VIA, FAULT, GREATEST}
-use Rattle.nmf_records.specs.declared.frame.Frame.{Frame}
+use Rattle.std.proofs.Common.{◌≡◌, ℕ, ◌+◌, ◌<◌, ◌≤◌, true, ◌||◌, List, [], ◌∷◌, ◌++◌, length, take}
+use Rattle.std.proofs.Common.{drop, nat_lt, ◌==◌, sym, refl, ap, ◌∙◌, inl, inr, arith, length-drop}
+use Rattle.std.{proofs.Common.take-append-drop, proofs.Common.length-take-le, specs.Prelude.⊤}
+use Rattle.std.proofs.lemmas.Bool.{cond_both, Decides.nat_tests}
+use Rattle.unit_streams.specs.Front.{begun, Front, whole, wrong}
+use Rattle.multibyte_ints.proofs.{IntegerBytes.above_from, IntegerLaws.spells_from_whole}
+use Rattle.multibyte_ints.proofs.TextCauses.{bad_int_cause, bad_text_cause, too_long_cause}
+use Rattle.multibyte_ints.specs.{Integer.int_at, Laws.FifthIsAbove}
+use Rattle.multibyte_ints.specs.Text.{bad_int, bad_utf8, string_at, StringFault, too_long}
+use Rattle.nmf_records.specs.declared.frame.Expect.{Expect, TheVariants.Chunk, TheVariants.Types}
+use Rattle.nmf_records.specs.declared.frame.{Frame.Frame, FrameFault.FrameFault}
+use Rattle.nmf_records.specs.declared.record_types.TheConstants.{FAULT, GREATEST, VIA}
+use Rattle.nmf_records.specs.Laws.{BeginsUnexpected, BeginsUnknown, has_integer, HasBadText}
+use Rattle.nmf_records.specs.{Laws.HasLongText, Laws.IntegerComes, Records.Read}
+use Rattle.nmf_records.specs.RecordFronts.{allows, as_size, as_text, byte_at, frame_at, size_at}
+use Rattle.nmf_records.specs.RecordFronts.{text_frame_at, typed_at, version_at}
+use Rattle.nmf_records.proofs.{TypeCases.by_type, Typed.type_known}
 use Rattle.nmf_records.specs.declared.frame.Frame.TheVariants as frames
-use Rattle.nmf_records.specs.declared.frame.Expect.{Expect}
-use Rattle.nmf_records.specs.declared.frame.Expect.TheVariants.{Types, Chunk}
-use Rattle.nmf_records.specs.declared.frame.FrameFault.{FrameFault}
 use Rattle.nmf_records.specs.declared.frame.FrameFault.TheVariants as faults
-use Rattle.nmf_records.specs.Records.{Read}
-use Rattle.nmf_records.specs.RecordFronts.{size_at, text_frame_at, version_at, byte_at, typed_at}
-use Rattle.nmf_records.specs.RecordFronts.{allows, frame_at, as_size, as_text}
-use Rattle.nmf_records.specs.Laws.{BeginsUnknown, BeginsUnexpected, has_integer, IntegerComes}
-use Rattle.nmf_records.specs.Laws.{HasLongText, HasBadText}
-use Rattle.nmf_records.proofs.Typed.{type_known}
-use Rattle.nmf_records.proofs.TypeCases.{by_type}
 
 -- of a fault and the number of bytes that show it
 abbrev OfWrong : (FrameFault → ℕ → Type 0) → Front Read FrameFault → Type 0

@@ -1,33 +1,26 @@
 -- Bytes that have the cause of a fault are wrong by it.
-use Rattle.std.proofs.Common.{◌≡◌, ℕ, ◌+◌, ◌≤◌, List, [], ◌∷◌, ◌++◌, length, take, drop, true}
-use Rattle.std.proofs.Common.{false, refl, sym, ap, ◌∙◌, subst, inl, inr, arith, length-append}
-use Rattle.std.specs.Prelude.{nat_lt, ◌==◌, ◌||◌}
-use Rattle.std.proofs.lemmas.Bool.{eqb-true, cases_Bool, and_parts, or_cases}
-use Rattle.std.proofs.lemmas.Bool.Decides.{nat_tests}
-use Rattle.std.proofs.Math.Seq.{take-append_seam, drop-append_seam}
+use Rattle.std.proofs.Common.{◌≡◌, ℕ, ◌+◌, ◌≤◌, true, false, ◌||◌, List, [], ◌∷◌, ◌++◌, length}
+use Rattle.std.proofs.Common.{take, drop, nat_lt, ◌==◌, sym, refl, ap, ◌∙◌, subst, inl, inr, arith}
+use Rattle.std.proofs.Common.{length-append, eqb-true}
+use Rattle.std.proofs.Math.Seq.{drop-append_seam, take-append_seam}
+use Rattle.std.proofs.lemmas.Bool.{and_parts, cases_Bool, or_cases, Decides.nat_tests}
 use Rattle.unit_streams.specs.Front.{wrong}
-use Rattle.multibyte_ints.specs.Integer.{int_at}
-use Rattle.multibyte_ints.specs.Text.{string_at, too_long, bad_utf8}
-use Rattle.multibyte_ints.specs.Laws.{FifthIsAbove}
-use Rattle.multibyte_ints.proofs.IntegerFacts.{wrong_is}
-use Rattle.multibyte_ints.proofs.IntegerLaws.{whole_then}
-use Rattle.multibyte_ints.proofs.TextCauses.{bad_int_comes, too_long_comes, bad_text_comes}
-use Rattle.nmf_records.specs.declared.record_types.TheConstants.{VIA, EXTENSIBLE_ENCODING}
-use Rattle.nmf_records.specs.declared.record_types.TheConstants.{SIZED_ENVELOPE, FAULT}
+use Rattle.multibyte_ints.proofs.{IntegerFacts.wrong_is, IntegerLaws.whole_then}
+use Rattle.multibyte_ints.proofs.TextCauses.{bad_int_comes, bad_text_comes, too_long_comes}
+use Rattle.multibyte_ints.specs.{Integer.int_at, Laws.FifthIsAbove}
+use Rattle.multibyte_ints.specs.Text.{bad_utf8, string_at, too_long}
+use Rattle.nmf_records.specs.declared.frame.Expect.{Expect, TheVariants.Chunk, TheVariants.Types}
+use Rattle.nmf_records.specs.declared.frame.{Frame.Frame, FrameFault.FrameFault}
+use Rattle.nmf_records.specs.declared.record_types.TheConstants.{EXTENSIBLE_ENCODING, FAULT, VIA}
+use Rattle.nmf_records.specs.declared.record_types.TheConstants.{GREATEST, SIZED_ENVELOPE}
 use Rattle.nmf_records.specs.declared.record_types.TheConstants.{UPGRADE_REQUEST, UPGRADE_RESPONSE}
-use Rattle.nmf_records.specs.declared.record_types.TheConstants.{GREATEST}
-use Rattle.nmf_records.specs.declared.frame.Frame.{Frame}
+use Rattle.nmf_records.specs.Laws.{BeginsUnexpected, BeginsUnknown, has_integer, has_no_frame}
+use Rattle.nmf_records.specs.Laws.{HasBadText, HasLongText, IntegerComes}
+use Rattle.nmf_records.specs.RecordFronts.{allowed_at, allows, as_text, begins_text, frame_at}
+use Rattle.nmf_records.specs.RecordFronts.{text_frame_at, typed_at}
+use Rattle.nmf_records.proofs.{Causes.HasCause, Typed.allowed_reads}
 use Rattle.nmf_records.specs.declared.frame.Frame.TheVariants as frames
-use Rattle.nmf_records.specs.declared.frame.Expect.{Expect}
-use Rattle.nmf_records.specs.declared.frame.Expect.TheVariants.{Types, Chunk}
-use Rattle.nmf_records.specs.declared.frame.FrameFault.{FrameFault}
 use Rattle.nmf_records.specs.declared.frame.FrameFault.TheVariants as faults
-use Rattle.nmf_records.specs.RecordFronts.{text_frame_at, typed_at, allows, allowed_at, frame_at}
-use Rattle.nmf_records.specs.RecordFronts.{as_text, begins_text}
-use Rattle.nmf_records.specs.Laws.{BeginsUnknown, BeginsUnexpected, has_no_frame, has_integer}
-use Rattle.nmf_records.specs.Laws.{IntegerComes, HasLongText, HasBadText}
-use Rattle.nmf_records.proofs.Typed.{allowed_reads}
-use Rattle.nmf_records.proofs.Causes.{HasCause}
 
 -- a type byte above the known ones is unknown
 unknown_comes : (limit : ℕ) (expect : Expect) (bytes : List ℕ) → BeginsUnknown expect bytes

@@ -1,26 +1,19 @@
 -- How a reader comes along a piece.
-use Rattle.std.proofs.Common.{◌≡◌, ℕ, ◌+◌, ◌-◌, ◌≤◌, ◌<◌, Bool, true, false, List, [], ◌∷◌, ◌++◌}
-use Rattle.std.proofs.Common.{length, take, drop, refl, sym, ap, ◌∙◌, subst, arith, append_assoc}
-use Rattle.std.proofs.Common.{length-append, Some}
-use Rattle.std.specs.Prelude.{if◌then◌else◌}
-use Rattle.std.proofs.Math.Seq.{take-add}
-use Rattle.std.proofs.lemmas.List.{append-nil, take_rest, length-take-le, take-append-drop}
-use Rattle.unit_streams.specs.Front.{Front, begun}
-use Rattle.nmf_records.specs.declared.frame.Expect.{Expect}
-use Rattle.nmf_records.specs.declared.frame.Expect.TheVariants.{Types, Chunk}
-use Rattle.nmf_records.specs.declared.frame.FrameFault.{FrameFault}
-use Rattle.nmf_records.specs.declared.frame.FrameRefusal.{FrameRefusal}
-use Rattle.nmf_records.specs.declared.stage.Stage.{Stage}
+use Rattle.std.proofs.Common.{◌≡◌, ℕ, ◌+◌, ◌-◌, ◌<◌, ◌≤◌, Bool, true, false, List, [], ◌∷◌, ◌++◌}
+use Rattle.std.proofs.Common.{length, take, drop, if◌then◌else◌, Some, sym, refl, ap, ◌∙◌, subst}
+use Rattle.std.proofs.Common.{append_assoc, append-nil, arith, length-append, take-append-drop}
+use Rattle.std.proofs.{Common.length-take-le, Math.Seq.take-add, lemmas.List.take_rest}
+use Rattle.unit_streams.proofs.Peeling.{decided_some, goes_on}
+use Rattle.unit_streams.specs.Front.{begun, Front}
+use Rattle.nmf_records.specs.declared.frame.Expect.{Expect, TheVariants.Chunk, TheVariants.Types}
+use Rattle.nmf_records.specs.declared.frame.{FrameFault.FrameFault, FrameRefusal.FrameRefusal}
+use Rattle.nmf_records.specs.declared.{reader.FrameReader.FrameReader, stage.Stage.Stage}
+use Rattle.nmf_records.specs.Reader.{failure_of, HasShape, HoldsText, kind_of_text, limit_of}
+use Rattle.nmf_records.specs.Reader.{pending_of, refusal_in, ShowsText, StandsFor, text_after}
+use Rattle.nmf_records.{specs.Reader.text_read, specs.Records.Read, proofs.Frames.frame_peels}
+use Rattle.nmf_records.specs.RecordFronts.{begins_text, frame_at}
+use Rattle.nmf_records.proofs.Showing.{field_head, plain_shows, size_head, text_shows}
 use Rattle.nmf_records.specs.declared.stage.Stage.TheVariants as stages
-use Rattle.nmf_records.specs.declared.reader.FrameReader.{FrameReader}
-use Rattle.nmf_records.specs.Records.{Read}
-use Rattle.nmf_records.specs.RecordFronts.{frame_at, begins_text}
-use Rattle.nmf_records.specs.Reader.{StandsFor, ShowsText, HoldsText, text_after, text_read}
-use Rattle.nmf_records.specs.Reader.{limit_of, pending_of, failure_of, refusal_in, HasShape}
-use Rattle.nmf_records.specs.Reader.{kind_of_text}
-use Rattle.unit_streams.proofs.Peeling.{goes_on, decided_some}
-use Rattle.nmf_records.proofs.Frames.{frame_peels}
-use Rattle.nmf_records.proofs.Showing.{plain_shows, field_head, size_head, text_shows}
 
 -- n bytes of the rest of a piece, behind used ones
 module _ (p piece : List ℕ) (used n : ℕ) where

@@ -1,29 +1,22 @@
 -- Records are read byte by byte.
-use Rattle.std.proofs.Common.{◌≡◌, ℕ, suc, ◌<◌, ◌⊎◌, inl, inr, Bool, true, false, nat_lt, List, []}
-use Rattle.std.proofs.Common.{◌∷◌, ◌++◌, length, refl, arith}
-use Rattle.std.specs.Prelude.{◌==◌, if◌then◌else◌}
-use Rattle.unit_streams.specs.Front.{Front, begun, ReadsFront}
+use Rattle.std.proofs.Common.{◌≡◌, ℕ, suc, ◌<◌, Bool, true, false, ◌⊎◌, List, [], ◌∷◌, ◌++◌, length}
+use Rattle.std.proofs.Common.{if◌then◌else◌, nat_lt, ◌==◌, refl, inl, inr, arith}
+use Rattle.unit_streams.proofs.Behind.{after_byte, after_byte_peels, behind_peels, by_first_peels}
+use Rattle.{unit_streams.proofs.Behind.decided_byte_peels, nmf_records.specs.Records.Read}
 use Rattle.unit_streams.proofs.Peeling.{extent, IsPeeling, peels_front}
-use Rattle.unit_streams.proofs.Behind.{behind_peels, after_byte, after_byte_peels}
-use Rattle.unit_streams.proofs.Behind.{decided_byte_peels, by_first_peels}
-use Rattle.multibyte_ints.specs.Integer.{int_at}
-use Rattle.multibyte_ints.specs.Text.{string_at}
-use Rattle.multibyte_ints.proofs.IntegerBytes.{int_peels}
-use Rattle.multibyte_ints.proofs.TextBytes.{string_peels}
-use Rattle.nmf_records.specs.declared.record_types.TheConstants.{VERSION, MODE, VIA, KNOWN_ENCODING}
-use Rattle.nmf_records.specs.declared.record_types.TheConstants.{UNSIZED_ENVELOPE, SIZED_ENVELOPE}
-use Rattle.nmf_records.specs.declared.record_types.TheConstants.{END, FAULT, PREAMBLE_ACK}
-use Rattle.nmf_records.specs.declared.record_types.TheConstants.{PREAMBLE_END, GREATEST}
-use Rattle.nmf_records.specs.declared.frame.Frame.{Frame}
+use Rattle.unit_streams.specs.Front.{begun, Front, ReadsFront}
+use Rattle.multibyte_ints.proofs.{IntegerBytes.int_peels, TextBytes.string_peels}
+use Rattle.multibyte_ints.specs.{Integer.int_at, Text.string_at}
+use Rattle.nmf_records.specs.declared.frame.Expect.{Expect, TheVariants.Chunk, TheVariants.Types}
+use Rattle.nmf_records.specs.declared.frame.{Frame.Frame, FrameFault.FrameFault}
+use Rattle.nmf_records.specs.declared.record_types.TheConstants.{END, FAULT, GREATEST}
+use Rattle.nmf_records.specs.declared.record_types.TheConstants.{KNOWN_ENCODING, MODE, PREAMBLE_ACK}
+use Rattle.nmf_records.specs.declared.record_types.TheConstants.{PREAMBLE_END, SIZED_ENVELOPE}
+use Rattle.nmf_records.specs.declared.record_types.TheConstants.{UNSIZED_ENVELOPE, VERSION, VIA}
+use Rattle.nmf_records.specs.RecordFronts.{allowed_at, allows, bare, byte_at, fault_of, frame_at}
+use Rattle.nmf_records.specs.RecordFronts.{size_at, text_frame_at, typed_at, version_at, with_text}
 use Rattle.nmf_records.specs.declared.frame.Frame.TheVariants as frames
-use Rattle.nmf_records.specs.declared.frame.Expect.{Expect}
-use Rattle.nmf_records.specs.declared.frame.Expect.TheVariants.{Types, Chunk}
-use Rattle.nmf_records.specs.declared.frame.FrameFault.{FrameFault}
 use Rattle.nmf_records.specs.declared.frame.FrameFault.TheVariants as faults
-use Rattle.nmf_records.specs.Records.{Read}
-use Rattle.nmf_records.specs.RecordFronts.{with_text, bare, fault_of, size_at, text_frame_at}
-use Rattle.nmf_records.specs.RecordFronts.{version_at, byte_at, typed_at, allows, allowed_at}
-use Rattle.nmf_records.specs.RecordFronts.{frame_at}
 
 -- what is read behind a type byte is read byte by byte
 abbrev PeelsBehindType : (List ℕ → Front Read FrameFault) → Type 0

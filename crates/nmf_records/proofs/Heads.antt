@@ -1,26 +1,20 @@
 -- The records that come with each message, where they are whole at the front of a piece.
 use Rattle.std.proofs.Common.{◌≡◌, ℕ, ◌+◌, ◌≤◌, true, false, List, [], ◌∷◌, ◌++◌, length, Some, Ok}
-use Rattle.std.proofs.Common.{refl, sym, ap, ◌∙◌, arith}
-use Rattle.unit_streams.specs.Front.{whole}
-use Rattle.multibyte_ints.specs.Integer.{int_at}
-use Rattle.multibyte_ints.specs.Reader.{StandsFor as IntStandsFor}
-use Rattle.multibyte_ints.proofs.IntegerBytes.{int_reads_front}
-use Rattle.nmf_records.specs.declared.record_types.TheConstants.{SIZED_ENVELOPE}
-use Rattle.nmf_records.specs.declared.frame.Expect.{Expect}
-use Rattle.nmf_records.specs.declared.frame.Expect.TheVariants.{Types, Chunk}
-use Rattle.nmf_records.specs.declared.frame.Frame.{Frame}
-use Rattle.nmf_records.specs.declared.frame.Frame.TheVariants as frames
-use Rattle.nmf_records.specs.declared.frame.FrameRefusal.{FrameRefusal}
+use Rattle.std.proofs.Common.{sym, refl, ap, ◌∙◌, arith}
+use Rattle.{unit_streams.specs.Front.whole, multibyte_ints.proofs.IntegerBytes.int_reads_front}
+use Rattle.multibyte_ints.specs.{Integer.int_at, Reader.StandsFor as IntStandsFor}
+use Rattle.nmf_records.specs.declared.frame.Expect.{Expect, TheVariants.Chunk, TheVariants.Types}
+use Rattle.nmf_records.specs.declared.frame.{Frame.Frame, FrameRefusal.FrameRefusal}
 use Rattle.nmf_records.specs.declared.frame.FrameStep.TheVariants.{Done}
 use Rattle.nmf_records.specs.declared.reader.FrameReader.{FrameReader}
-use Rattle.nmf_records.specs.declared.stage.Stage.TheVariants as stages
+use Rattle.nmf_records.specs.declared.record_types.TheConstants.{SIZED_ENVELOPE}
+use Rattle.nmf_records.specs.Reader.{failure_of, FrameAnswers, limit_of, shown_behind, ShowsText}
+use Rattle.nmf_records.specs.Reader.{size_bytes, StandsFor}
 use Rattle.nmf_records.specs.RecordFronts.{allows, as_size, bare, begins_text, frame_at}
-use Rattle.nmf_records.specs.Reader.{FrameAnswers, ShowsText, StandsFor, failure_of, limit_of}
-use Rattle.nmf_records.specs.Reader.{shown_behind, size_bytes}
-use Rattle.nmf_records.proofs.Feeding.{no_refusal}
+use Rattle.nmf_records.proofs.{Feeding.no_refusal, Showing.plain_shows, Typed.allowed_reads}
 use Rattle.nmf_records.proofs.Frames.{frame_peels, frames_front}
-use Rattle.nmf_records.proofs.Showing.{plain_shows}
-use Rattle.nmf_records.proofs.Typed.{allowed_reads}
+use Rattle.nmf_records.specs.declared.frame.Frame.TheVariants as frames
+use Rattle.nmf_records.specs.declared.stage.Stage.TheVariants as stages
 
 -- an integer has no more bytes than those at whose front it stands
 pub int_within : (bytes : List ℕ) (size n : ℕ) → int_at bytes ≡ whole size n → n ≤ length bytes

@@ -1,30 +1,24 @@
 -- What a byte of a type, a field or a size led to.
-use Rattle.std.proofs.Common.{◌≡◌, ℕ, suc, ◌+◌, ◌≤◌, List, [], ◌∷◌, ◌++◌, length, drop, refl, sym}
+use Rattle.std.proofs.Common.{◌≡◌, ℕ, suc, ◌+◌, ◌≤◌, List, [], ◌∷◌, ◌++◌, length, drop, sym, refl}
 use Rattle.std.proofs.Common.{ap, ◌∙◌, subst, arith, length-append}
-use Rattle.unit_streams.specs.Front.{begun}
-use Rattle.multibyte_ints.specs.Integer.{int_at}
-use Rattle.multibyte_ints.specs.Reader.{StandsFor as IntStandsFor}
+use Rattle.unit_streams.{proofs.Behind.behind_begun, specs.Front.begun}
 use Rattle.multibyte_ints.proofs.IntegerBytes.{wrong_at_last}
-use Rattle.unit_streams.proofs.Behind.{behind_begun}
+use Rattle.multibyte_ints.specs.{Integer.int_at, Reader.StandsFor as IntStandsFor}
+use Rattle.nmf_records.specs.declared.frame.{Expect.Expect, Frame.Frame}
+use Rattle.nmf_records.{specs.declared.reader.FrameReader.FrameReader, proofs.Typed.begun_reads}
 use Rattle.nmf_records.specs.declared.record_types.TheConstants.{SIZED_ENVELOPE}
-use Rattle.nmf_records.specs.declared.frame.Frame.{Frame}
+use Rattle.nmf_records.specs.declared.stage.{Field.Field, Progress.Progress}
+use Rattle.nmf_records.specs.declared.stage.Progress.TheVariants.{Done, Going, Wrong}
+use Rattle.nmf_records.specs.declared.stage.{SizeRecord.SizeRecord, Stage.Stage}
+use Rattle.nmf_records.specs.Advancing.{BeginsAnew, Progresses, ReadsBytes, SizeAnswers}
+use Rattle.nmf_records.specs.Reader.{HasShape, HoldsText, size_bytes}
+use Rattle.nmf_records.specs.RecordFronts.{as_size, bare, frame_at, size_at}
+use Rattle.nmf_records.specs.Steps.{GoesTo, HasNoText, Meets, sized}
 use Rattle.nmf_records.specs.declared.frame.Frame.TheVariants as frames
-use Rattle.nmf_records.specs.declared.frame.Expect.{Expect}
 use Rattle.nmf_records.specs.declared.frame.FrameFault.TheVariants as faults
-use Rattle.nmf_records.specs.declared.stage.Field.{Field}
 use Rattle.nmf_records.specs.declared.stage.Field.TheVariants as fields
-use Rattle.nmf_records.specs.declared.stage.SizeRecord.{SizeRecord}
 use Rattle.nmf_records.specs.declared.stage.SizeRecord.TheVariants as sizes
-use Rattle.nmf_records.specs.declared.stage.Stage.{Stage}
 use Rattle.nmf_records.specs.declared.stage.Stage.TheVariants as stages
-use Rattle.nmf_records.specs.declared.stage.Progress.{Progress}
-use Rattle.nmf_records.specs.declared.stage.Progress.TheVariants.{Going, Done, Wrong}
-use Rattle.nmf_records.specs.declared.reader.FrameReader.{FrameReader}
-use Rattle.nmf_records.specs.RecordFronts.{bare, size_at, frame_at, as_size}
-use Rattle.nmf_records.specs.Steps.{HasNoText, Meets, GoesTo, sized}
-use Rattle.nmf_records.specs.Reader.{HoldsText, HasShape, size_bytes}
-use Rattle.nmf_records.specs.Advancing.{Progresses, BeginsAnew, ReadsBytes, SizeAnswers}
-use Rattle.nmf_records.proofs.Typed.{begun_reads}
 
 -- a reader of texts that begins anew has no byte of one
 holds_text : (mid : FrameReader) (stage : Stage) (p : List ℕ) → HasNoText stage p

@@ -1,31 +1,25 @@
 -- A record that is read is the bytes that it is read of, and a record's bytes are read as it.
-use Rattle.std.proofs.Common.{◌≡◌, ℕ, suc, ◌+◌, ◌≤◌, List, [], ◌∷◌, ◌++◌, length, take, drop, true}
-use Rattle.std.proofs.Common.{refl, sym, ap, ◌∙◌, arith}
-use Rattle.std.specs.Prelude.{nat_lt, ⊤, Some}
-use Rattle.std.proofs.lemmas.Bool.{cond_both}
-use Rattle.std.proofs.lemmas.List.{length-take-le, take-append-drop}
-use Rattle.unit_streams.specs.Front.{Front, begun, whole, wrong}
+use Rattle.std.proofs.Common.{◌≡◌, ℕ, suc, ◌+◌, ◌≤◌, true, List, [], ◌∷◌, ◌++◌, length, take, drop}
+use Rattle.std.proofs.Common.{nat_lt, Some, sym, refl, ap, ◌∙◌, arith, take-append-drop}
+use Rattle.std.{proofs.Common.length-take-le, specs.Prelude.⊤, proofs.lemmas.Bool.cond_both}
 use Rattle.unit_streams.proofs.Taken.{none_goes_on}
-use Rattle.multibyte_ints.specs.Integer.{int_at}
-use Rattle.multibyte_ints.specs.Text.{string_at, StringFault}
+use Rattle.unit_streams.specs.Front.{begun, Front, whole, wrong}
 use Rattle.multibyte_ints.proofs.IntegerLaws.{spells_from_whole, whole_from_all}
-use Rattle.multibyte_ints.proofs.TextLaws.{string_from_whole, string_alone}
-use Rattle.nmf_records.specs.declared.record_types.TheConstants.{VERSION, MODE, VIA, KNOWN_ENCODING}
-use Rattle.nmf_records.specs.declared.record_types.TheConstants.{UNSIZED_ENVELOPE, SIZED_ENVELOPE}
-use Rattle.nmf_records.specs.declared.record_types.TheConstants.{END, FAULT, PREAMBLE_ACK}
-use Rattle.nmf_records.specs.declared.record_types.TheConstants.{PREAMBLE_END, GREATEST}
-use Rattle.nmf_records.specs.declared.frame.Frame.{Frame}
-use Rattle.nmf_records.specs.declared.frame.Frame.TheVariants as frames
-use Rattle.nmf_records.specs.declared.frame.Expect.{Expect}
-use Rattle.nmf_records.specs.declared.frame.Expect.TheVariants.{Types, Chunk}
-use Rattle.nmf_records.specs.declared.frame.FrameFault.{FrameFault}
-use Rattle.nmf_records.specs.Records.{Read, type_of, IsTextRecord, IsRecordOf, IsRecord}
-use Rattle.nmf_records.specs.RecordFronts.{with_text, size_at, text_frame_at, version_at, byte_at}
-use Rattle.nmf_records.specs.RecordFronts.{lone, typed_at, allows, allows_type, MayCome, frame_at}
-use Rattle.nmf_records.specs.RecordFronts.{as_size, as_text}
-use Rattle.nmf_records.proofs.Frames.{frames_front}
-use Rattle.nmf_records.proofs.Typed.{type_known}
+use Rattle.multibyte_ints.proofs.TextLaws.{string_alone, string_from_whole}
+use Rattle.multibyte_ints.specs.{Integer.int_at, Text.string_at, Text.StringFault}
+use Rattle.nmf_records.specs.declared.frame.Expect.{Expect, TheVariants.Chunk, TheVariants.Types}
+use Rattle.nmf_records.specs.declared.frame.{Frame.Frame, FrameFault.FrameFault}
+use Rattle.nmf_records.specs.declared.record_types.TheConstants.{END, FAULT, GREATEST}
+use Rattle.nmf_records.specs.declared.record_types.TheConstants.{KNOWN_ENCODING, MODE, PREAMBLE_ACK}
+use Rattle.nmf_records.specs.declared.record_types.TheConstants.{PREAMBLE_END, SIZED_ENVELOPE}
+use Rattle.nmf_records.specs.declared.record_types.TheConstants.{UNSIZED_ENVELOPE, VERSION, VIA}
+use Rattle.nmf_records.specs.RecordFronts.{allows, allows_type, as_size, as_text, byte_at, frame_at}
+use Rattle.nmf_records.specs.RecordFronts.{lone, MayCome, size_at, text_frame_at, typed_at}
+use Rattle.nmf_records.specs.RecordFronts.{version_at, with_text}
+use Rattle.nmf_records.specs.Records.{IsRecord, IsRecordOf, IsTextRecord, Read, type_of}
+use Rattle.nmf_records.proofs.{Frames.frames_front, Typed.type_known}
 use Rattle.nmf_records.proofs.TypeCases.{by_type, read_by_type}
+use Rattle.nmf_records.specs.declared.frame.Frame.TheVariants as frames
 
 -- of a whole record and its length
 abbrev OfWhole : (Read → ℕ → Type 0) → Front Read FrameFault → Type 0

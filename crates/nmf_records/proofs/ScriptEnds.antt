@@ -1,16 +1,12 @@
 -- A whole script goes on to no longer one, but for the lone Ack.
-use Rattle.std.proofs.Common.{◌≡◌, List, [], ◌∷◌, ◌++◌, refl, ◌⊎◌, inl, inr}
-use Rattle.nbfx_values.specs.declared.session.Mode.{Mode}
-use Rattle.nbfx_values.specs.declared.session.Mode.TheVariants.{Simplex}
-use Rattle.nmf_records.specs.declared.frame.Frame.{Frame}
+use Rattle.std.proofs.Common.{◌≡◌, ◌⊎◌, List, [], ◌∷◌, ◌++◌, refl, inl, inr}
+use Rattle.nbfx_values.specs.declared.session.Mode.{Mode, TheVariants.Simplex}
+use Rattle.nmf_records.specs.declared.{frame.Frame.Frame, script.Due.Due}
+use Rattle.nmf_records.specs.declared.script.Direction.{Direction, TheVariants.FromReceiver}
+use Rattle.nmf_records.specs.Script.{due_behind, first, IsLoneAck, IsScript, leads}
+use Rattle.nmf_records.proofs.{ScriptWays.Follows, ScriptWays.over_is, ScriptsLead.script_follows}
 use Rattle.nmf_records.specs.declared.frame.Frame.TheVariants as frames
-use Rattle.nmf_records.specs.declared.script.Direction.{Direction}
-use Rattle.nmf_records.specs.declared.script.Direction.TheVariants.{FromReceiver}
-use Rattle.nmf_records.specs.declared.script.Due.{Due}
 use Rattle.nmf_records.specs.declared.script.Due.TheVariants as dues
-use Rattle.nmf_records.specs.Script.{first, leads, due_behind, IsScript, IsLoneAck}
-use Rattle.nmf_records.proofs.ScriptWays.{Follows, over_is}
-use Rattle.nmf_records.proofs.ScriptsLead.{script_follows}
 
 -- a stream that may end goes on only where End is due behind an Ack
 ends_or_goes_on : (direction : Direction) (mode : Mode) (due : Due) (script more : List Frame)

@@ -1,14 +1,11 @@
 -- The way through what is due, record by record.
 use Rattle.std.proofs.Common.{◌≡◌, true, List, [], ◌∷◌, ◌++◌, refl, ap, subst}
 use Rattle.nbfx_values.specs.declared.session.Mode.{Mode}
-use Rattle.nmf_records.specs.declared.frame.Frame.{Frame}
+use Rattle.nmf_records.specs.{declared.frame.Frame.Frame, RecordFronts.MayCome, Script.NamesMode}
+use Rattle.nmf_records.specs.declared.script.{Direction.Direction, Due.Due}
+use Rattle.nmf_records.specs.Script.{due_behind, first, leads, LeadsToEnd, may_come, may_end}
 use Rattle.nmf_records.specs.declared.frame.Frame.TheVariants as frames
-use Rattle.nmf_records.specs.declared.script.Direction.{Direction}
-use Rattle.nmf_records.specs.declared.script.Due.{Due}
 use Rattle.nmf_records.specs.declared.script.Due.TheVariants as dues
-use Rattle.nmf_records.specs.RecordFronts.{MayCome}
-use Rattle.nmf_records.specs.Script.{first, may_come, leads, may_end, due_behind, NamesMode}
-use Rattle.nmf_records.specs.Script.{LeadsToEnd}
 
 -- from there on each record may come where those before it led, and they lead to where the stream
 -- may end

@@ -1,22 +1,17 @@
 -- A script of the grammar leads through what is due.
-use Rattle.std.proofs.Common.{◌≡◌, ℕ, ◌<◌, true, false, List, [], ◌∷◌, ◌++◌, map, refl, inl, inr}
-use Rattle.std.proofs.Common.{arith}
-use Rattle.std.specs.Prelude.{◌==◌, All, IsSome, Option, Some, None, is_none}
+use Rattle.std.proofs.Common.{◌≡◌, ℕ, ◌<◌, true, false, List, [], ◌∷◌, ◌++◌, map, is_none, IsSome}
+use Rattle.std.proofs.Common.{◌==◌, Some, None, All, Option, refl, inl, inr, arith}
+use Rattle.{std.proofs.lemmas.Bool.Decides.nat_tests, nbfx_values.specs.declared.session.Mode.Mode}
 use Rattle.std.proofs.lemmas.List.Elements.{All-head, All-tail}
-use Rattle.std.proofs.lemmas.Bool.Decides.{nat_tests}
-use Rattle.nbfx_values.specs.declared.session.Mode.{Mode}
-use Rattle.nbfx_values.specs.declared.session.Mode.TheVariants.{Singleton, Duplex, Simplex}
-use Rattle.nmf_records.specs.declared.frame.Frame.{Frame}
-use Rattle.nmf_records.specs.declared.frame.Frame.TheVariants as frames
-use Rattle.nmf_records.specs.declared.script.Direction.{Direction}
+use Rattle.nbfx_values.specs.declared.session.Mode.TheVariants.{Duplex, Simplex, Singleton}
+use Rattle.nmf_records.specs.{declared.frame.Frame.Frame, RecordFronts.MayCome, Records.type_of}
+use Rattle.nmf_records.specs.declared.script.{Direction.Direction, Due.Due}
 use Rattle.nmf_records.specs.declared.script.Direction.TheVariants.{FromInitiator, FromReceiver}
-use Rattle.nmf_records.specs.declared.script.Due.{Due}
-use Rattle.nmf_records.specs.declared.script.Due.TheVariants as dues
-use Rattle.nmf_records.specs.Records.{type_of}
-use Rattle.nmf_records.specs.RecordFronts.{MayCome}
-use Rattle.nmf_records.specs.Script.{first, may_come, leads, behind_preamble, IsUnsized}
-use Rattle.nmf_records.specs.Script.{AreEnvelopes, IsInitiatorsScript, IsAnswer, IsScript}
+use Rattle.nmf_records.specs.Script.{AreEnvelopes, behind_preamble, first, IsAnswer}
+use Rattle.nmf_records.specs.Script.{IsInitiatorsScript, IsScript, IsUnsized, leads, may_come}
 use Rattle.nmf_records.proofs.ScriptWays.{Follows, nothing_comes}
+use Rattle.nmf_records.specs.declared.frame.Frame.TheVariants as frames
+use Rattle.nmf_records.specs.declared.script.Due.TheVariants as dues
 
 sized_come : (direction : Direction) (size : ℕ) → MayCome (may_come direction dues.Messages)
     (frames.SizedEnvelope size)

@@ -1,18 +1,14 @@
 -- Where a reader stands once it has gone on to where some bytes led.
 use Rattle.std.proofs.Common.{◌≡◌, ℕ, ◌+◌, ◌-◌, ◌^◌, ◌≤◌, min, List, ◌++◌, length, take, refl, ap}
 use Rattle.std.proofs.Common.{◌∙◌, arith}
+use Rattle.unit_streams.proofs.{Peeling.extent, Taken.taken_len}
 use Rattle.multibyte_ints.specs.TextReader.{limit_of as text_limit_of}
-use Rattle.nmf_records.specs.declared.frame.Expect.{Expect}
-use Rattle.nmf_records.specs.declared.stage.Progress.{Progress}
-use Rattle.nmf_records.specs.declared.stage.Progress.TheVariants.{Going, Done, Wrong}
-use Rattle.nmf_records.specs.declared.reader.FrameReader.{FrameReader}
-use Rattle.nmf_records.specs.RecordFronts.{frame_at}
-use Rattle.nmf_records.specs.Reader.{StandsFor, limit_of, pending_of, failure_of}
-use Rattle.nmf_records.specs.Advancing.{Progresses, Steps, KeepsFault, stage_after, pending_after}
-use Rattle.unit_streams.proofs.Peeling.{extent}
-use Rattle.unit_streams.proofs.Taken.{taken_len}
-use Rattle.nmf_records.proofs.Frames.{frame_peels}
-use Rattle.nmf_records.proofs.Short.{begun_short, decided_short}
+use Rattle.nmf_records.specs.declared.{frame.Expect.Expect, reader.FrameReader.FrameReader}
+use Rattle.nmf_records.specs.{declared.stage.Progress.Progress, RecordFronts.frame_at}
+use Rattle.nmf_records.specs.declared.stage.Progress.TheVariants.{Done, Going, Wrong}
+use Rattle.nmf_records.specs.Advancing.{KeepsFault, pending_after, Progresses, stage_after, Steps}
+use Rattle.nmf_records.specs.Reader.{failure_of, limit_of, pending_of, StandsFor}
+use Rattle.nmf_records.proofs.{Frames.frame_peels, Short.begun_short, Short.decided_short}
 
 -- what settle leaves
 pub record IsSettled (mid new : FrameReader) (n : ℕ) (progress : Progress) : Type 0 where

@@ -1,32 +1,24 @@
 -- A record that has begun is short, and so is what decides one.
-use Rattle.std.proofs.Common.{◌≡◌, ℕ, ◌+◌, ◌-◌, ◌^◌, ◌≤◌, ◌<◌, inl, inr, min, Bool, true, false}
-use Rattle.std.proofs.Common.{nat_lt, List, [], ◌∷◌, length, take, ap, arith}
-use Rattle.std.specs.Prelude.{◌==◌, if◌then◌else◌}
-use Rattle.std.proofs.lemmas.List.{length-take-le}
-use Rattle.unit_streams.specs.Front.{Front, begun, wrong}
-use Rattle.unit_streams.proofs.Peeling.{extent, leaves_or_decides}
-use Rattle.unit_streams.proofs.Behind.{behind_begun}
-use Rattle.multibyte_ints.specs.Integer.{int_at}
-use Rattle.multibyte_ints.specs.Text.{string_at}
+use Rattle.std.proofs.Common.{◌≡◌, ℕ, ◌+◌, ◌-◌, ◌^◌, ◌<◌, ◌≤◌, min, Bool, true, false, List, []}
+use Rattle.std.proofs.Common.{◌∷◌, length, take, if◌then◌else◌, nat_lt, ◌==◌, ap, inl, inr, arith}
+use Rattle.std.proofs.Common.{length-take-le}
+use Rattle.unit_streams.proofs.{Behind.behind_begun, Peeling.extent, Peeling.leaves_or_decides}
+use Rattle.unit_streams.specs.Front.{begun, Front, wrong}
 use Rattle.multibyte_ints.proofs.IntegerBytes.{begun_from, ended_from}
-use Rattle.multibyte_ints.proofs.IntegerLaws.{spells_from_whole}
-use Rattle.multibyte_ints.proofs.TextFacts.{int_begun, int_wrong, above, waiting, text, no_text}
-use Rattle.multibyte_ints.proofs.TextFacts.{string_cases}
-use Rattle.nmf_records.specs.declared.record_types.TheConstants.{VERSION, MODE, VIA, KNOWN_ENCODING}
-use Rattle.nmf_records.specs.declared.record_types.TheConstants.{UNSIZED_ENVELOPE, SIZED_ENVELOPE}
-use Rattle.nmf_records.specs.declared.record_types.TheConstants.{END, FAULT, PREAMBLE_ACK}
-use Rattle.nmf_records.specs.declared.record_types.TheConstants.{PREAMBLE_END, GREATEST}
-use Rattle.nmf_records.specs.declared.frame.Frame.{Frame}
+use Rattle.multibyte_ints.proofs.{IntegerLaws.spells_from_whole, TextFacts.text, TextFacts.waiting}
+use Rattle.multibyte_ints.proofs.TextFacts.{above, int_begun, int_wrong, no_text, string_cases}
+use Rattle.multibyte_ints.specs.{Integer.int_at, Text.string_at}
+use Rattle.nmf_records.specs.declared.frame.Expect.{Expect, TheVariants.Chunk, TheVariants.Types}
+use Rattle.nmf_records.specs.declared.frame.{Frame.Frame, FrameFault.FrameFault}
+use Rattle.nmf_records.specs.declared.record_types.TheConstants.{END, FAULT, GREATEST}
+use Rattle.nmf_records.specs.declared.record_types.TheConstants.{KNOWN_ENCODING, MODE, PREAMBLE_ACK}
+use Rattle.nmf_records.specs.declared.record_types.TheConstants.{PREAMBLE_END, SIZED_ENVELOPE}
+use Rattle.nmf_records.specs.declared.record_types.TheConstants.{UNSIZED_ENVELOPE, VERSION, VIA}
+use Rattle.nmf_records.specs.RecordFronts.{allowed_at, allows, bare, byte_at, fault_of, frame_at}
+use Rattle.nmf_records.specs.RecordFronts.{lone, size_at, text_frame_at, typed_at, version_at}
+use Rattle.nmf_records.{specs.RecordFronts.with_text, specs.Records.Read, proofs.Frames.frame_peels}
 use Rattle.nmf_records.specs.declared.frame.Frame.TheVariants as frames
-use Rattle.nmf_records.specs.declared.frame.Expect.{Expect}
-use Rattle.nmf_records.specs.declared.frame.Expect.TheVariants.{Types, Chunk}
-use Rattle.nmf_records.specs.declared.frame.FrameFault.{FrameFault}
 use Rattle.nmf_records.specs.declared.frame.FrameFault.TheVariants as faults
-use Rattle.nmf_records.specs.Records.{Read}
-use Rattle.nmf_records.specs.RecordFronts.{with_text, bare, fault_of, size_at, text_frame_at}
-use Rattle.nmf_records.specs.RecordFronts.{version_at, byte_at, lone, typed_at, allows, allowed_at}
-use Rattle.nmf_records.specs.RecordFronts.{frame_at}
-use Rattle.nmf_records.proofs.Frames.{frame_peels}
 
 -- the most bytes that a text within the limit can have: an integer is below 2^31
 abbrev pub longest : ℕ → ℕ

@@ -1,38 +1,29 @@
 -- Which text a reader shows once it has gone on.
-use Rattle.std.proofs.Common.{◌≡◌, ℕ, Bool, true, false, List, [], ◌∷◌, ◌++◌, drop, refl, sym, ap}
-use Rattle.std.proofs.Common.{◌∙◌, arith}
-use Rattle.std.specs.Prelude.{◌==◌, ◌&&◌, ◌||◌}
-use Rattle.std.proofs.Math.Bool.{and-false}
-use Rattle.unit_streams.specs.Front.{Front, begun, whole, wrong}
-use Rattle.multibyte_ints.specs.Text.{StringFault, string_at}
-use Rattle.multibyte_ints.specs.Reader.{StandsFor as IntStandsFor}
-use Rattle.multibyte_ints.specs.TextReader.{StringStandsFor, text_of, limit_of as text_limit_of}
-use Rattle.nmf_records.specs.declared.record_types.TheConstants.{VERSION, MODE, VIA, KNOWN_ENCODING}
-use Rattle.nmf_records.specs.declared.record_types.TheConstants.{SIZED_ENVELOPE, FAULT}
-use Rattle.nmf_records.specs.declared.frame.Frame.{Frame}
-use Rattle.nmf_records.specs.declared.frame.Expect.{Expect}
-use Rattle.nmf_records.specs.declared.frame.Expect.TheVariants.{Types, Chunk}
-use Rattle.nmf_records.specs.declared.frame.FrameFault.{FrameFault}
-use Rattle.nmf_records.specs.declared.stage.Field.{Field}
+use Rattle.std.proofs.Common.{◌≡◌, ℕ, Bool, true, false, ◌&&◌, ◌||◌, List, [], ◌∷◌, ◌++◌, drop}
+use Rattle.std.proofs.Common.{◌==◌, sym, refl, ap, ◌∙◌, arith}
+use Rattle.{std.proofs.Math.Bool.and-false, unit_streams.proofs.Behind.behind_begun}
+use Rattle.unit_streams.specs.Front.{begun, Front, whole, wrong}
+use Rattle.multibyte_ints.proofs.TextBytes.{string_peels}
+use Rattle.multibyte_ints.specs.{Reader.StandsFor as IntStandsFor, Text.string_at, Text.StringFault}
+use Rattle.multibyte_ints.specs.TextReader.{limit_of as text_limit_of, StringStandsFor, text_of}
+use Rattle.nmf_records.specs.declared.frame.Expect.{Expect, TheVariants.Chunk, TheVariants.Types}
+use Rattle.nmf_records.specs.declared.frame.{Frame.Frame, FrameFault.FrameFault}
+use Rattle.nmf_records.specs.{declared.reader.FrameReader.FrameReader, Records.Read}
+use Rattle.nmf_records.specs.declared.record_types.TheConstants.{FAULT, KNOWN_ENCODING, MODE}
+use Rattle.nmf_records.specs.declared.record_types.TheConstants.{SIZED_ENVELOPE, VERSION, VIA}
+use Rattle.nmf_records.specs.declared.stage.{Field.Field, Progress.Progress}
+use Rattle.nmf_records.specs.declared.stage.Progress.TheVariants.{Done, Going, Wrong}
+use Rattle.nmf_records.specs.declared.stage.{SizeRecord.SizeRecord, TextRecord.TextRecord}
+use Rattle.nmf_records.specs.Advancing.{BeginsAnew, Progresses, TextAnswers}
+use Rattle.nmf_records.specs.Reader.{HasShape, kind_of_text, limit_of, ShowsText, text_after}
+use Rattle.nmf_records.specs.{Reader.text_read, Steps.is_text_start, Steps.Meets, Steps.texted}
+use Rattle.nmf_records.specs.RecordFronts.{allows, as_text, begins_text, fault_of, frame_at}
+use Rattle.nmf_records.specs.RecordFronts.{text_frame_at, with_text}
+use Rattle.nmf_records.proofs.Typed.{begun_may_come, begun_reads}
 use Rattle.nmf_records.specs.declared.stage.Field.TheVariants as fields
-use Rattle.nmf_records.specs.declared.stage.TextRecord.{TextRecord}
 use Rattle.nmf_records.specs.declared.stage.TextRecord.TheVariants as texts
-use Rattle.nmf_records.specs.declared.stage.SizeRecord.{SizeRecord}
 use Rattle.nmf_records.specs.declared.stage.SizeRecord.TheVariants as sizes
 use Rattle.nmf_records.specs.declared.stage.Stage.TheVariants as stages
-use Rattle.nmf_records.specs.declared.stage.Progress.{Progress}
-use Rattle.nmf_records.specs.declared.stage.Progress.TheVariants.{Going, Done, Wrong}
-use Rattle.nmf_records.specs.declared.reader.FrameReader.{FrameReader}
-use Rattle.nmf_records.specs.Records.{Read}
-use Rattle.nmf_records.specs.RecordFronts.{with_text, allows, fault_of, text_frame_at, frame_at}
-use Rattle.nmf_records.specs.RecordFronts.{as_text, begins_text}
-use Rattle.nmf_records.specs.Steps.{Meets, is_text_start, texted}
-use Rattle.nmf_records.specs.Reader.{ShowsText, text_after, text_read, limit_of, HasShape}
-use Rattle.nmf_records.specs.Reader.{kind_of_text}
-use Rattle.nmf_records.specs.Advancing.{BeginsAnew, TextAnswers, Progresses}
-use Rattle.unit_streams.proofs.Behind.{behind_begun}
-use Rattle.multibyte_ints.proofs.TextBytes.{string_peels}
-use Rattle.nmf_records.proofs.Typed.{begun_may_come, begun_reads}
 
 -- what has the same text shows the same
 pub shows_same : (old new : FrameReader) (s : List ℕ) → new.text ≡ old.text → ShowsText old s

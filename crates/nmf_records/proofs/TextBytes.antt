@@ -1,15 +1,13 @@
 -- What the bytes that a reader of strings takes led to.
 use Rattle.std.proofs.Common.{ℕ, ◌≤◌, List, ◌++◌, length, take, refl, ap, ◌∙◌}
-use Rattle.multibyte_ints.specs.declared.text.StringReader.{StringReader}
-use Rattle.multibyte_ints.specs.declared.text.StringStep.{StringStep}
-use Rattle.multibyte_ints.specs.declared.text.StringStep.TheVariants as steps
-use Rattle.multibyte_ints.specs.Text.{string_at, bad_int, too_long, bad_utf8}
-use Rattle.multibyte_ints.specs.TextReader.{StringStandsFor, StringAnswersAt}
-use Rattle.multibyte_ints.proofs.TextBytes.{string_reads_front}
 use Rattle.unit_streams.proofs.Taken.{all_taken, whole_of_taken, wrong_of_taken}
-use Rattle.nmf_records.specs.declared.stage.TextRecord.{TextRecord}
-use Rattle.nmf_records.specs.Steps.{progress_of}
+use Rattle.multibyte_ints.proofs.TextBytes.{string_reads_front}
+use Rattle.multibyte_ints.specs.declared.text.{StringReader.StringReader, StringStep.StringStep}
+use Rattle.multibyte_ints.specs.Text.{bad_int, bad_utf8, string_at, too_long}
+use Rattle.multibyte_ints.specs.TextReader.{StringAnswersAt, StringStandsFor}
+use Rattle.nmf_records.specs.{declared.stage.TextRecord.TextRecord, Steps.progress_of}
 use Rattle.nmf_records.specs.Advancing.{TextAnswers}
+use Rattle.multibyte_ints.specs.declared.text.StringStep.TheVariants as steps
 
 -- what a reader of strings answers is what its bytes led to
 pub text_answers : (limit : ℕ) (text : TextRecord) (q piece : List ℕ) (n : ℕ) (step : StringStep)

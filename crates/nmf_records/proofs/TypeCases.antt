@@ -1,27 +1,23 @@
 -- What is read behind a type byte, case by case: one case for each type that has a frame, and one
 -- for the others.
-use Rattle.std.proofs.Common.{◌≡◌, ℕ, ◌≤◌, true, false, List, ◌∷◌, refl, sym, ap, ◌∙◌, inl, inr}
-use Rattle.std.proofs.Common.{arith}
-use Rattle.std.specs.Prelude.{◌==◌, ◌||◌, Some, is_none}
-use Rattle.std.proofs.lemmas.Bool.{cond_both, eqb-true, eqb-false, cases_Bool, or_parts}
+use Rattle.std.proofs.Common.{◌≡◌, ℕ, ◌≤◌, true, false, ◌||◌, List, ◌∷◌, is_none, ◌==◌, Some, sym}
+use Rattle.std.proofs.Common.{refl, ap, ◌∙◌, inl, inr, arith, eqb-true}
+use Rattle.std.proofs.lemmas.Bool.{cases_Bool, cond_both, eqb-false, or_parts}
 use Rattle.unit_streams.specs.Front.{Front, wrong}
-use Rattle.nmf_records.specs.declared.record_types.TheConstants.{VERSION, MODE, VIA, KNOWN_ENCODING}
-use Rattle.nmf_records.specs.declared.record_types.TheConstants.{EXTENSIBLE_ENCODING}
-use Rattle.nmf_records.specs.declared.record_types.TheConstants.{UNSIZED_ENVELOPE, SIZED_ENVELOPE}
-use Rattle.nmf_records.specs.declared.record_types.TheConstants.{END, FAULT, UPGRADE_REQUEST}
-use Rattle.nmf_records.specs.declared.record_types.TheConstants.{UPGRADE_RESPONSE, PREAMBLE_ACK}
-use Rattle.nmf_records.specs.declared.record_types.TheConstants.{PREAMBLE_END, GREATEST}
-use Rattle.nmf_records.specs.declared.frame.Frame.{Frame}
-use Rattle.nmf_records.specs.declared.frame.Frame.TheVariants as frames
-use Rattle.nmf_records.specs.declared.frame.Expect.{Expect}
-use Rattle.nmf_records.specs.declared.frame.Expect.TheVariants.{Types, Chunk}
-use Rattle.nmf_records.specs.declared.frame.FrameFault.{FrameFault}
-use Rattle.nmf_records.specs.declared.frame.FrameFault.TheVariants as faults
-use Rattle.nmf_records.specs.Records.{Read, type_of}
-use Rattle.nmf_records.specs.RecordFronts.{size_at, text_frame_at, version_at, byte_at, lone}
-use Rattle.nmf_records.specs.RecordFronts.{typed_at, allows, allows_type, MayCome, frame_at}
-use Rattle.nmf_records.specs.Laws.{has_no_frame}
+use Rattle.nmf_records.specs.declared.frame.Expect.{Expect, TheVariants.Chunk, TheVariants.Types}
+use Rattle.nmf_records.specs.declared.frame.{Frame.Frame, FrameFault.FrameFault}
+use Rattle.nmf_records.specs.declared.record_types.TheConstants.{END, EXTENSIBLE_ENCODING, FAULT}
+use Rattle.nmf_records.specs.declared.record_types.TheConstants.{GREATEST, KNOWN_ENCODING, MODE}
+use Rattle.nmf_records.specs.declared.record_types.TheConstants.{PREAMBLE_ACK, PREAMBLE_END}
+use Rattle.nmf_records.specs.declared.record_types.TheConstants.{SIZED_ENVELOPE, UNSIZED_ENVELOPE}
+use Rattle.nmf_records.specs.declared.record_types.TheConstants.{UPGRADE_REQUEST, UPGRADE_RESPONSE}
+use Rattle.nmf_records.specs.declared.record_types.TheConstants.{VERSION, VIA}
+use Rattle.nmf_records.specs.{Laws.has_no_frame, Records.Read, Records.type_of}
+use Rattle.nmf_records.specs.RecordFronts.{allows, allows_type, byte_at, frame_at, lone, MayCome}
+use Rattle.nmf_records.specs.RecordFronts.{size_at, text_frame_at, typed_at, version_at}
 use Rattle.nmf_records.proofs.Typed.{allowed_reads}
+use Rattle.nmf_records.specs.declared.frame.Frame.TheVariants as frames
+use Rattle.nmf_records.specs.declared.frame.FrameFault.TheVariants as faults
 
 -- P holds of what each type byte leads to
 pub record ByType (limit kind : ℕ) (bytes : List ℕ) (P : Front Read FrameFault → Type 0) : Type 0

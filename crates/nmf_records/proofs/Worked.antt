@@ -1,21 +1,18 @@
 -- The definitions on literals: each record, a preamble's records in their places, and each fault.
-use Rattle.std.proofs.Common.{◌≡◌, ◌∷◌, [], ◌++◌, ◌+◌, ◌^◌, ℕ, List, map, refl}
-use Rattle.std.specs.Prelude.{codes}
+use Rattle.std.proofs.Common.{◌≡◌, ℕ, ◌+◌, ◌^◌, List, [], ◌∷◌, ◌++◌, map, codes, refl}
+use Rattle.std.specs.Str.{chars, is_utf8}
 use lib.Utf8.{encode}
-use Rattle.std.specs.Str.{is_utf8, chars}
-use Rattle.unit_streams.specs.Front.{Front, begun, whole, wrong}
+use Rattle.unit_streams.specs.Front.{begun, Front, whole, wrong}
 use Rattle.multibyte_ints.specs.Integer.{int_at, int_ending_at, value_of}
-use Rattle.multibyte_ints.specs.Text.{string_at, text_behind, text_at, text_ending_at}
-use Rattle.nmf_records.specs.declared.frame.Frame.TheVariants.{Version, Mode, Via, KnownEncoding}
-use Rattle.nmf_records.specs.declared.frame.Frame.TheVariants.{UnsizedEnvelope, Chunk}
-use Rattle.nmf_records.specs.declared.frame.Frame.TheVariants.{SizedEnvelope, End, Fault}
-use Rattle.nmf_records.specs.declared.frame.Frame.TheVariants.{PreambleAck, PreambleEnd}
-use Rattle.nmf_records.specs.declared.frame.Expect.{Expect}
+use Rattle.multibyte_ints.specs.Text.{string_at, text_at, text_behind, text_ending_at}
+use Rattle.nmf_records.specs.declared.frame.{Expect.Expect, FrameFault.FrameFault}
+use Rattle.nmf_records.specs.declared.frame.Frame.TheVariants.{Chunk, End, Fault, KnownEncoding}
+use Rattle.nmf_records.specs.declared.frame.Frame.TheVariants.{Mode, PreambleAck, PreambleEnd}
+use Rattle.nmf_records.specs.declared.frame.Frame.TheVariants.{SizedEnvelope, UnsizedEnvelope}
+use Rattle.nmf_records.specs.declared.frame.Frame.TheVariants.{Version, Via}
+use Rattle.nmf_records.specs.{RecordFronts.bare, RecordFronts.frame_at, Records.Read}
 use Rattle.nmf_records.specs.declared.frame.Expect.TheVariants as expects
-use Rattle.nmf_records.specs.declared.frame.FrameFault.{FrameFault}
 use Rattle.nmf_records.specs.declared.frame.FrameFault.TheVariants as faults
-use Rattle.nmf_records.specs.Records.{Read}
-use Rattle.nmf_records.specs.RecordFronts.{bare, frame_at}
 
 -- a record of this type may come, or one with a text
 abbrev due : ℕ → Expect

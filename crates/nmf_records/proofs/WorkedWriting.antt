@@ -1,17 +1,14 @@
 -- Records as they are written, and the texts of faults, by computation.
-use Rattle.std.proofs.Common.{◌≡◌, ℕ, List, [], ◌∷◌, map, Option, Some, None, refl}
-use Rattle.std.specs.Prelude.{codes}
-use Rattle.multibyte_ints.specs.Integer.{shortest, shortest_within}
-use Rattle.multibyte_ints.specs.Text.{string_bytes_of}
+use Rattle.std.proofs.Common.{◌≡◌, ℕ, List, [], ◌∷◌, map, Some, None, codes, Option, refl}
+use Rattle.multibyte_ints.specs.{Integer.shortest, Integer.shortest_within, Text.string_bytes_of}
 use Rattle.nbfx_values.specs.declared.refusals.Reason.{Reason}
-use Rattle.nbfx_values.specs.declared.refusals.Reason.TheVariants as reasons
-use Rattle.nmf_records.specs.declared.frame.Frame.TheVariants.{Version, Mode, Via, KnownEncoding}
-use Rattle.nmf_records.specs.declared.frame.Frame.TheVariants.{UnsizedEnvelope, Chunk}
-use Rattle.nmf_records.specs.declared.frame.Frame.TheVariants.{SizedEnvelope, End, Fault}
-use Rattle.nmf_records.specs.declared.frame.Frame.TheVariants.{PreambleAck, PreambleEnd}
-use Rattle.nmf_records.specs.Records.{Read}
+use Rattle.nmf_records.specs.declared.frame.Frame.TheVariants.{Chunk, End, Fault, KnownEncoding}
+use Rattle.nmf_records.specs.declared.frame.Frame.TheVariants.{Mode, PreambleAck, PreambleEnd}
+use Rattle.nmf_records.specs.declared.frame.Frame.TheVariants.{SizedEnvelope, UnsizedEnvelope}
+use Rattle.nmf_records.specs.declared.frame.Frame.TheVariants.{Version, Via}
 use Rattle.nmf_records.specs.RecordFronts.{bare, with_text}
-use Rattle.nmf_records.specs.Writing.{fault_text_of, frame_bytes}
+use Rattle.nmf_records.specs.{Records.Read, Writing.fault_text_of, Writing.frame_bytes}
+use Rattle.nbfx_values.specs.declared.refusals.Reason.TheVariants as reasons
 
 -- a record and its bytes
 abbrev Row : Type 0

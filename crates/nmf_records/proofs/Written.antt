@@ -1,18 +1,13 @@
 -- What is written is the record, and is read back as it.
 use Rattle.std.proofs.Common.{◌≡◌, ℕ, ◌+◌, ◌^◌, ◌<◌, List, ◌∷◌, ◌++◌, length, take, refl, ap, ◌∙◌}
-use Rattle.std.proofs.Common.{arith, append_assoc}
-use Rattle.std.proofs.lemmas.List.{take_at}
-use Rattle.multibyte_ints.specs.Integer.{shortest}
-use Rattle.multibyte_ints.specs.Text.{string_bytes_of}
-use Rattle.multibyte_ints.proofs.ShortestLaws.{shortest_spells}
-use Rattle.multibyte_ints.proofs.TextLaws.{string_bytes_are}
-use Rattle.nmf_records.specs.declared.frame.Frame.{Frame}
+use Rattle.std.proofs.Common.{append_assoc, arith, take_at}
+use Rattle.multibyte_ints.proofs.{ShortestLaws.shortest_spells, TextLaws.string_bytes_are}
+use Rattle.multibyte_ints.specs.{Integer.shortest, Text.string_bytes_of}
+use Rattle.nmf_records.specs.{declared.frame.Frame.Frame, Records.IsRecordOf}
+use Rattle.nmf_records.specs.Writing.{frame_bytes, frame_bytes_of, HasItsText, size_told}
+use Rattle.nmf_records.specs.Writing.{text_frame_bytes, WrittenAreRead, WrittenAreRecords}
+use Rattle.nmf_records.proofs.{Frames.frames_front, Records.record_read}
 use Rattle.nmf_records.specs.declared.frame.Frame.TheVariants as frames
-use Rattle.nmf_records.specs.Records.{IsRecordOf}
-use Rattle.nmf_records.specs.Writing.{HasItsText, WrittenAreRead, WrittenAreRecords, frame_bytes}
-use Rattle.nmf_records.specs.Writing.{frame_bytes_of, size_told, text_frame_bytes}
-use Rattle.nmf_records.proofs.Frames.{frames_front}
-use Rattle.nmf_records.proofs.Records.{record_read}
 
 written_of : (frame : Frame) (text : List ℕ) → size_told frame < 2 ^ 31 → HasItsText frame text
     → IsRecordOf frame text (frame_bytes_of frame text)

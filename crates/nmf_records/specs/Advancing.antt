@@ -2,25 +2,19 @@
 -- then.
 use Rattle.std.specs.Prelude.{◌≡◌, ℕ, ◌<◌, List, [], length, Some}
 use Rattle.unit_streams.specs.Front.{begun, whole, wrong}
-use Rattle.multibyte_ints.specs.declared.integer.IntReader.{IntReader}
+use Rattle.multibyte_ints.specs.{declared.integer.IntReader.IntReader, Integer.int_at}
 use Rattle.multibyte_ints.specs.declared.text.StringReader.{StringReader}
-use Rattle.multibyte_ints.specs.Integer.{int_at}
-use Rattle.multibyte_ints.specs.Text.{StringFault, string_at}
-use Rattle.multibyte_ints.specs.Reader.{StandsFor as IntStandsFor}
-use Rattle.multibyte_ints.specs.TextReader.{StringStandsFor}
-use Rattle.nmf_records.specs.declared.frame.Expect.{Expect}
+use Rattle.multibyte_ints.specs.{Reader.StandsFor as IntStandsFor, TextReader.StringStandsFor}
+use Rattle.multibyte_ints.specs.Text.{string_at, StringFault}
+use Rattle.nmf_records.specs.declared.{frame.Expect.Expect, reader.FrameReader.FrameReader}
+use Rattle.nmf_records.specs.declared.stage.{Progress.Progress, Stage.Stage}
+use Rattle.nmf_records.specs.declared.stage.{SizeRecord.SizeRecord, TextRecord.TextRecord}
+use Rattle.nmf_records.specs.Reader.{failure_of, HasShape, HoldsText, pending_of, size_bytes}
+use Rattle.nmf_records.specs.{Reader.StandsFor, Steps.sized, Steps.texted}
+use Rattle.nmf_records.specs.RecordFronts.{fault_of, frame_at, with_text}
 use Rattle.nmf_records.specs.declared.frame.FrameFault.TheVariants as faults
-use Rattle.nmf_records.specs.declared.stage.TextRecord.{TextRecord}
-use Rattle.nmf_records.specs.declared.stage.SizeRecord.{SizeRecord}
-use Rattle.nmf_records.specs.declared.stage.Stage.{Stage}
 use Rattle.nmf_records.specs.declared.stage.Stage.TheVariants as stages
-use Rattle.nmf_records.specs.declared.stage.Progress.{Progress}
 use Rattle.nmf_records.specs.declared.stage.Progress.TheVariants as progress
-use Rattle.nmf_records.specs.declared.reader.FrameReader.{FrameReader}
-use Rattle.nmf_records.specs.RecordFronts.{with_text, fault_of, frame_at}
-use Rattle.nmf_records.specs.Steps.{sized, texted}
-use Rattle.nmf_records.specs.Reader.{StandsFor, HoldsText, pending_of, failure_of, HasShape}
-use Rattle.nmf_records.specs.Reader.{size_bytes}
 
 -- at this stage a reader takes one byte
 abbrev pub ReadsBytes : Stage → Type 0

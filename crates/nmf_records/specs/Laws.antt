@@ -1,24 +1,19 @@
 -- What holds of records by their definitions alone, whatever bytes they are read from.
-use Rattle.std.specs.Prelude.{◌≡◌, ℕ, ◌+◌, ◌<◌, ◌≤◌, ◌↔◌, ◌⊎◌, List, [], ◌∷◌, ◌++◌, length, take}
-use Rattle.std.specs.Prelude.{drop, Bool, true, false, ◌==◌, ◌||◌, IsUtf8}
+use Rattle.std.specs.Prelude.{◌≡◌, ℕ, ◌+◌, ◌<◌, ◌≤◌, Bool, true, false, ◌||◌, ◌⊎◌, ◌↔◌, List, []}
+use Rattle.std.specs.Prelude.{◌∷◌, ◌++◌, length, take, drop, ◌==◌, IsUtf8}
 use Rattle.unit_streams.specs.Front.{begun, whole, wrong}
-use Rattle.multibyte_ints.specs.Integer.{Spells}
-use Rattle.multibyte_ints.specs.Laws.{FifthIsAbove}
-use Rattle.nmf_records.specs.declared.record_types.TheConstants.{VIA, EXTENSIBLE_ENCODING}
-use Rattle.nmf_records.specs.declared.record_types.TheConstants.{SIZED_ENVELOPE, FAULT}
-use Rattle.nmf_records.specs.declared.record_types.TheConstants.{UPGRADE_REQUEST, UPGRADE_RESPONSE}
-use Rattle.nmf_records.specs.declared.record_types.TheConstants.{GREATEST}
-use Rattle.nmf_records.specs.declared.frame.Expect.{Expect}
-use Rattle.nmf_records.specs.declared.frame.Expect.TheVariants.{Types, Chunk}
-use Rattle.nmf_records.specs.declared.frame.FrameFault.{FrameFault}
-use Rattle.nmf_records.specs.declared.frame.FrameFault.TheVariants as faults
-use Rattle.nmf_records.specs.Records.{Read, IsRecord}
-use Rattle.nmf_records.specs.RecordFronts.{allows, MayCome, frame_at, begins_text}
+use Rattle.multibyte_ints.specs.{Integer.Spells, Laws.FifthIsAbove}
 use Rattle.nbfx_values.specs.declared.session.Mode.{Mode}
-use Rattle.nmf_records.specs.declared.frame.Frame.{Frame}
-use Rattle.nmf_records.specs.declared.script.Direction.{Direction}
-use Rattle.nmf_records.specs.declared.script.Direction.TheVariants.{FromReceiver}
-use Rattle.nmf_records.specs.Script.{IsScript, IsLoneAck, LeadsToEnd}
+use Rattle.nmf_records.specs.declared.frame.Expect.{Expect, TheVariants.Chunk, TheVariants.Types}
+use Rattle.nmf_records.specs.declared.frame.{Frame.Frame, FrameFault.FrameFault}
+use Rattle.nmf_records.specs.declared.record_types.TheConstants.{EXTENSIBLE_ENCODING, FAULT, VIA}
+use Rattle.nmf_records.specs.declared.record_types.TheConstants.{GREATEST, SIZED_ENVELOPE}
+use Rattle.nmf_records.specs.declared.record_types.TheConstants.{UPGRADE_REQUEST, UPGRADE_RESPONSE}
+use Rattle.nmf_records.specs.declared.script.Direction.{Direction, TheVariants.FromReceiver}
+use Rattle.nmf_records.specs.RecordFronts.{allows, begins_text, frame_at, MayCome}
+use Rattle.nmf_records.specs.Records.{IsRecord, Read}
+use Rattle.nmf_records.specs.Script.{IsLoneAck, IsScript, LeadsToEnd}
+use Rattle.nmf_records.specs.declared.frame.FrameFault.TheVariants as faults
 
 -- the record at the front is the one that bytes there are, where it may come with its text
 abbrev pub RecordsAreRead : Type 0

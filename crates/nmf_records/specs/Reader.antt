@@ -1,30 +1,25 @@
 -- What a reader of records stands for, and what it answers. It keeps of the bytes that it used no
 -- more than a text.
-use Rattle.std.specs.Prelude.{◌≡◌, ℕ, ◌+◌, List, [], ◌∷◌, ◌++◌, length, drop, if◌then◌else◌, Option}
-use Rattle.std.specs.Prelude.{Some, None, Result, Ok, Err}
-use Rattle.unit_streams.specs.Front.{Front, begun, whole, wrong}
-use Rattle.multibyte_ints.specs.declared.text.StringReader.{StringReader}
-use Rattle.multibyte_ints.specs.Text.{string_at}
+use Rattle.std.specs.Prelude.{◌≡◌, ℕ, ◌+◌, List, [], ◌∷◌, ◌++◌, length, drop, if◌then◌else◌, Some}
+use Rattle.std.specs.Prelude.{None, Ok, Err, Option, Result}
+use Rattle.unit_streams.specs.Front.{begun, Front, whole, wrong}
+use Rattle.multibyte_ints.specs.{declared.text.StringReader.StringReader, Text.string_at}
 use Rattle.multibyte_ints.specs.Reader.{StandsFor as IntStandsFor}
-use Rattle.multibyte_ints.specs.TextReader.{StringStandsFor, text_of, limit_of as text_limit_of}
-use Rattle.multibyte_ints.specs.TextReader.{held_of as text_held_of}
-use Rattle.nmf_records.specs.declared.record_types.TheConstants.{VERSION, MODE, VIA, KNOWN_ENCODING}
-use Rattle.nmf_records.specs.declared.record_types.TheConstants.{SIZED_ENVELOPE, FAULT}
-use Rattle.nmf_records.specs.declared.frame.Expect.{Expect}
+use Rattle.multibyte_ints.specs.TextReader.{held_of as text_held_of, limit_of as text_limit_of}
+use Rattle.multibyte_ints.specs.TextReader.{StringStandsFor, text_of}
+use Rattle.nmf_records.specs.declared.frame.{Expect.Expect, FrameFault.FrameFault}
+use Rattle.nmf_records.specs.declared.frame.{FrameRefusal.FrameRefusal, FrameStep.FrameStep}
+use Rattle.nmf_records.specs.declared.frame.FrameStep.TheVariants.{Done, More}
+use Rattle.nmf_records.specs.{declared.reader.FrameReader.FrameReader, Records.Read}
+use Rattle.nmf_records.specs.declared.record_types.TheConstants.{FAULT, KNOWN_ENCODING, MODE}
+use Rattle.nmf_records.specs.declared.record_types.TheConstants.{SIZED_ENVELOPE, VERSION, VIA}
+use Rattle.nmf_records.specs.declared.stage.{Stage.Stage, TextRecord.TextRecord}
+use Rattle.nmf_records.specs.RecordFronts.{begins_text, frame_at, with_text}
 use Rattle.nmf_records.specs.declared.frame.Expect.TheVariants as expects
-use Rattle.nmf_records.specs.declared.frame.FrameStep.{FrameStep}
-use Rattle.nmf_records.specs.declared.frame.FrameStep.TheVariants.{More, Done}
-use Rattle.nmf_records.specs.declared.frame.FrameFault.{FrameFault}
-use Rattle.nmf_records.specs.declared.frame.FrameRefusal.{FrameRefusal}
-use Rattle.nmf_records.specs.declared.stage.TextRecord.{TextRecord}
 use Rattle.nmf_records.specs.declared.stage.TextRecord.TheVariants as texts
 use Rattle.nmf_records.specs.declared.stage.SizeRecord.TheVariants as sizes
 use Rattle.nmf_records.specs.declared.stage.Field.TheVariants as fields
-use Rattle.nmf_records.specs.declared.stage.Stage.{Stage}
 use Rattle.nmf_records.specs.declared.stage.Stage.TheVariants as stages
-use Rattle.nmf_records.specs.declared.reader.FrameReader.{FrameReader}
-use Rattle.nmf_records.specs.Records.{Read}
-use Rattle.nmf_records.specs.RecordFronts.{with_text, frame_at, begins_text}
 
 -- the greatest length of a text that the reader takes
 unfoldable pub limit_of : FrameReader → ℕ

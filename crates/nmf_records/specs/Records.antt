@@ -1,16 +1,14 @@
 -- The framing records of MC-NMF: the type of each, and what its bytes are.
-use Rattle.std.specs.Prelude.{◌≡◌, ℕ, List, [], ◌∷◌, Option, Some, None}
-use Rattle.multibyte_ints.specs.Integer.{Spells}
-use Rattle.multibyte_ints.specs.Text.{IsString}
-use Rattle.nmf_records.specs.declared.record_types.TheConstants.{VERSION, MODE, VIA, KNOWN_ENCODING}
-use Rattle.nmf_records.specs.declared.record_types.TheConstants.{UNSIZED_ENVELOPE, SIZED_ENVELOPE}
-use Rattle.nmf_records.specs.declared.record_types.TheConstants.{END, FAULT, PREAMBLE_ACK}
-use Rattle.nmf_records.specs.declared.record_types.TheConstants.{PREAMBLE_END}
-use Rattle.nmf_records.specs.declared.frame.Frame.{Frame}
-use Rattle.nmf_records.specs.declared.frame.Frame.TheVariants.{Version, Mode, Via, KnownEncoding}
-use Rattle.nmf_records.specs.declared.frame.Frame.TheVariants.{UnsizedEnvelope, Chunk}
-use Rattle.nmf_records.specs.declared.frame.Frame.TheVariants.{SizedEnvelope, End, Fault}
-use Rattle.nmf_records.specs.declared.frame.Frame.TheVariants.{PreambleAck, PreambleEnd}
+use Rattle.std.specs.Prelude.{◌≡◌, ℕ, List, [], ◌∷◌, Some, None, Option}
+use Rattle.multibyte_ints.specs.{Integer.Spells, Text.IsString}
+use Rattle.nmf_records.specs.declared.frame.Frame.{Frame, TheVariants.Version, TheVariants.Via}
+use Rattle.nmf_records.specs.declared.frame.Frame.TheVariants.{Chunk, End, Fault, KnownEncoding}
+use Rattle.nmf_records.specs.declared.frame.Frame.TheVariants.{Mode, PreambleAck, PreambleEnd}
+use Rattle.nmf_records.specs.declared.frame.Frame.TheVariants.{SizedEnvelope, UnsizedEnvelope}
+use Rattle.nmf_records.specs.declared.record_types.TheConstants.{END, FAULT, KNOWN_ENCODING, MODE}
+use Rattle.nmf_records.specs.declared.record_types.TheConstants.{PREAMBLE_ACK, PREAMBLE_END}
+use Rattle.nmf_records.specs.declared.record_types.TheConstants.{SIZED_ENVELOPE, UNSIZED_ENVELOPE}
+use Rattle.nmf_records.specs.declared.record_types.TheConstants.{VERSION, VIA}
 
 -- the type of a record; a chunk's size has none
 abbrev pub type_of : Frame → Option ℕ

@@ -2,25 +2,21 @@
 -- record leads, and the same as a grammar on lists of records and chunks' sizes. What a reader
 -- refuses in a record, such as another version, is no matter of it, but that the Mode record names
 -- the mode.
-use Rattle.std.specs.Prelude.{◌≡◌, ℕ, ◌+◌, ◌^◌, ◌<◌, ◌⊎◌, List, [], ◌∷◌, ◌++◌, map, All, Bool, true}
-use Rattle.std.specs.Prelude.{false, ◌==◌, if◌then◌else◌, bit_or, IsSome}
-use Rattle.nbfx_values.specs.declared.session.Mode.{Mode}
-use Rattle.nbfx_values.specs.declared.session.Mode.TheVariants.{Singleton, Duplex, Simplex}
-use Rattle.nbfx_values.specs.Session.{mode_number}
-use Rattle.nmf_records.specs.declared.record_types.TheConstants.{VERSION, MODE, VIA, KNOWN_ENCODING}
-use Rattle.nmf_records.specs.declared.record_types.TheConstants.{UNSIZED_ENVELOPE, SIZED_ENVELOPE}
-use Rattle.nmf_records.specs.declared.record_types.TheConstants.{END, FAULT, PREAMBLE_ACK}
-use Rattle.nmf_records.specs.declared.record_types.TheConstants.{PREAMBLE_END}
-use Rattle.nmf_records.specs.declared.frame.Frame.{Frame}
-use Rattle.nmf_records.specs.declared.frame.Frame.TheVariants as frames
-use Rattle.nmf_records.specs.declared.frame.Expect.{Expect}
-use Rattle.nmf_records.specs.declared.frame.Expect.TheVariants as expects
-use Rattle.nmf_records.specs.declared.script.Direction.{Direction}
+use Rattle.std.specs.Prelude.{◌≡◌, ℕ, ◌+◌, ◌^◌, ◌<◌, Bool, true, false, ◌⊎◌, List, [], ◌∷◌, ◌++◌}
+use Rattle.std.specs.Prelude.{map, if◌then◌else◌, IsSome, ◌==◌, bit_or, All}
+use Rattle.nbfx_values.specs.{declared.session.Mode.Mode, Session.mode_number}
+use Rattle.nbfx_values.specs.declared.session.Mode.TheVariants.{Duplex, Simplex, Singleton}
+use Rattle.nmf_records.specs.declared.frame.{Expect.Expect, Frame.Frame}
+use Rattle.nmf_records.specs.declared.record_types.TheConstants.{END, FAULT, KNOWN_ENCODING, MODE}
+use Rattle.nmf_records.specs.declared.record_types.TheConstants.{PREAMBLE_ACK, PREAMBLE_END}
+use Rattle.nmf_records.specs.declared.record_types.TheConstants.{SIZED_ENVELOPE, UNSIZED_ENVELOPE}
+use Rattle.nmf_records.specs.declared.record_types.TheConstants.{VERSION, VIA}
+use Rattle.nmf_records.specs.declared.script.{Direction.Direction, Due.Due}
 use Rattle.nmf_records.specs.declared.script.Direction.TheVariants.{FromInitiator, FromReceiver}
-use Rattle.nmf_records.specs.declared.script.Due.{Due}
+use Rattle.nmf_records.specs.{RecordFronts.MayCome, Records.type_of}
+use Rattle.nmf_records.specs.declared.frame.Frame.TheVariants as frames
+use Rattle.nmf_records.specs.declared.frame.Expect.TheVariants as expects
 use Rattle.nmf_records.specs.declared.script.Due.TheVariants as dues
-use Rattle.nmf_records.specs.Records.{type_of}
-use Rattle.nmf_records.specs.RecordFronts.{MayCome}
 
 -- what a stream begins with
 abbrev pub first : Direction → Due

@@ -1,24 +1,19 @@
 -- What the steps of a reader say of the bytes so far, from stage to stage.
-use Rattle.std.specs.Prelude.{◌≡◌, ℕ, List, [], drop, Bool, true, false}
-use Rattle.nmf_records.specs.RecordFronts.{with_text}
-use Rattle.unit_streams.specs.Front.{Front, begun, whole, wrong}
-use Rattle.nmf_records.specs.declared.frame.Frame.{Frame}
-use Rattle.nmf_records.specs.declared.frame.Frame.TheVariants as frames
-use Rattle.nmf_records.specs.declared.frame.Expect.{Expect}
-use Rattle.nmf_records.specs.declared.frame.FrameFault.{FrameFault}
-use Rattle.nmf_records.specs.declared.frame.FrameFault.TheVariants as faults
+use Rattle.std.specs.Prelude.{◌≡◌, ℕ, Bool, true, false, List, [], drop}
+use Rattle.unit_streams.specs.Front.{begun, Front, whole, wrong}
 use Rattle.multibyte_ints.specs.declared.text.StringStep.{StringStep}
-use Rattle.multibyte_ints.specs.declared.text.StringStep.TheVariants as steps
-use Rattle.nmf_records.specs.declared.stage.TextRecord.{TextRecord}
-use Rattle.nmf_records.specs.declared.stage.TextRecord.TheVariants as texts
-use Rattle.nmf_records.specs.declared.stage.SizeRecord.{SizeRecord}
-use Rattle.nmf_records.specs.declared.stage.SizeRecord.TheVariants as sizes
-use Rattle.nmf_records.specs.declared.stage.Stage.{Stage}
-use Rattle.nmf_records.specs.declared.stage.Stage.TheVariants as stages
-use Rattle.nmf_records.specs.declared.stage.Progress.{Progress}
-use Rattle.nmf_records.specs.declared.stage.Progress.TheVariants.{Going, Done, Wrong}
-use Rattle.nmf_records.specs.Records.{Read}
+use Rattle.nmf_records.specs.declared.frame.{Expect.Expect, Frame.Frame, FrameFault.FrameFault}
+use Rattle.nmf_records.specs.declared.stage.{Progress.Progress, Stage.Stage}
+use Rattle.nmf_records.specs.declared.stage.Progress.TheVariants.{Done, Going, Wrong}
+use Rattle.nmf_records.specs.declared.stage.{SizeRecord.SizeRecord, TextRecord.TextRecord}
 use Rattle.nmf_records.specs.Reader.{HasShape, size_bytes}
+use Rattle.nmf_records.specs.{RecordFronts.with_text, Records.Read}
+use Rattle.nmf_records.specs.declared.frame.Frame.TheVariants as frames
+use Rattle.nmf_records.specs.declared.frame.FrameFault.TheVariants as faults
+use Rattle.multibyte_ints.specs.declared.text.StringStep.TheVariants as steps
+use Rattle.nmf_records.specs.declared.stage.TextRecord.TheVariants as texts
+use Rattle.nmf_records.specs.declared.stage.SizeRecord.TheVariants as sizes
+use Rattle.nmf_records.specs.declared.stage.Stage.TheVariants as stages
 
 -- what ends with this size
 abbrev pub sized : SizeRecord → ℕ → Frame

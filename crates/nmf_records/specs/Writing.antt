@@ -1,25 +1,20 @@
 -- Framing records as they are written: with the shortest spelling of each size and length. And the
 -- texts of the faults that a receiver sends.
-use Rattle.std.specs.Prelude.{◌≡◌, ℕ, ◌^◌, ◌<◌, ◌≤◌, List, [], ◌∷◌, ◌++◌, length, Bool, true, false}
-use Rattle.std.specs.Prelude.{Option, Some, None, codes, IsUtf8}
-use Rattle.std.specs.Option.{option_map}
-use Rattle.unit_streams.specs.Front.{whole}
-use Rattle.multibyte_ints.specs.Integer.{shortest}
-use Rattle.multibyte_ints.specs.Text.{string_bytes_of}
-use Rattle.nbfx_values.specs.declared.refusals.Reason.{Reason}
+use Rattle.std.specs.Prelude.{◌≡◌, ℕ, ◌^◌, ◌<◌, ◌≤◌, Bool, true, false, List, [], ◌∷◌, ◌++◌, length}
+use Rattle.std.specs.Prelude.{Some, None, codes, IsUtf8, Option, option_map}
+use Rattle.{unit_streams.specs.Front.whole, nbfx_values.specs.declared.refusals.Reason.Reason}
+use Rattle.multibyte_ints.specs.{Integer.shortest, Text.string_bytes_of}
+use Rattle.nmf_records.specs.{declared.frame.Expect.Expect, Records.IsRecord, Records.Read}
+use Rattle.nmf_records.specs.declared.frame.Frame.{Frame, TheVariants.Version, TheVariants.Via}
+use Rattle.nmf_records.specs.declared.frame.Frame.TheVariants.{Chunk, End, Fault, KnownEncoding}
+use Rattle.nmf_records.specs.declared.frame.Frame.TheVariants.{Mode, PreambleAck, PreambleEnd}
+use Rattle.nmf_records.specs.declared.frame.Frame.TheVariants.{SizedEnvelope, UnsizedEnvelope}
+use Rattle.nmf_records.specs.declared.record_types.TheConstants.{END, FAULT, KNOWN_ENCODING, MODE}
+use Rattle.nmf_records.specs.declared.record_types.TheConstants.{PREAMBLE_ACK, PREAMBLE_END}
+use Rattle.nmf_records.specs.declared.record_types.TheConstants.{SIZED_ENVELOPE, UNSIZED_ENVELOPE}
+use Rattle.nmf_records.specs.declared.record_types.TheConstants.{VERSION, VIA}
+use Rattle.nmf_records.specs.RecordFronts.{frame_at, MayCome}
 use Rattle.nbfx_values.specs.declared.refusals.Reason.TheVariants as reasons
-use Rattle.nmf_records.specs.declared.record_types.TheConstants.{VERSION, MODE, VIA, KNOWN_ENCODING}
-use Rattle.nmf_records.specs.declared.record_types.TheConstants.{UNSIZED_ENVELOPE, SIZED_ENVELOPE}
-use Rattle.nmf_records.specs.declared.record_types.TheConstants.{END, FAULT, PREAMBLE_ACK}
-use Rattle.nmf_records.specs.declared.record_types.TheConstants.{PREAMBLE_END}
-use Rattle.nmf_records.specs.declared.frame.Frame.{Frame}
-use Rattle.nmf_records.specs.declared.frame.Frame.TheVariants.{Version, Mode, Via, KnownEncoding}
-use Rattle.nmf_records.specs.declared.frame.Frame.TheVariants.{UnsizedEnvelope, Chunk}
-use Rattle.nmf_records.specs.declared.frame.Frame.TheVariants.{SizedEnvelope, End, Fault}
-use Rattle.nmf_records.specs.declared.frame.Frame.TheVariants.{PreambleAck, PreambleEnd}
-use Rattle.nmf_records.specs.declared.frame.Expect.{Expect}
-use Rattle.nmf_records.specs.Records.{Read, IsRecord}
-use Rattle.nmf_records.specs.RecordFronts.{MayCome, frame_at}
 
 -- a record of a text, of this type
 abbrev pub text_frame_bytes : ℕ → List ℕ → List ℕ

@@ -1,17 +1,15 @@
 -- What a receiver owes.
-use Rattle.std.proofs.Common.{◌≡◌, ℕ, List, Option, Some, None, Result, Ok, Err, refl, sym, ap, ◌∙◌}
-use Rattle.std.specs.Prelude.{◌++◌, take, IfOk, IfErr}
-use Rattle.stream_reader.specs.declared.reader.ReadRefusal.{ReadRefusal}
-use Rattle.stream_reader.specs.StreamReaderState as reader_standing
+use Rattle.std.proofs.Common.{◌≡◌, ℕ, List, ◌++◌, take, IfOk, IfErr, Some, None, Ok, Err, Option}
+use Rattle.std.proofs.Common.{Result, sym, refl, ap, ◌∙◌}
+use Rattle.stream_reader.proofs.ReaderFacts.{failure_as, not_failed}
+use Rattle.stream_reader.specs.declared.reader.{ReadRefusal.ReadRefusal, StreamStep.StreamStep}
 use Rattle.stream_reader.specs.declared.reader.StreamReader.{StreamReader}
-use Rattle.stream_reader.specs.declared.reader.StreamStep.{StreamStep}
-use Rattle.stream_reader.specs.declared.reader.StreamStep.TheVariants as steps
-use Rattle.receiver_machine.specs.declared.owed.Owed.{Owed}
-use Rattle.receiver_machine.specs.declared.receiver.Receiver.{Receiver}
+use Rattle.receiver_machine.specs.declared.{owed.Owed.Owed, receiver.Receiver.Receiver}
 use Rattle.receiver_machine.specs.Owed.{after_answer, after_step, bytes_of, owed_after, owed_behind}
 use Rattle.receiver_machine.specs.Owed.{owed_for}
-use Rattle.stream_reader.proofs.ReaderFacts.{failure_as, not_failed}
-use Rattle.receiver_machine.specs.ReceiverState.{StandsFor, failure_of, owed_unless}
+use Rattle.receiver_machine.specs.ReceiverState.{failure_of, owed_unless, StandsFor}
+use Rattle.stream_reader.specs.StreamReaderState as reader_standing
+use Rattle.stream_reader.specs.declared.reader.StreamStep.TheVariants as steps
 
 -- a reader that stands hasn't failed
 pub unfailed : (r : StreamReader) (p : List ℕ) → reader_standing.StandsFor r p

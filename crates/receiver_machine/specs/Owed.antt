@@ -1,15 +1,13 @@
 -- What a receiver's framing answers with: a Preamble Ack to the preamble, an End to the session's
 -- end, and to an offence the Fault record of its text, where it has one.
-use Rattle.std.specs.Prelude.{ℕ, List, [], Option, Some, None, Result, Ok, Err, ⊤}
-use Rattle.nbfx_values.specs.declared.refusals.Offence.{Offence}
-use Rattle.nbfx_values.specs.declared.refusals.Reason.{Reason}
-use Rattle.nmf_records.specs.declared.frame.Frame.TheVariants.{PreambleAck, End, Fault}
-use Rattle.nmf_records.specs.Writing.{frame_bytes_of, fault_text_of}
-use Rattle.stream_reader.specs.declared.reader.ReadRefusal.{ReadRefusal}
-use Rattle.stream_reader.specs.declared.reader.ReadRefusal.TheVariants as refusals
-use Rattle.stream_reader.specs.declared.reader.StreamStep.{StreamStep}
-use Rattle.stream_reader.specs.declared.reader.StreamStep.TheVariants as steps
+use Rattle.std.specs.Prelude.{ℕ, List, [], Some, None, Ok, Err, Option, Result, ⊤}
+use Rattle.nbfx_values.specs.declared.refusals.{Offence.Offence, Reason.Reason}
+use Rattle.nmf_records.specs.declared.frame.Frame.TheVariants.{End, Fault, PreambleAck}
+use Rattle.nmf_records.specs.Writing.{fault_text_of, frame_bytes_of}
+use Rattle.stream_reader.specs.declared.reader.{ReadRefusal.ReadRefusal, StreamStep.StreamStep}
 use Rattle.receiver_machine.specs.declared.owed.Owed.{Owed}
+use Rattle.stream_reader.specs.declared.reader.ReadRefusal.TheVariants as refusals
+use Rattle.stream_reader.specs.declared.reader.StreamStep.TheVariants as steps
 use Rattle.receiver_machine.specs.declared.owed.Owed.TheVariants as owes
 
 -- the Fault record with this text

@@ -1,14 +1,12 @@
 -- What a receiver stands for, and what it shows: what its reader of streams does.
-use Rattle.std.specs.Prelude.{◌≡◌, ℕ, List, length, Option, Some, None}
+use Rattle.std.specs.Prelude.{◌≡◌, ℕ, List, length, Some, None, Option}
 use Rattle.unit_streams.specs.Judging.{Answer}
-use Rattle.nbfx_values.specs.Limits.{IsGood}
-use Rattle.nbfx_values.specs.declared.refusals.Offence.{Offence}
+use Rattle.nbfx_values.specs.{declared.refusals.Offence.Offence, Limits.IsGood}
 use Rattle.stream_reader.specs.declared.reader.ReadRefusal.{ReadRefusal}
-use Rattle.stream_reader.specs.StreamReaderState as reader
 use Rattle.stream_reader.specs.Stream.{Settings, StreamEvent}
-use Rattle.receiver_machine.specs.declared.owed.Owed.{Owed}
-use Rattle.receiver_machine.specs.declared.receiver.Receiver.{Receiver}
+use Rattle.receiver_machine.specs.declared.{owed.Owed.Owed, receiver.Receiver.Receiver}
 use Rattle.receiver_machine.specs.Owed.{bytes_of, owed_for}
+use Rattle.stream_reader.specs.StreamReaderState as reader
 
 -- what it is set to
 unfoldable pub settings_of : Receiver → Settings

@@ -8,4 +8,5 @@ pub mod PieceFacts
 pub mod CountFacts
 pub mod PairFacts
 pub mod OrderFacts
+pub mod CutFacts
 pub mod RunFacts

@@ -1,23 +1,18 @@
 -- How the order of positions goes on: by one more text, by runs that are joined, and by a cut.
-use Rattle.std.proofs.Common.{◌≡◌, ℕ, ◌+◌, ◌≤◌, ◌<◌, Bool, true, List, [], ◌∷◌, ◌++◌, length, take}
-use Rattle.std.proofs.Common.{drop, get_or, nat_lt, sym, ◌∙◌, subst, arith, inl, inr, length-append}
-use Rattle.std.proofs.Common.{length-drop}
-use Rattle.std.specs.Prelude.{◌↔◌}
-use Rattle.std.specs.Cmp.{IsStrictWeakOrder, IsTotalOrder}
-use Rattle.std.specs.List.{All, filter}
-use Rattle.std.specs.List.Sorted.{IsPermutation, IsSorted}
-use Rattle.std.specs.Ordering.{is_lt}
-use Rattle.std.proofs.lemmas.Bool.{cases_Bool, cases_lt, lt-ltb, ltb-true, ltb-false}
+use Rattle.std.proofs.Common.{◌≡◌, ℕ, ◌+◌, ◌<◌, ◌≤◌, Bool, true, ◌↔◌, List, [], ◌∷◌, ◌++◌, length}
+use Rattle.std.proofs.Common.{get_or, take, drop, nat_lt, All, filter, IsPermutation, IsSorted}
+use Rattle.std.proofs.Common.{is_lt, sym, ◌∙◌, subst, inl, inr, arith, length-append, length-drop}
+use Rattle.std.proofs.Common.{take-append-drop, length-take, length-take-le, get_or-drop}
+use Rattle.std.proofs.Common.{get_or-take, take-take, take_at, ltb-false, ltb-true, lt-ltb}
+use Rattle.std.proofs.lemmas.Bool.{cases_Bool, cases_lt}
 use Rattle.std.proofs.lemmas.Cmp.{nat_cmp_total, nat_list_cmp_total, on_total, then_total}
-use Rattle.std.proofs.lemmas.List.{get_or-drop, get_or-take, get_or_append_left, get_or_default}
-use Rattle.std.proofs.lemmas.List.{length-take, length-take-le, take-append-drop, take-append-le}
-use Rattle.std.proofs.lemmas.List.{take-take, take_at}
+use Rattle.std.proofs.lemmas.List.{get_or_append_left, get_or_default, take-append-le}
 use Rattle.std.proofs.lemmas.List.Elements.{All-append, All-filter, All-push, All-take, All-weaker}
-use Rattle.std.proofs.lemmas.List.Elements.{filter_passes}
+use Rattle.std.proofs.lemmas.List.{Elements.filter_passes, Sorted.sorted_far}
 use Rattle.std.proofs.lemmas.List.Sorted.{All-permutation, IsPermutation-append_right, ranks_by}
-use Rattle.std.proofs.lemmas.List.Sorted.{sorted_far}
-use Rattle.session_dictionary.specs.Order.{ArePositions, EachPair, InOrder, InRuns, IsOneRun}
-use Rattle.session_dictionary.specs.Order.{IsOrder, by_text, text_of}
+use Rattle.std.specs.Cmp.{IsStrictWeakOrder, IsTotalOrder}
+use Rattle.session_dictionary.specs.Order.{ArePositions, by_text, EachPair, InOrder, InRuns}
+use Rattle.session_dictionary.specs.Order.{IsOneRun, IsOrder, text_of}
 use Rattle.session_dictionary.proofs.CountFacts.{positions_below, positions_cut, positions_length}
 use Rattle.session_dictionary.proofs.CountFacts.{positions_moved, positions_push, rest_above}
 use Rattle.session_dictionary.proofs.PairFacts.{all_front, all_last, all_passing, pair_at}

@@ -1,11 +1,9 @@
 -- Facts about each element of a list and each after it.
-use Rattle.std.proofs.Common.{◌≡◌, ℕ, zero, suc, ◌<◌, Bool, true, List, [], ◌∷◌, ◌++◌, length, take}
-use Rattle.std.proofs.Common.{drop, get_or, refl, ap, arith, inl, inr}
-use Rattle.std.specs.List.{All, AllPairs, filter}
-use Rattle.std.proofs.lemmas.Bool.{cases_Bool}
+use Rattle.std.proofs.Common.{◌≡◌, ℕ, zero, suc, ◌<◌, Bool, true, List, [], ◌∷◌, ◌++◌, length}
+use Rattle.std.proofs.Common.{get_or, take, drop, All, filter, AllPairs, refl, ap, inl, inr, arith}
+use Rattle.{std.proofs.lemmas.Bool.cases_Bool, session_dictionary.specs.Order.EachPair}
 use Rattle.std.proofs.lemmas.List.Elements.{All-append, All-cons, All-filter, All-get_or, All-head}
 use Rattle.std.proofs.lemmas.List.Elements.{All-nil, All-tail, All-take}
-use Rattle.session_dictionary.specs.Order.{EachPair}
 
 -- what holds of all holds of a front and of the last
 pub all_front : {A : Type 0} (P : A → Type 0) (xs ys : List A) → All P (xs ++ ys) → All P xs

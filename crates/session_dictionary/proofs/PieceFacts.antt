@@ -1,11 +1,9 @@
 -- Facts about texts in one list of bytes.
-use Rattle.std.proofs.Common.{◌≡◌, ℕ, zero, suc, ◌+◌, ◌-◌, ◌≤◌, ◌<◌, List, [], ◌∷◌, ◌++◌, length}
-use Rattle.std.proofs.Common.{take, drop, get_or, Some, None, refl, sym, ap, ◌∙◌, subst, arith}
-use Rattle.std.proofs.Common.{length-append, length-drop}
-use Rattle.std.proofs.lemmas.List.{drop-append-le, drop-take, drop_at, length-take-le}
-use Rattle.std.proofs.lemmas.List.{take-append-le, take-take, take_all}
-use Rattle.std.specs.Prelude.{slice_get, slice_range}
-use Rattle.std.specs.Str.{IsUtf8}
+use Rattle.std.proofs.Common.{◌≡◌, ℕ, zero, suc, ◌+◌, ◌-◌, ◌<◌, ◌≤◌, List, [], ◌∷◌, ◌++◌, length}
+use Rattle.std.proofs.Common.{get_or, take, drop, slice_get, slice_range, Some, None, IsUtf8, sym}
+use Rattle.std.proofs.Common.{refl, ap, ◌∙◌, subst, arith, length-append, length-drop}
+use Rattle.std.proofs.Common.{length-take-le, take_all, take-take, drop_at}
+use Rattle.std.proofs.lemmas.List.{drop-append-le, drop-take, take-append-le}
 use Rattle.session_dictionary.specs.Pieces.{ArePieces, pieces}
 
 pub length-pieces : (from : ℕ) (ends bytes : List ℕ) → length (pieces from ends bytes) ≡ length ends

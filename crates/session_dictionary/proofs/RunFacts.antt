@@ -1,21 +1,15 @@
 -- Runs, and the first position in each that has a text.
-use Rattle.std.proofs.Common.{◌≡◌, ◌≢◌, ℕ, zero, suc, ◌+◌, ◌-◌, ◌≤◌, ◌<◌, ◌⊎◌, Bool, true, false}
-use Rattle.std.proofs.Common.{List, ◌∷◌, length, take, drop, get_or, refl, sym, ap, ◌∙◌, subst}
-use Rattle.std.proofs.Common.{arith, inl, inr}
-use Rattle.std.specs.Prelude.{◌↔◌, slice_range}
-use Rattle.std.specs.Cmp.{IsStrictWeakOrder}
-use Rattle.std.specs.Cmp.Lexicographic.{bytes_decides, slice_cmp}
-use Rattle.std.specs.List.{All, Contains}
-use Rattle.std.specs.List.Sorted.{IsPartitionedBy, IsPartitionPoint}
-use Rattle.std.specs.Ordering.{is_eq, is_lt, nat_cmp, ordering_reverse, ordering_then}
-use Rattle.std.specs.declared.cmp.Ordering.{Ordering}
-use Rattle.std.specs.declared.cmp.Ordering.TheVariants.{Less, Equal, Greater}
-use Rattle.std.proofs.lemmas.Bool.{both_ways, cases_lt, lt-ltb, true_from_ne_false}
-use Rattle.std.proofs.lemmas.Cmp.{nat_list_cmp_total, tied_itself}
-use Rattle.std.proofs.lemmas.List.{drop-take, get_or_default, take_all}
+use Rattle.std.proofs.Common.{◌≡◌, ℕ, zero, suc, ◌+◌, ◌-◌, ◌<◌, ◌≤◌, Bool, true, false, ◌≢◌, ◌⊎◌}
+use Rattle.std.proofs.Common.{◌↔◌, List, ◌∷◌, length, get_or, take, drop, slice_range, All}
+use Rattle.std.proofs.Common.{Contains, nat_cmp, is_eq, is_lt, Ordering, Less, Equal, Greater, sym}
+use Rattle.std.proofs.Common.{refl, ap, ◌∙◌, subst, inl, inr, arith, take_all, lt-ltb}
+use Rattle.std.proofs.lemmas.Bool.{both_ways, cases_lt, true_from_ne_false}
+use Rattle.std.proofs.lemmas.{Cmp.nat_list_cmp_total, Cmp.tied_itself, Map.Text.is_eq-slice_cmp}
+use Rattle.std.proofs.lemmas.List.{drop-take, get_or_default, Sorted.ranks_by}
 use Rattle.std.proofs.lemmas.List.Elements.{All-contains, All-drop, All-take, Contains-get_or}
-use Rattle.std.proofs.lemmas.List.Sorted.{ranks_by}
-use Rattle.std.proofs.lemmas.Map.Text.{is_eq-slice_cmp}
+use Rattle.std.specs.Cmp.{IsStrictWeakOrder, Lexicographic.bytes_decides, Lexicographic.slice_cmp}
+use Rattle.std.specs.List.Sorted.{IsPartitionPoint, IsPartitionedBy}
+use Rattle.std.specs.Ordering.{ordering_reverse, ordering_then}
 use Rattle.session_dictionary.specs.Order.{ArePositions, EachPair, InOrder, InRuns, IsFirst}
 use Rattle.session_dictionary.specs.Order.{IsFirstIn, IsOrder, text_of}
 use Rattle.session_dictionary.proofs.CountFacts.{positions_below, positions_length, positions_none}

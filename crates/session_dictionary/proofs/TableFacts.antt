@@ -1,14 +1,11 @@
 -- Facts about the fields of a table.
-use Rattle.std.proofs.Common.{◌≡◌, ◌≢◌, ℕ, zero, suc, ◌+◌, ◌*◌, ◌≤◌, ◌<◌, ◌^◌, true, false, List}
-use Rattle.std.proofs.Common.{[], ◌∷◌, length, Some, None, refl, ap, arith}
-use Rattle.std.specs.Cmp.Lexicographic.{bytes_decides}
-use Rattle.std.specs.Str.{bytes_eq}
-use Rattle.std.proofs.lemmas.Bool.{false_from_ne_true}
-use Rattle.session_dictionary.specs.Inside.{IsTable}
-use Rattle.session_dictionary.specs.Order.{IsFirst, text_of}
-use Rattle.session_dictionary.specs.declared.table.SessionTable.TheInside.{Inside}
-use Rattle.string_tables.specs.SessionStrings.{least_session_id}
+use Rattle.std.proofs.Common.{◌≡◌, ℕ, zero, suc, ◌+◌, ◌*◌, ◌^◌, ◌<◌, ◌≤◌, true, false, ◌≢◌, List}
+use Rattle.std.proofs.Common.{[], ◌∷◌, length, Some, None, bytes_eq, refl, ap, arith}
+use Rattle.std.{proofs.lemmas.Bool.false_from_ne_true, specs.Cmp.Lexicographic.bytes_decides}
 use Rattle.string_tables.proofs.SessionFacts.{length-le-used_cost}
+use Rattle.string_tables.specs.SessionStrings.{least_session_id}
+use Rattle.session_dictionary.specs.{declared.table.SessionTable.TheInside.Inside, Inside.IsTable}
+use Rattle.session_dictionary.specs.Order.{IsFirst, text_of}
 
 -- a table holds few enough strings for their identifiers to stay below 2^31
 pub texts_few : (t : Inside) → IsTable t → length t.texts ≤ 2 ^ 30

@@ -1,9 +1,8 @@
 -- A table's fields, as the strings and the limit that a contract sees.
-use Rattle.std.specs.Prelude.{◌≡◌, ◌≤◌, ◌^◌}
+use Rattle.std.specs.Prelude.{◌≡◌, ◌^◌, ◌≤◌}
 use Rattle.string_tables.specs.SessionStrings.{used_cost}
-use Rattle.session_dictionary.specs.Order.{KeepsOrder}
+use Rattle.session_dictionary.specs.{declared.table.SessionTable.TheInside.Inside, Order.KeepsOrder}
 use Rattle.session_dictionary.specs.Strings.{LimitedStrings}
-use Rattle.session_dictionary.specs.declared.table.SessionTable.TheInside.{Inside}
 
 abbrev pub strings_in : Inside → LimitedStrings
 strings_in t = record { strings = t.texts; limit = t.limit }

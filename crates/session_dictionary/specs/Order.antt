@@ -1,11 +1,9 @@
 -- The order of texts: their positions, in runs.
-use Rattle.std.specs.Prelude.{◌≡◌, ◌≢◌, ◌<◌, ◌≤◌, ◌↔◌, ◌+◌, ℕ, suc, zero, Bool, false, Option, ⊤}
-use Rattle.std.specs.Prelude.{if◌then◌else◌, List, [], ◌∷◌, length, take, slice_index_or, count_by}
-use Rattle.std.specs.Cmp.Lexicographic.{slice_cmp}
-use Rattle.std.specs.List.{All, Contains}
+use Rattle.std.specs.Prelude.{◌≡◌, ℕ, zero, suc, ◌+◌, ◌<◌, ◌≤◌, Bool, false, ◌≢◌, ◌↔◌, List, []}
+use Rattle.std.specs.Prelude.{◌∷◌, length, take, IfSome, if◌then◌else◌, nat_lt, slice_index_or, All}
+use Rattle.std.specs.Prelude.{Contains, count_by, filter, Option, ⊤}
+use Rattle.std.specs.{Cmp.Lexicographic.slice_cmp, declared.cmp.Ordering.Ordering}
 use Rattle.std.specs.Ordering.{is_lt, nat_cmp, ordering_then}
-use Rattle.std.specs.Option.{IfSome}
-use Rattle.std.specs.declared.cmp.Ordering.{Ordering}
 use Rattle.session_dictionary.specs.declared.order.TextOrder.{TextOrder}
 
 -- the text at a position
@@ -51,6 +49,12 @@ pub record IsOrder (strings : List (List ℕ)) (positions : List ℕ) (cuts : Li
   pub apart : All (λ cut. ArePositions cut (take cut positions)) cuts
   pub rises : EachPair ◌≤◌ cuts
   pub sorted : EachPair (InRuns strings cuts) positions
+
+-- the positions that are left, in runs that begin below a bound, have all those below it
+pub record IsCutTo (bound : ℕ) (cuts positions left : List ℕ) : Type 0 where
+  pub all : ArePositions (length left) left
+  pub apart : All (λ cut. ArePositions cut (take cut left)) cuts
+  pub same : filter (λ x. nat_lt x bound) left ≡ filter (λ x. nat_lt x bound) positions
 
 -- the order that a table keeps of its texts, where it keeps one
 abbrev pub IsOrderOf : List (List ℕ) → TextOrder → Type 0

@@ -1,6 +1,5 @@
 -- Texts that lie one after the other in one list of bytes.
-use Rattle.std.specs.Prelude.{◌≡◌, ◌≤◌, ℕ, List, [], ◌∷◌, length, slice_range}
-use Rattle.std.specs.Str.{IsUtf8}
+use Rattle.std.specs.Prelude.{◌≡◌, ℕ, ◌≤◌, List, [], ◌∷◌, length, slice_range, IsUtf8}
 
 -- the texts by the places where they end, the first of which begins at a given one
 abbrev pub pieces : ℕ → List ℕ → List ℕ → List (List ℕ)

@@ -1,11 +1,11 @@
 // The order of the texts: their positions in runs, each sorted by text and then by position. A run
 // has the positions from the one where it is cut off from those before up to the next such one.
-ghost use Rattle.std.specs.Prelude.{◌≡◌, ◌≢◌, ◌∷◌, [], ◌++◌, ◌+◌, ◌-◌, ◌≤◌, ◌<◌, ◌^◌, ℕ, length, nat_lt, OnOk, OnErr, IfSome, IfNone, drop, slice_range, take, vec_len, vec_capacity};
+ghost use Rattle.std.specs.Prelude.{◌≡◌, ◌≢◌, ◌∷◌, [], ◌++◌, ◌+◌, ◌-◌, ◌≤◌, ◌<◌, ◌^◌, ℕ, length, nat_lt, OnOk, OnErr, IfSome, IfNone, drop, slice_index, slice_range, take, vec_len, vec_capacity};
 ghost use Rattle.std.specs.List.{All, filter};
 ghost use Rattle.std.specs.Cmp.Lexicographic.{slice_cmp};
 ghost use Rattle.std.specs.List.Sorted.{IsPermutation, IsSorted};
 ghost use Rattle.std.specs.Ordering.{is_lt, nat_cmp};
-ghost use Rattle.session_dictionary.specs.Order.{EachPair, InOrder, IsFirst, IsFirstIn, IsOrder, IsOrderOf, by_text, text_of};
+ghost use Rattle.session_dictionary.specs.Order.{ArePositions, EachPair, InOrder, IsCutTo, IsFirst, IsFirstIn, IsOrder, IsOrderOf, by_text, text_of};
 
 use crate::texts::Texts;
 use std::alloc::{AllocError, Global};
@@ -119,22 +119,85 @@ pub(crate) fn add_last(
     join(alloc, texts, positions, cuts);
 }
 
-// Leaves the positions below a bound.
-pub(crate) fn cut_off(positions: &mut Vec<u32>, cuts: &mut Vec<usize>, bound: u32)
-    ensures positions { positions.new.items
-        ≡ filter (λ position. nat_lt position bound) positions.old.items }
-    ensures cuts { cuts.new.items ≡ filter (λ cut. nat_lt cut bound) cuts.old.items }
+// Moves the positions below a bound to the front, in their order, and answers how many there are.
+fn gather(run: &mut [u32], bound: u32) -> usize
+    ensures within { result ≤ length run.new }
+    ensures front { take result run.new ≡ filter (λ position. nat_lt position bound) run.old }
 {
-    let end = bound as usize;
-    positions.retain(|position| *position < bound);
-    cuts.retain(|cut| *cut < end);
+    let mut count = 0;
+    for place in 0..run.len() {
+        let position = run[place];
+        if position < bound {
+            run[count] = position;
+            count += 1;
+        }
+    }
+    count
 }
 
-// Whether the text at a position comes before another.
-fn is_before(texts: &Texts, position: u32, text: &str) -> bool
-    ensures { result ≡ is_lt (slice_cmp nat_cmp (text_of texts.now position) text.now) }
+// The same for those from a place on, which come to stand from there on.
+fn gather_from(positions: &mut [u32], start: usize, bound: u32) -> usize
+    requires { start ≤ length positions.old }
+    ensures within { start + result ≤ length positions.new }
+    ensures before { take start positions.new ≡ take start positions.old }
+    ensures front { take result (drop start positions.new)
+        ≡ filter (λ position. nat_lt position bound) (drop start positions.old) }
 {
-    texts.nth(position as usize).cmp(text).is_lt()
+    gather(&mut positions[start..], bound)
+}
+
+// Leaves out the runs that begin at a bound or later, and with them only positions from it on.
+fn cut_runs(texts: &Texts, positions: &mut Vec<u32>, cuts: &mut Vec<usize>, bound: u32)
+    requires there { bound ≤ length texts.now }
+    requires order { IsOrder texts.now positions.old.items cuts.old.items }
+    ensures cuts { cuts.new.items ≡ filter (λ cut. nat_lt cut bound) cuts.old.items }
+    ensures positions { IsCutTo bound cuts.new.items positions.old.items positions.new.items }
+{
+    // The texts are for the contract alone.
+    let _ = texts;
+    let end = bound as usize;
+    let kept = cuts.partition_point(|cut| *cut < end);
+    if kept < cuts.len() {
+        positions.truncate(cuts[kept]);
+        cuts.truncate(kept);
+    }
+}
+
+// Where the last run begins.
+fn last_cut(cuts: &[usize]) -> usize
+    ensures { result ≡ slice_index (0 ∷ cuts.now) (length cuts.now) }
+{
+    match cuts.last() {
+        Some(cut) => *cut,
+        None => 0,
+    }
+}
+
+// Leaves the positions below a bound, where those before a place are.
+fn cut_run(positions: &mut Vec<u32>, start: usize, bound: u32)
+    requires there { start ≤ length positions.old.items }
+    requires all { ArePositions (length positions.old.items) positions.old.items }
+    requires below { All (λ position. position < bound) (take start positions.old.items) }
+    ensures { positions.new.items
+        ≡ filter (λ position. nat_lt position bound) positions.old.items }
+{
+    if positions.len() > bound as usize {
+        let count = gather_from(positions, start, bound);
+        positions.truncate(start + count);
+    }
+}
+
+// Leaves the positions below a bound. The runs that begin there or later go as a whole, and of the
+// others only the last may have positions from there on, so the work is at most that of adding what
+// is cut off.
+pub(crate) fn cut_off(texts: &Texts, positions: &mut Vec<u32>, cuts: &mut Vec<usize>, bound: u32)
+    requires there { bound ≤ length texts.now }
+    requires order { IsOrder texts.now positions.old.items cuts.old.items }
+    ensures { IsOrder (take bound texts.now) positions.new.items cuts.new.items }
+{
+    cut_runs(texts, positions, cuts, bound);
+    let start = last_cut(cuts);
+    cut_run(positions, start, bound);
 }
 
 // The first position in a run that has a text.
@@ -143,7 +206,7 @@ fn first_in(texts: &Texts, run: &[u32], text: &str) -> Option<u32>
     ensures found { IfSome result (IsFirstIn texts.now run.now text.now) }
     ensures none { IfNone result (All (λ other. text_of texts.now other ≢ text.now) run.now) }
 {
-    let place = run.partition_point(|position| is_before(texts, *position, text));
+    let place = run.partition_point(|position| texts.nth(*position as usize).cmp(text).is_lt());
     let position = *run.get(place)?;
     if texts.nth(position as usize) == text {
         Some(position)

@@ -255,8 +255,11 @@ fn truncate(texts: &mut Texts, order: &mut Option<TextOrder>, count: u32)
     ensures texts { texts.new ≡ take count texts.old }
     ensures order { KeepsOrder texts.new order.new }
 {
-    texts.truncate(count as usize);
-    if let Some(order) = order {
-        cut_off(&mut order.positions, &mut order.cuts, count);
+    match order {
+        Some(order) => {
+            cut_off(texts, &mut order.positions, &mut order.cuts, count);
+            texts.truncate(count as usize);
+        }
+        None => texts.truncate(count as usize),
     }
 }

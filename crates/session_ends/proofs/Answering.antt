@@ -1,25 +1,20 @@
 -- What bytes of whole units are answered with, of which only the last unit completes an event.
-use Rattle.std.proofs.Common.{◌≡◌, ℕ, ◌+◌, ◌-◌, ◌<◌, ◌≤◌, ◌⊎◌, inl, inr, List, [], ◌∷◌, ◌++◌}
-use Rattle.std.proofs.Common.{length, take, drop, Option, Some, None, refl, sym, ap, ◌∙◌, subst}
-use Rattle.std.proofs.Common.{arith, append_assoc, length-append}
-use Rattle.std.proofs.Math.Seq.{take-add, take-append_seam, drop-append_seam}
-use Rattle.std.proofs.lemmas.Bool.{cases_lt}
-use Rattle.std.proofs.lemmas.List.{append-nil, length-take-le, take-append-le, take_all}
-use Rattle.std.specs.Option.{option_to_list}
-use Rattle.unit_streams.specs.Front.{whole}
-use Rattle.unit_streams.specs.Grammar.{Grammar, Standing, behind_unit, with_more, standing}
-use Rattle.unit_streams.specs.Grammar.{IsReadable}
-use Rattle.unit_streams.specs.Judging.{Answer, goes_on, completes, offends, answer, event_at}
-use Rattle.unit_streams.specs.Judging.{event_of, refusal_at}
-use Rattle.unit_streams.specs.Going.{IsGoing, Means}
-use Rattle.unit_streams.specs.Units.{Counted, UnitsLead, events_along, size_of}
-use Rattle.unit_streams.proofs.Along.{Passes}
-use Rattle.unit_streams.proofs.Answers.{answers_are_first}
+use Rattle.std.proofs.Common.{◌≡◌, ℕ, ◌+◌, ◌-◌, ◌<◌, ◌≤◌, ◌⊎◌, List, [], ◌∷◌, ◌++◌, length, take}
+use Rattle.std.proofs.Common.{drop, Some, None, Option, option_to_list, sym, refl, ap, ◌∙◌, subst}
+use Rattle.std.proofs.Common.{inl, inr, append_assoc, append-nil, arith, length-append}
+use Rattle.std.proofs.Common.{length-take-le, take_all}
+use Rattle.std.proofs.Math.Seq.{drop-append_seam, take-add, take-append_seam}
+use Rattle.std.proofs.lemmas.{Bool.cases_lt, List.take-append-le}
+use Rattle.unit_streams.proofs.{Along.Passes, Answers.answers_are_first}
 use Rattle.unit_streams.proofs.Passing.{begun_event, event_from, given_none, going_refusal}
-use Rattle.unit_streams.proofs.Passing.{refusal_from}
+use Rattle.unit_streams.proofs.{Passing.refusal_from, Units.unit_some}
 use Rattle.unit_streams.proofs.Standing.{standing_append, undecided_at, whole_at}
-use Rattle.unit_streams.proofs.Units.{IsBetween, between_first, between_going, unit_decides}
-use Rattle.unit_streams.proofs.Units.{unit_some}
+use Rattle.unit_streams.proofs.Units.{between_first, between_going, IsBetween, unit_decides}
+use Rattle.unit_streams.specs.{Front.whole, Going.IsGoing, Going.Means, Grammar.with_more}
+use Rattle.unit_streams.specs.Grammar.{behind_unit, Grammar, IsReadable, Standing, standing}
+use Rattle.unit_streams.specs.Judging.{Answer, answer, completes, event_at, event_of, goes_on}
+use Rattle.unit_streams.specs.Judging.{offends, refusal_at}
+use Rattle.unit_streams.specs.Units.{Counted, events_along, size_of, UnitsLead}
 
 module _ {Z U E R : Type 0} (g : Grammar Z U E R) (readable : IsReadable g) where
   -- nothing but its length can refuse the prefix

@@ -1,37 +1,26 @@
 -- What is written of documents that fit is read as these documents.
-use Rattle.std.proofs.Common.{◌≡◌, ℕ, ◌+◌, ◌<◌, ◌≤◌, ◌^◌, List, [], ◌∷◌, ◌++◌, length, map, Ok}
-use Rattle.std.proofs.Common.{Option, refl, sym, ap, ◌∙◌, subst, arith, append_assoc}
-use Rattle.std.proofs.lemmas.List.{append-nil}
-use Rattle.multibyte_ints.specs.Integer.{shortest}
-use Rattle.multibyte_ints.proofs.ShortestLaws.{shortest_spells}
-use Rattle.unit_streams.proofs.Standing.{standing_nothing}
-use Rattle.nbfx_values.specs.Documents.{IsDocument}
-use Rattle.nbfx_values.specs.Limits.{IsGood, Limits}
-use Rattle.nbfx_values.specs.declared.content.Item.{Item}
-use Rattle.nbfx_values.specs.declared.session.Kind.{Kind}
-use Rattle.nbfx_values.specs.declared.session.Mode.{Mode}
-use Rattle.nbfx_values.specs.declared.session.Mode.TheVariants.{Singleton, Duplex, Simplex}
-use Rattle.string_tables.specs.SessionStrings.{used_cost}
-use Rattle.string_tables.specs.StaticStrings.{IsStaticMap}
-use Rattle.string_tables.specs.StringTable.{StringTable}
-use Rattle.nbfx_records.specs.Payloads.{IsWithin}
-use Rattle.nbfx_decoder.specs.Laws.{IsDecoded, IsWholePayload}
-use Rattle.nbfx_decoder.specs.Payload.{payload}
-use Rattle.nbfx_decoder.proofs.Readable.{readable}
-use Rattle.nbfx_encoder.specs.Envelopes.{UnfitAt, envelope, envelope_then, envelopes_from}
-use Rattle.nbfx_encoder.specs.Placing.{Placed}
-use Rattle.nbfx_encoder.specs.ReadBack.{AdmitsAsMuch, IsRead}
-use Rattle.nbfx_encoder.specs.Spelling.{Fits, Unfit, encoded}
+use Rattle.std.proofs.Common.{◌≡◌, ℕ, ◌+◌, ◌^◌, ◌<◌, ◌≤◌, List, [], ◌∷◌, ◌++◌, map, length, Ok}
+use Rattle.std.proofs.Common.{Option, sym, refl, ap, ◌∙◌, subst, append_assoc, append-nil, arith}
+use Rattle.{unit_streams.proofs.Standing.standing_nothing, nbfx_records.specs.Payloads.IsWithin}
+use Rattle.string_tables.specs.{SessionStrings.used_cost, StringTable.StringTable}
+use Rattle.{string_tables.specs.StaticStrings.IsStaticMap, nbfx_decoder.proofs.Readable.readable}
+use Rattle.multibyte_ints.{proofs.ShortestLaws.shortest_spells, specs.Integer.shortest}
+use Rattle.nbfx_values.specs.declared.{content.Item.Item, session.Kind.Kind, session.Mode.Mode}
+use Rattle.nbfx_values.specs.declared.session.Mode.TheVariants.{Duplex, Simplex, Singleton}
+use Rattle.nbfx_values.specs.{Documents.IsDocument, Limits.IsGood, Limits.Limits}
+use Rattle.nmf_records.specs.declared.script.Direction.TheVariants.{FromInitiator}
 use Rattle.nbfx_encoder.proofs.LawFacts.{Parted, parted, writes_what_fits}
 use Rattle.nbfx_encoder.proofs.Payloads.{chosen_is_payload}
-use Rattle.stream_reader.specs.Sessions.{Carried, CarriesAll, HasParts, IsEnvelopeIn, IsPreamble}
-use Rattle.stream_reader.specs.Sessions.{IsSession, MayCarry, conversation, AreChunks, joined}
-use Rattle.stream_reader.specs.Stream.{Settings, Side, initiators, payloads}
+use Rattle.nbfx_encoder.specs.Envelopes.{envelope, envelope_then, envelopes_from, UnfitAt}
+use Rattle.nbfx_encoder.specs.{Placing.Placed, ReadBack.AdmitsAsMuch, ReadBack.IsRead}
+use Rattle.nbfx_encoder.specs.Spelling.{encoded, Fits, Unfit}
+use Rattle.nbfx_decoder.specs.{Laws.IsDecoded, Laws.IsWholePayload, Payload.payload}
 use Rattle.stream_reader.proofs.FromSession.{decoded}
-use Rattle.nmf_records.specs.declared.script.Direction.TheVariants.{FromInitiator}
-use Rattle.session_ends.specs.Sent.{AreDocuments, AreSent, CarryDocuments, MayBeSent}
-use Rattle.session_ends.specs.Sent.{SentAreCarried, SentAreSessions, first_table, session_bytes}
-use Rattle.session_ends.specs.Sent.{strings_after}
+use Rattle.stream_reader.specs.Sessions.{AreChunks, Carried, CarriesAll, conversation, HasParts}
+use Rattle.stream_reader.specs.Sessions.{IsEnvelopeIn, IsPreamble, IsSession, joined, MayCarry}
+use Rattle.stream_reader.specs.Stream.{initiators, payloads, Settings, Side}
+use Rattle.session_ends.specs.Sent.{AreDocuments, AreSent, CarryDocuments, first_table, MayBeSent}
+use Rattle.session_ends.specs.Sent.{SentAreCarried, SentAreSessions, session_bytes, strings_after}
 
 -- the envelope of a payload is one
 envelope_is : (mode : Mode) (bytes : List ℕ) → 0 < length bytes → length bytes < 2 ^ 31

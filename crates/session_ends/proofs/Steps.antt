@@ -1,45 +1,35 @@
 -- The parts of an initiator's session in duplex mode, by what a reader of it answers to each.
-use Rattle.std.proofs.Common.{◌≡◌, ℕ, ◌+◌, ◌<◌, ◌≤◌, ◌⊎◌, inl, inr, List, [], ◌∷◌, ◌++◌, length}
-use Rattle.std.proofs.Common.{Bool, true, false, Option, Some, None, refl, sym, ap, ◌∙◌, subst}
-use Rattle.std.proofs.Common.{arith, append_assoc}
-use Rattle.std.specs.Prelude.{if◌then◌else◌, nat_le, ◌&&◌, not}
-use Rattle.unit_streams.specs.Grammar.{standing}
-use Rattle.unit_streams.specs.Going.{history_by}
-use Rattle.unit_streams.specs.Judging.{History, answer, completes, offends, history, history_from}
-use Rattle.unit_streams.specs.Judging.{led_by, only, offence as offence_by}
-use Rattle.unit_streams.specs.Laws.{raised, unless_decided}
+use Rattle.std.proofs.Common.{◌≡◌, ℕ, ◌+◌, ◌<◌, ◌≤◌, Bool, true, false, not, ◌&&◌, ◌⊎◌, List, []}
+use Rattle.std.proofs.Common.{◌∷◌, ◌++◌, length, if◌then◌else◌, nat_le, Some, None, Option, sym}
+use Rattle.std.proofs.Common.{refl, ap, ◌∙◌, subst, inl, inr, append_assoc, arith}
 use Rattle.unit_streams.proofs.Along.{Passes, passes_history, passes_none, passes_then}
-use Rattle.unit_streams.proofs.Cuts.{cuts_change_nothing}
+use Rattle.unit_streams.proofs.{Cuts.cuts_change_nothing, Units.between_first, Units.IsBetween}
 use Rattle.unit_streams.proofs.Histories.{history_is_answers, led_by_none}
-use Rattle.unit_streams.proofs.Units.{IsBetween, between_first}
+use Rattle.unit_streams.specs.{Going.history_by, Grammar.standing, Laws.raised, Laws.unless_decided}
+use Rattle.unit_streams.specs.Judging.{answer, completes, History, history, history_from, led_by}
+use Rattle.unit_streams.specs.Judging.{offence as offence_by, offends, only}
+use Rattle.string_tables.specs.{SessionStrings.used_cost, StaticStrings.Entry}
+use Rattle.nbfx_values.specs.declared.refusals.{Offence.Offence, Reason.TheVariants.SessionTooLong}
+use Rattle.nbfx_values.specs.declared.session.{Kind.Kind, Mode.TheVariants.Duplex}
 use Rattle.nbfx_values.specs.Limits.{IsGood, Limits}
-use Rattle.nbfx_values.specs.declared.refusals.Offence.{Offence}
-use Rattle.nbfx_values.specs.declared.refusals.Reason.TheVariants.{SessionTooLong}
-use Rattle.nbfx_values.specs.declared.session.Kind.{Kind}
-use Rattle.nbfx_values.specs.declared.session.Mode.TheVariants.{Duplex}
-use Rattle.string_tables.specs.SessionStrings.{used_cost}
-use Rattle.string_tables.specs.StaticStrings.{Entry}
-use Rattle.nmf_records.specs.declared.frame.Frame.TheVariants as frames
-use Rattle.nmf_records.specs.declared.script.Due.TheVariants as dues
-use Rattle.nmf_records.specs.declared.script.Direction.{Direction}
+use Rattle.nmf_records.specs.{declared.script.Direction.Direction, Script.may_come}
 use Rattle.nmf_records.specs.declared.script.Direction.TheVariants.{FromInitiator, FromReceiver}
-use Rattle.nmf_records.specs.RecordFronts.{MayCome, bare}
-use Rattle.nmf_records.specs.Script.{may_come}
-use Rattle.nbfx_decoder.specs.Laws.{IsWholePayload}
-use Rattle.stream_reader.specs.Sessions.{Carried, CarriesAll, IsBare, IsPreamble, IsSized}
-use Rattle.stream_reader.specs.Sessions.{message_events}
-use Rattle.stream_reader.specs.Stream.{Settings, Situation, Stage, StreamEvent, after, beginning}
-use Rattle.stream_reader.specs.Stream.{completed, direction_of, ended, frame, initiators}
-use Rattle.stream_reader.specs.Stream.{is_over_in, offence_at, open_from, opened, payload_byte}
-use Rattle.stream_reader.specs.Stream.{payloads, record_due, refused, stream, too_long}
-use Rattle.stream_reader.proofs.DueRecords.{record_unit}
-use Rattle.stream_reader.proofs.Envelopes.{IsClean, before_last, last_completes, last_leads}
+use Rattle.nmf_records.specs.RecordFronts.{bare, MayCome}
+use Rattle.{nbfx_decoder.specs.Laws.IsWholePayload, stream_reader.specs.Sessions.message_events}
+use Rattle.stream_reader.proofs.{DueRecords.record_unit, Grammar.readable, Grammar.short_enough}
+use Rattle.stream_reader.proofs.Envelopes.{before_last, IsClean, last_completes, last_leads}
 use Rattle.stream_reader.proofs.Envelopes.{last_reads, last_unrefused, sized_front}
 use Rattle.stream_reader.proofs.FromSession.{at, clean_of, decoded, left_by, preamble_front}
 use Rattle.stream_reader.proofs.FromSession.{preamble_passes, sized_envelopes}
-use Rattle.stream_reader.proofs.Grammar.{readable, short_enough}
-use Rattle.session_ends.proofs.Answering.{EndsIn, IsAnswered, IsByLength, between_all, is_answered}
+use Rattle.stream_reader.specs.Sessions.{Carried, CarriesAll, IsBare, IsPreamble, IsSized}
+use Rattle.stream_reader.specs.Stream.{after, beginning, completed, direction_of, ended, frame}
+use Rattle.stream_reader.specs.Stream.{initiators, is_over_in, offence_at, open_from, opened}
+use Rattle.stream_reader.specs.Stream.{payload_byte, payloads, record_due, refused, Settings}
+use Rattle.stream_reader.specs.Stream.{Situation, Stage, stream, StreamEvent, too_long}
+use Rattle.session_ends.proofs.Answering.{between_all, EndsIn, is_answered, IsAnswered, IsByLength}
 use Rattle.session_ends.proofs.Answering.{passes_stand}
+use Rattle.nmf_records.specs.declared.frame.Frame.TheVariants as frames
+use Rattle.nmf_records.specs.declared.script.Due.TheVariants as dues
 
 -- the last of some bytes
 last_of : (bytes : List ℕ) → 0 < length bytes

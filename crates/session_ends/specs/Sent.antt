@@ -1,21 +1,15 @@
 -- What an initiator's sending half writes of documents (nbfx_encoder) is read as these documents
 -- (stream_reader), by whoever admits as much.
-use Rattle.std.specs.Prelude.{◌≡◌, ⊤, ℕ, ◌≤◌, List, [], ◌∷◌, ◌++◌, length, map, Option, Ok}
-use Rattle.nbfx_values.specs.Documents.{IsDocument}
-use Rattle.nbfx_values.specs.Limits.{IsGood, Limits}
-use Rattle.nbfx_values.specs.declared.content.Item.{Item}
-use Rattle.nbfx_values.specs.declared.session.Kind.{Kind}
-use Rattle.nbfx_values.specs.declared.session.Mode.{Mode}
-use Rattle.nbfx_values.specs.declared.session.Mode.TheVariants.{Singleton}
+use Rattle.std.specs.Prelude.{◌≡◌, ℕ, ◌≤◌, List, [], ◌∷◌, ◌++◌, map, length, Ok, Option, ⊤}
 use Rattle.string_tables.specs.StaticStrings.{Entry, IsStaticMap}
 use Rattle.string_tables.specs.StringTable.{StringTable}
-use Rattle.nmf_records.specs.declared.frame.Frame.TheVariants.{End}
-use Rattle.nmf_records.specs.Writing.{frame_bytes_of}
-use Rattle.nbfx_encoder.specs.Envelopes.{envelopes_from}
-use Rattle.nbfx_encoder.specs.Placing.{Placed}
-use Rattle.nbfx_encoder.specs.ReadBack.{AdmitsAsMuch}
-use Rattle.stream_reader.specs.Sessions.{Carried, CarriesAll, IsPreamble, IsSession, conversation}
-use Rattle.stream_reader.specs.Stream.{Settings, initiators}
+use Rattle.nbfx_values.specs.{declared.content.Item.Item, Documents.IsDocument}
+use Rattle.nbfx_values.specs.declared.session.{Kind.Kind, Mode.Mode, Mode.TheVariants.Singleton}
+use Rattle.nbfx_values.specs.Limits.{IsGood, Limits}
+use Rattle.nmf_records.specs.{declared.frame.Frame.TheVariants.End, Writing.frame_bytes_of}
+use Rattle.nbfx_encoder.specs.{Envelopes.envelopes_from, Placing.Placed, ReadBack.AdmitsAsMuch}
+use Rattle.stream_reader.specs.Sessions.{Carried, CarriesAll, conversation, IsPreamble, IsSession}
+use Rattle.stream_reader.specs.Stream.{initiators, Settings}
 
 -- each is a document
 abbrev pub AreDocuments : List (List Item) → Type 0

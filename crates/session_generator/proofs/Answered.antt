@@ -1,26 +1,20 @@
 -- What was sent is read whole, or shows that the stream is too long.
-use Rattle.std.proofs.Common.{◌≡◌, ℕ, inl, inr, List, [], ◌++◌, length, take, false, Result, Ok}
-use Rattle.std.proofs.Common.{Err, Some, sym, ap, ◌∙◌, subst, arith}
-use Rattle.std.specs.Prelude.{⊤}
-use Rattle.std.proofs.lemmas.List.{take_all}
+use Rattle.std.proofs.Common.{◌≡◌, ℕ, false, List, [], ◌++◌, length, take, Some, Ok, Err, Result}
+use Rattle.std.proofs.Common.{sym, ap, ◌∙◌, subst, inl, inr, arith, take_all}
+use Rattle.{std.specs.Prelude.⊤, unit_streams.proofs.Standing.standing_nothing}
 use Rattle.unit_streams.specs.Judging.{Answer, answer, completes, goes_on, is_over_at, offends}
-use Rattle.unit_streams.proofs.Standing.{standing_nothing}
 use Rattle.nbfx_values.specs.declared.refusals.Offence.{Offence}
 use Rattle.nbfx_values.specs.declared.refusals.Reason.TheVariants.{SessionTooLong as IsLong}
+use Rattle.stream_reader.proofs.{Ending.first_on, Grammar.readable}
 use Rattle.stream_reader.specs.declared.reader.ReadRefusal.TheVariants.{Offence as Refused}
-use Rattle.stream_reader.specs.declared.reader.StreamStep.{StreamStep}
-use Rattle.stream_reader.specs.declared.reader.StreamStep.TheVariants.{More}
-use Rattle.stream_reader.specs.Judging.{offence}
-use Rattle.stream_reader.specs.Saying.{said, step_for}
-use Rattle.stream_reader.specs.Stream.{Settings, StreamEvent, is_over_in, stream}
-use Rattle.stream_reader.proofs.Ending.{first_on}
-use Rattle.stream_reader.proofs.Grammar.{readable}
+use Rattle.stream_reader.specs.declared.reader.StreamStep.{StreamStep, TheVariants.More}
+use Rattle.stream_reader.specs.{Judging.offence, Saying.said, Saying.step_for}
+use Rattle.stream_reader.specs.Stream.{is_over_in, Settings, stream, StreamEvent}
 use Rattle.receiver_machine.specs.declared.receiver.Receiver.{Receiver}
-use Rattle.receiver_machine.specs.ReceiverState.{StandsFor, settings_of}
+use Rattle.receiver_machine.specs.ReceiverState.{settings_of, StandsFor}
 use Rattle.session_ends.proofs.Steps.{IsTakenWhole}
-use Rattle.session_generator.specs.declared.ends.GenFault.{GenFault}
-use Rattle.session_generator.specs.declared.ends.GenFault.TheVariants.{SessionTooLong, Memory}
-use Rattle.session_generator.specs.UnderWay.{IsReadSo}
+use Rattle.session_generator.specs.{declared.ends.GenFault.GenFault, UnderWay.IsReadSo}
+use Rattle.session_generator.specs.declared.ends.GenFault.TheVariants.{Memory, SessionTooLong}
 
 -- before the first byte nothing is over
 pub first_going : (x : Settings) → is_over_at (stream x) [] ≡ false

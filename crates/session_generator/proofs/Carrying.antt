@@ -1,46 +1,34 @@
 -- A session is carried on document by document, to its end.
-use Rattle.std.proofs.Common.{◌≡◌, ℕ, ◌<◌, ◌≤◌, ◌^◌, List, [], ◌∷◌, ◌++◌, length, false, Ok, Err}
-use Rattle.std.proofs.Common.{refl, sym, ap, ◌∙◌, subst, append_assoc}
-use Rattle.std.proofs.lemmas.List.{append-nil}
-use Rattle.unit_streams.specs.Grammar.{standing}
-use Rattle.unit_streams.specs.Judging.{is_over_at}
-use Rattle.nbfx_values.specs.Limits.{IsGood, Limits}
-use Rattle.nbfx_values.specs.declared.content.Item.{Item}
-use Rattle.nbfx_values.specs.declared.session.Kind.{Kind}
-use Rattle.nbfx_values.specs.declared.session.Kind.TheVariants.{Session as WithStrings}
-use Rattle.nbfx_values.specs.declared.session.Mode.{Mode}
-use Rattle.nbfx_values.specs.declared.session.Mode.TheVariants.{Duplex}
+use Rattle.std.proofs.Common.{◌≡◌, ℕ, ◌^◌, ◌<◌, ◌≤◌, false, List, [], ◌∷◌, ◌++◌, length, Ok, Err}
+use Rattle.std.proofs.Common.{sym, refl, ap, ◌∙◌, subst, append_assoc, append-nil}
+use Rattle.unit_streams.specs.{Grammar.standing, Judging.is_over_at}
 use Rattle.string_tables.specs.StaticStrings.{Entry, IsStaticMap}
 use Rattle.string_tables.specs.StringTable.{StringTable}
-use Rattle.nbfx_encoder.specs.Envelopes.{envelope}
-use Rattle.nbfx_encoder.specs.Placing.{Placed}
-use Rattle.nbfx_encoder.specs.Sending.{KeepsSettings, Sends, behind_message, kind_in, limits_in}
-use Rattle.nbfx_encoder.specs.Sending.{mode_in, names_in, state_in}
-use Rattle.nbfx_encoder.specs.Spelling.{encoded}
-use Rattle.nbfx_encoder.specs.declared.sender.SendState.TheVariants.{Closed}
+use Rattle.nbfx_values.specs.{declared.content.Item.Item, Limits.IsGood, Limits.Limits}
+use Rattle.nbfx_values.specs.declared.session.Kind.{Kind, TheVariants.Session as WithStrings}
+use Rattle.nbfx_values.specs.declared.session.Mode.{Mode, TheVariants.Duplex}
 use Rattle.nbfx_encoder.proofs.LawFacts.{writes_what_fits}
-use Rattle.stream_reader.specs.Judging.{offence}
-use Rattle.stream_reader.specs.Sessions.{conversation}
-use Rattle.stream_reader.specs.Stream.{Settings, any_initiators, stream, strings_in}
+use Rattle.nbfx_encoder.specs.{declared.sender.SendState.TheVariants.Closed, Placing.Placed}
+use Rattle.nbfx_encoder.specs.{Envelopes.envelope, Spelling.encoded}
+use Rattle.nbfx_encoder.specs.Sending.{behind_message, KeepsSettings, kind_in, limits_in, mode_in}
+use Rattle.nbfx_encoder.specs.Sending.{names_in, Sends, state_in}
 use Rattle.stream_reader.proofs.SessionEnds.{closed_offence}
+use Rattle.stream_reader.specs.{Judging.offence, Sessions.conversation}
+use Rattle.stream_reader.specs.Stream.{any_initiators, Settings, stream, strings_in}
 use Rattle.receiver_machine.specs.declared.receiver.Receiver.{Receiver}
-use Rattle.receiver_machine.specs.ReceiverState.{StandsFor, settings_of}
-use Rattle.session_ends.specs.Sent.{session_bytes}
-use Rattle.session_ends.proofs.Steps.{IsTakenWhole}
-use Rattle.session_generator.specs.declared.ends.Ends.{Ends}
-use Rattle.session_generator.specs.declared.ends.GenFault.{GenFault}
-use Rattle.session_generator.specs.declared.ends.GenFault.TheVariants.{SessionTooLong, Memory}
+use Rattle.receiver_machine.specs.ReceiverState.{settings_of, StandsFor}
+use Rattle.session_ends.{proofs.Steps.IsTakenWhole, specs.Sent.session_bytes}
+use Rattle.session_generator.specs.declared.ends.{Ends.Ends, GenFault.GenFault}
+use Rattle.session_generator.specs.declared.ends.GenFault.TheVariants.{Memory, SessionTooLong}
 use Rattle.session_generator.specs.declared.session.Session.{Session}
 use Rattle.session_generator.specs.Documents.{document, documents_from}
 use Rattle.session_generator.specs.Ends.{AreLevel, HaveSession, IsWhyNone}
 use Rattle.session_generator.specs.Generated.{in_session, opening, via}
 use Rattle.session_generator.specs.UnderWay.{CanSend, IsUnderWay, Stops}
-use Rattle.session_generator.proofs.DocumentFacts.{is_document}
-use Rattle.session_generator.proofs.Fitting.{document_fits}
-use Rattle.session_generator.proofs.Answered.{HasReadSo}
+use Rattle.session_generator.proofs.{Answered.HasReadSo, DocumentFacts.is_document}
+use Rattle.session_generator.proofs.{Fitting.document_fits, Whole.strings_whole, Whole.whole_is}
 use Rattle.session_generator.proofs.Whole.{documents_join, going, last_taken, messages_whole}
 use Rattle.session_generator.proofs.Whole.{more_fit, next_taken, one_more, session_is}
-use Rattle.session_generator.proofs.Whole.{strings_whole, whole_is}
 
 module _ (statics : List Entry) (l : Limits) (good : IsGood l) (is_map : IsStaticMap statics) where
   abbrev x : Settings

@@ -1,20 +1,16 @@
 -- The loop over the documents of a seed: what each step may do, and what the end of it answers.
-use Rattle.std.proofs.Common.{◌≡◌, ℕ, ◌<◌, ◌^◌, List, Result, Ok, Err, sym, subst, arith}
-use Rattle.std.specs.Prelude.{IfOk, IfErr}
-use Rattle.nbfx_values.specs.Limits.{IsGood, Limits}
-use Rattle.nbfx_values.specs.declared.content.Item.{Item}
-use Rattle.nbfx_values.specs.declared.session.Mode.TheVariants.{Duplex}
+use Rattle.std.proofs.Common.{◌≡◌, ℕ, ◌^◌, ◌<◌, List, IfOk, IfErr, Ok, Err, Result, sym, subst}
+use Rattle.{std.proofs.Common.arith, nbfx_encoder.specs.declared.sender.Side.TheVariants.Initiator}
 use Rattle.string_tables.specs.StaticStrings.{Entry, IsStaticMap}
+use Rattle.nbfx_values.specs.declared.{content.Item.Item, session.Mode.TheVariants.Duplex}
+use Rattle.nbfx_values.specs.Limits.{IsGood, Limits}
 use Rattle.nbfx_encoder.specs.Sending.{MayNotEnd, mode_in, side_in, state_in}
-use Rattle.nbfx_encoder.specs.declared.sender.Side.TheVariants.{Initiator}
-use Rattle.session_generator.specs.declared.ends.Ends.{Ends}
-use Rattle.session_generator.specs.declared.ends.GenFault.{GenFault}
+use Rattle.session_generator.specs.declared.ends.{Ends.Ends, GenFault.GenFault}
 use Rattle.session_generator.specs.declared.session.Session.{Session}
 use Rattle.session_generator.specs.Documents.{documents, drawn, stepped}
 use Rattle.session_generator.specs.Ends.{AreLevel, HaveSession, IsWhyNone}
 use Rattle.session_generator.specs.UnderWay.{IsUnderWay, WhereUnderWay}
-use Rattle.session_generator.proofs.Carrying.{are_level}
-use Rattle.session_generator.proofs.Looping.{as_many, ended_with}
+use Rattle.session_generator.proofs.{Carrying.are_level, Looping.as_many, Looping.ended_with}
 
 -- what is drawn has 32 bits
 pub drawn_low : (y : ℕ) → drawn (stepped y) < 2 ^ 32

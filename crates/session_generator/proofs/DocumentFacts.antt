@@ -1,21 +1,16 @@
 -- What holds of each document of a seed: it is one, and small.
-use Rattle.std.proofs.Common.{◌≡◌, ℕ, zero, suc, ◌+◌, ◌-◌, ◌/◌, ◌%◌, ◌<◌, ◌≤◌, ◌^◌, List, [], ◌∷◌}
-use Rattle.std.proofs.Common.{length, true, refl, ap, ◌∙◌, arith, length-append}
-use Rattle.std.specs.Prelude.{codes, pos}
-use Rattle.std.specs.Fmt.{decimal}
-use Rattle.std.specs.List.{list_all, repeat}
-use Rattle.std.specs.Str.{IsAscii, is_utf8}
-use Rattle.std.proofs.lemmas.Bool.{le-ltb}
+use Rattle.std.proofs.Common.{◌≡◌, ℕ, zero, suc, ◌+◌, ◌-◌, ◌/◌, ◌%◌, ◌^◌, ◌<◌, ◌≤◌, true, List, []}
+use Rattle.std.proofs.Common.{◌∷◌, length, pos, codes, IsAscii, decimal, refl, ap, ◌∙◌, arith}
+use Rattle.std.proofs.Common.{length-append, le-ltb}
 use Rattle.std.proofs.lemmas.Fmt.{IsAscii-decimal, length-decimal-le}
 use Rattle.std.proofs.lemmas.Str.{IsAscii-append, IsUtf8-from_ascii, is_utf8-from_IsUtf8}
 use Rattle.std.proofs.lemmas.Str.Ascii.{IsAscii-cons, IsAscii-nil}
-use Rattle.nbfx_values.specs.Documents.{IsDocument, no_more, text, element}
-use Rattle.nbfx_values.specs.Items.{is_valid_item}
-use Rattle.nbfx_values.specs.Measures.{content_of, depth_of}
-use Rattle.nbfx_values.specs.Scalars.{is_number}
+use Rattle.std.specs.{List.list_all, List.repeat, Str.is_utf8}
 use Rattle.nbfx_values.specs.declared.content.AttrItem.TheVariants.{Attr as AttrOn}
 use Rattle.nbfx_values.specs.declared.scalars.Scalar.TheVariants.{Number, Text as TextOf}
-use Rattle.nbfx_values.specs.declared.scalars.Value.TheVariants.{One}
+use Rattle.nbfx_values.specs.{declared.scalars.Value.TheVariants.One, Scalars.is_number}
+use Rattle.nbfx_values.specs.Documents.{element, IsDocument, no_more, text}
+use Rattle.nbfx_values.specs.{Items.is_valid_item, Measures.content_of, Measures.depth_of}
 use Rattle.session_generator.specs.Documents.{document, letters, root_name}
 
 -- texts are UTF-8

@@ -1,38 +1,29 @@
 -- Each document of a seed fits, whatever strings the session has, under all good quotas.
-use Rattle.std.proofs.Common.{◌≡◌, ℕ, zero, suc, ◌+◌, ◌*◌, ◌/◌, ◌%◌, ◌≤◌, List, [], ◌∷◌, ◌++◌}
-use Rattle.std.proofs.Common.{length, drop, Bool, true, false, Option, Some, None, Ok, refl, sym}
-use Rattle.std.proofs.Common.{ap, ◌∙◌, arith, append_assoc, length-append}
-use Rattle.std.specs.Prelude.{codes, pos, ℤ, if◌then◌else◌, flat_map, nat_lt, unsigned_abs}
-use Rattle.std.specs.Ordering.{int_eq}
-use Rattle.std.specs.Int.{to_le_bytes, w8, w16, w32, w64}
-use Rattle.std.proofs.lemmas.List.{append-nil}
-use Rattle.std.proofs.lemmas.List.Concat.{flat_map-append}
-use Rattle.std.proofs.Math.Seq.{drop-append_seam}
-use Rattle.multibyte_ints.specs.Integer.{shortest, shortest_within}
-use Rattle.multibyte_ints.specs.Text.{string_bytes_of}
-use Rattle.nbfx_values.specs.Limits.{IsGood, Limits}
-use Rattle.nbfx_values.specs.declared.scalars.Scalar.TheVariants.{Number}
+use Rattle.std.proofs.Common.{◌≡◌, ℕ, zero, suc, ◌+◌, ◌*◌, ◌/◌, ◌%◌, ◌≤◌, Bool, true, false, List}
+use Rattle.std.proofs.Common.{[], ◌∷◌, ◌++◌, length, drop, ℤ, pos, if◌then◌else◌, nat_lt}
+use Rattle.std.proofs.Common.{unsigned_abs, Some, None, Ok, codes, Option, flat_map, int_eq, sym}
+use Rattle.std.proofs.Common.{refl, ap, ◌∙◌, append_assoc, append-nil, arith, length-append, w8}
+use Rattle.std.{proofs.Common.w16, proofs.Common.w32, proofs.Common.w64, specs.Int.to_le_bytes}
+use Rattle.std.proofs.{Math.Seq.drop-append_seam, lemmas.List.Concat.flat_map-append}
+use Rattle.string_tables.specs.StringTable.{chosen_id, StringTable, with_strings}
+use Rattle.multibyte_ints.specs.{Integer.shortest, Integer.shortest_within, Text.string_bytes_of}
+use Rattle.nbfx_values.specs.{declared.scalars.Scalar.TheVariants.Number, Scalars.is_signed}
 use Rattle.nbfx_values.specs.declared.session.Kind.TheVariants.{Session}
-use Rattle.string_tables.specs.StringTable.{StringTable, chosen_id, with_strings}
-use Rattle.nbfx_values.specs.Scalars.{is_signed}
-use Rattle.nbfx_records.specs.declared.kinds.TextKind.TheVariants as texts
-use Rattle.nbfx_records.specs.declared.kinds.LengthForm.{LengthForm}
-use Rattle.nbfx_records.specs.declared.kinds.LengthForm.TheVariants.{OneByte, TwoBytes, FourBytes}
-use Rattle.nbfx_records.specs.declared.nodes.NameRef.{NameRef}
-use Rattle.nbfx_records.specs.declared.nodes.NameRef.TheVariants.{Inline, Id}
-use Rattle.nbfx_records.specs.declared.nodes.Node.{Node}
+use Rattle.nbfx_values.specs.Limits.{IsGood, Limits}
+use Rattle.nbfx_records.specs.{declared.kinds.LengthForm.LengthForm, Shapes.width_in}
+use Rattle.nbfx_records.specs.declared.kinds.LengthForm.TheVariants.{FourBytes, OneByte, TwoBytes}
+use Rattle.nbfx_records.specs.declared.nodes.NameRef.{NameRef, TheVariants.Id, TheVariants.Inline}
+use Rattle.nbfx_records.specs.declared.nodes.{Node.Node, RawValue.TheVariants.One}
 use Rattle.nbfx_records.specs.declared.nodes.Node.TheVariants.{Attribute, Element, EndElement, Text}
-use Rattle.nbfx_records.specs.declared.nodes.RawScalar.{RawScalar}
-use Rattle.nbfx_records.specs.declared.nodes.RawScalar.TheVariants.{Known}
-use Rattle.nbfx_records.specs.declared.nodes.RawValue.TheVariants.{One}
-use Rattle.nbfx_records.specs.Chosen.{TextRecord, chosen_bytes, chosen_number, chosen_scalar}
-use Rattle.nbfx_records.specs.Chosen.{least_form, name_bytes, signed, sized, table_bytes}
-use Rattle.nbfx_records.specs.Shapes.{width_in}
-use Rattle.nbfx_encoder.specs.Placing.{Placed, Writing, has_room, place, place_found, spell_text}
-use Rattle.nbfx_encoder.specs.Placing.{text_found}
+use Rattle.nbfx_records.specs.declared.nodes.RawScalar.{RawScalar, TheVariants.Known}
+use Rattle.nbfx_records.specs.Chosen.{chosen_bytes, chosen_number, chosen_scalar, least_form}
+use Rattle.nbfx_records.specs.Chosen.{name_bytes, signed, sized, table_bytes, TextRecord}
+use Rattle.nbfx_encoder.specs.Placing.{has_room, place, place_found, Placed, spell_text, text_found}
+use Rattle.nbfx_encoder.specs.Placing.{Writing}
 use Rattle.nbfx_encoder.specs.Spelling.{Fits, opening_bytes, spell, strings_behind, writing}
 use Rattle.session_generator.specs.Documents.{document, letters, root_name}
 use Rattle.session_generator.proofs.DocumentFacts.{content_low, letters_length, root_length}
+use Rattle.nbfx_records.specs.declared.kinds.TextKind.TheVariants as texts
 
 -- an integer has at most five bytes
 within_length : (more n : ℕ) → length (shortest_within more n) ≤ more + 1

@@ -11,3 +11,5 @@ pub mod Carrying
 pub mod Looping
 pub mod Sending
 pub mod Closing
+-- the line of a session, by what both ends measure; and what is written of it
+pub mod Measuring

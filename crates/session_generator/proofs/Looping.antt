@@ -1,15 +1,11 @@
 -- The documents of a seed that were sent, and those that are to come.
 use Rattle.std.proofs.Common.{◌≡◌, ℕ, zero, suc, ◌+◌, ◌-◌, ◌<◌, ◌≤◌, List, [], ◌∷◌, ◌++◌, length}
-use Rattle.std.proofs.Common.{refl, sym, ap, ◌∙◌, subst, arith, append_assoc}
-use Rattle.std.proofs.lemmas.List.{append-nil}
-use Rattle.nbfx_values.specs.Limits.{IsGood, Limits}
-use Rattle.nbfx_values.specs.declared.content.Item.{Item}
+use Rattle.std.proofs.Common.{sym, refl, ap, ◌∙◌, subst, append_assoc, append-nil, arith}
 use Rattle.string_tables.specs.StaticStrings.{Entry, IsStaticMap}
-use Rattle.session_generator.specs.declared.ends.Ends.{Ends}
-use Rattle.session_generator.specs.declared.ends.GenFault.{GenFault}
+use Rattle.nbfx_values.specs.{declared.content.Item.Item, Limits.IsGood, Limits.Limits}
+use Rattle.session_generator.specs.declared.ends.{Ends.Ends, GenFault.GenFault}
 use Rattle.session_generator.specs.Documents.{document, documents, documents_from, drawn, stepped}
-use Rattle.session_generator.specs.Ends.{HaveSession, IsWhyNone}
-use Rattle.session_generator.specs.UnderWay.{Stops}
+use Rattle.session_generator.specs.{Ends.HaveSession, Ends.IsWhyNone, UnderWay.Stops}
 use Rattle.session_generator.proofs.Carrying.{why_none}
 
 -- as many as were asked for

@@ -1,42 +1,31 @@
 -- What the steps of a session answer, by what its ends do.
-use Rattle.std.proofs.Common.{◌≡◌, ℕ, ◌≤◌, List, [], ◌∷◌, ◌++◌, length, false, Result, Ok, Err}
-use Rattle.std.proofs.Common.{refl, sym, ap, ◌∙◌, subst}
-use Rattle.std.specs.Prelude.{⊤, OnOk, IfErr}
-use Rattle.std.proofs.lemmas.List.{append-nil}
-use Rattle.unit_streams.specs.Grammar.{standing}
-use Rattle.unit_streams.specs.Judging.{answer, is_over_at}
-use Rattle.nbfx_values.specs.Limits.{IsGood, Limits}
-use Rattle.nbfx_values.specs.declared.content.Item.{Item}
-use Rattle.nbfx_values.specs.declared.session.Kind.TheVariants.{Session as WithStrings}
-use Rattle.nbfx_values.specs.declared.session.Mode.TheVariants.{Duplex}
+use Rattle.std.proofs.Common.{◌≡◌, ℕ, ◌≤◌, false, List, [], ◌∷◌, ◌++◌, length, IfErr, OnOk, Ok, Err}
+use Rattle.std.proofs.Common.{Result, sym, refl, ap, ◌∙◌, subst, append-nil}
+use Rattle.{std.specs.Prelude.⊤, receiver_machine.specs.declared.receiver.Receiver.Receiver}
+use Rattle.unit_streams.specs.{Grammar.standing, Judging.answer, Judging.is_over_at}
 use Rattle.string_tables.specs.StaticStrings.{Entry, IsStaticMap}
-use Rattle.nbfx_encoder.specs.Placing.{Placed}
-use Rattle.nbfx_encoder.specs.Sending.{KeepsSettings, RefusesMessage, Sends, behind_message}
-use Rattle.nbfx_encoder.specs.Sending.{kind_in, limits_in, mode_in, names_in, side_in, state_in}
-use Rattle.nbfx_encoder.specs.Spelling.{Unfit, encoded}
-use Rattle.nbfx_encoder.specs.declared.faults.EncodeFault.TheVariants as refusals
-use Rattle.nbfx_encoder.specs.declared.sender.SendFault.{SendFault}
+use Rattle.nbfx_values.specs.declared.{content.Item.Item, session.Mode.TheVariants.Duplex}
+use Rattle.nbfx_values.specs.declared.session.Kind.TheVariants.{Session as WithStrings}
+use Rattle.nbfx_values.specs.Limits.{IsGood, Limits}
+use Rattle.nbfx_encoder.specs.declared.sender.{SendFault.SendFault, SendState.SendState}
 use Rattle.nbfx_encoder.specs.declared.sender.SendFault.TheVariants.{Refused, WrongMoment}
-use Rattle.nbfx_encoder.specs.declared.sender.SendState.{SendState}
 use Rattle.nbfx_encoder.specs.declared.sender.SendState.TheVariants.{Closed, Ready}
-use Rattle.nbfx_encoder.specs.declared.sender.Side.TheVariants.{Initiator}
-use Rattle.stream_reader.specs.Judging.{offence}
-use Rattle.stream_reader.specs.Stream.{any_initiators, stream}
-use Rattle.receiver_machine.specs.declared.receiver.Receiver.{Receiver}
-use Rattle.receiver_machine.specs.ReceiverState.{StandsFor, settings_of}
-use Rattle.session_ends.specs.Sent.{first_table}
-use Rattle.session_generator.specs.declared.ends.Ends.{Ends}
-use Rattle.session_generator.specs.declared.ends.GenFault.{GenFault}
-use Rattle.session_generator.specs.declared.ends.GenFault.TheVariants.{SessionTooLong, Memory}
-use Rattle.session_generator.specs.declared.session.Session.{Session}
-use Rattle.session_generator.specs.Ends.{HaveSession, IsWhyNone}
-use Rattle.session_generator.specs.Faults.{IsWantOfMemory}
-use Rattle.session_generator.specs.Generated.{opening}
+use Rattle.nbfx_encoder.specs.{declared.sender.Side.TheVariants.Initiator, Placing.Placed}
+use Rattle.nbfx_encoder.specs.Sending.{behind_message, KeepsSettings, kind_in, limits_in, mode_in}
+use Rattle.nbfx_encoder.specs.Sending.{names_in, RefusesMessage, Sends, side_in, state_in}
+use Rattle.nbfx_encoder.specs.Spelling.{encoded, Unfit}
+use Rattle.stream_reader.specs.{Judging.offence, Stream.any_initiators, Stream.stream}
+use Rattle.receiver_machine.specs.ReceiverState.{settings_of, StandsFor}
+use Rattle.{session_ends.specs.Sent.first_table, session_generator.proofs.Whole.opening_taken}
+use Rattle.session_generator.specs.declared.ends.{Ends.Ends, GenFault.GenFault}
+use Rattle.session_generator.specs.declared.ends.GenFault.TheVariants.{Memory, SessionTooLong}
+use Rattle.session_generator.specs.{declared.session.Session.Session, Generated.opening}
+use Rattle.session_generator.specs.{Ends.HaveSession, Ends.IsWhyNone, Faults.IsWantOfMemory}
 use Rattle.session_generator.specs.UnderWay.{CanSend, IsReadSo, IsUnderWay, Stops, WhereUnderWay}
-use Rattle.session_generator.proofs.Answered.{HasReadSo, first_going, has_read}
+use Rattle.session_generator.proofs.Answered.{first_going, has_read, HasReadSo}
 use Rattle.session_generator.proofs.Carrying.{end_is_taken, end_stopped, ended, front, is_taken}
 use Rattle.session_generator.proofs.Carrying.{sent_on, short, still_going, stopped}
-use Rattle.session_generator.proofs.Whole.{opening_taken}
+use Rattle.nbfx_encoder.specs.declared.faults.EncodeFault.TheVariants as refusals
 
 -- a document that fits is refused for want of memory alone
 pub only_memory : (answer : Result (Placed (List ℕ)) Unfit) (state : SendState) (fault : SendFault)

@@ -1,40 +1,29 @@
 -- The session of a seed's documents, as far as it has come, and the whole of it.
-use Rattle.std.proofs.Common.{◌≡◌, ℕ, zero, suc, ◌+◌, ◌≤◌, List, [], ◌∷◌, ◌++◌, length, map, false}
-use Rattle.std.proofs.Common.{Ok, None, refl, sym, ap, ◌∙◌, subst, arith, append_assoc}
-use Rattle.std.specs.Prelude.{IsUtf8, codes}
-use Rattle.std.specs.Char.{encode_utf8}
-use Rattle.std.proofs.lemmas.List.{append-nil, length-map}
-use Rattle.unit_streams.specs.Grammar.{standing}
-use Rattle.unit_streams.specs.Judging.{is_over_at}
-use Rattle.unit_streams.proofs.Units.{IsBetween}
-use Rattle.nbfx_values.specs.Documents.{IsDocument}
-use Rattle.nbfx_values.specs.Limits.{IsGood, Limits}
-use Rattle.nbfx_values.specs.declared.content.Item.{Item}
-use Rattle.nbfx_values.specs.declared.session.Kind.TheVariants.{Session}
-use Rattle.nbfx_values.specs.declared.session.Mode.TheVariants.{Duplex}
-use Rattle.string_tables.specs.SessionStrings.{used_cost}
+use Rattle.std.proofs.Common.{◌≡◌, ℕ, zero, suc, ◌+◌, ◌≤◌, false, List, [], ◌∷◌, ◌++◌, map, length}
+use Rattle.std.proofs.Common.{None, Ok, codes, IsUtf8, sym, refl, ap, ◌∙◌, subst, append_assoc}
+use Rattle.std.proofs.{Common.append-nil, Common.arith, lemmas.List.length-map}
+use Rattle.{std.specs.Char.encode_utf8, nbfx_decoder.specs.Laws.IsWholePayload}
+use Rattle.unit_streams.{proofs.Units.IsBetween, specs.Grammar.standing, specs.Judging.is_over_at}
+use Rattle.string_tables.specs.{SessionStrings.used_cost, StringTable.StringTable}
 use Rattle.string_tables.specs.StaticStrings.{Entry, IsStaticMap}
-use Rattle.string_tables.specs.StringTable.{StringTable}
-use Rattle.nbfx_decoder.specs.Laws.{IsWholePayload}
-use Rattle.nbfx_encoder.specs.Envelopes.{behind_bytes, envelope, envelope_then, envelopes_from}
-use Rattle.nbfx_encoder.specs.Placing.{Placed}
-use Rattle.nbfx_encoder.specs.ReadBack.{AdmitsAsMuch}
-use Rattle.nbfx_encoder.specs.Spelling.{encoded}
+use Rattle.nbfx_values.specs.{declared.content.Item.Item, Documents.IsDocument}
+use Rattle.nbfx_values.specs.declared.session.{Kind.TheVariants.Session, Mode.TheVariants.Duplex}
+use Rattle.nbfx_values.specs.Limits.{IsGood, Limits}
 use Rattle.nbfx_encoder.proofs.LawFacts.{sends_one_more, writes_what_fits}
-use Rattle.stream_reader.specs.Sessions.{Carried, IsPreamble, conversation, IsSession}
-use Rattle.stream_reader.specs.Stream.{Settings, Situation, any_initiators, is_over_in, payloads}
+use Rattle.nbfx_encoder.specs.Envelopes.{behind_bytes, envelope, envelope_then, envelopes_from}
+use Rattle.nbfx_encoder.specs.{Placing.Placed, ReadBack.AdmitsAsMuch, Spelling.encoded}
+use Rattle.stream_reader.proofs.{FromSession.left_by, Grammar.readable}
+use Rattle.stream_reader.specs.Sessions.{Carried, conversation, IsPreamble, IsSession}
+use Rattle.stream_reader.specs.Stream.{any_initiators, is_over_in, payloads, Settings, Situation}
 use Rattle.stream_reader.specs.Stream.{stream, strings_in}
-use Rattle.stream_reader.proofs.FromSession.{left_by}
-use Rattle.stream_reader.proofs.Grammar.{readable}
 use Rattle.initiator_machine.proofs.Openings.{openings_are_preambles}
-use Rattle.session_ends.specs.Sent.{AreDocuments, CarryDocuments, first_table, session_bytes}
-use Rattle.session_ends.specs.Sent.{strings_after}
 use Rattle.session_ends.proofs.Sent.{all_carried, one_carried, sent_are_sessions}
-use Rattle.session_ends.proofs.Steps.{IsTakenWhole, end_taken, envelope_taken, front_stands}
+use Rattle.session_ends.proofs.Steps.{end_taken, envelope_taken, front_stands, IsTakenWhole}
 use Rattle.session_ends.proofs.Steps.{messages_at, over_at, preamble_taken, session_stands}
+use Rattle.session_ends.specs.Sent.{AreDocuments, CarryDocuments, first_table, session_bytes}
+use Rattle.{session_ends.specs.Sent.strings_after, session_generator.proofs.Fitting.document_fits}
 use Rattle.session_generator.specs.Documents.{document, documents_from, drawn, stepped}
 use Rattle.session_generator.specs.Generated.{opening, via}
-use Rattle.session_generator.proofs.Fitting.{document_fits}
 
 left_is : (strings : List (List ℕ)) (carried : List Carried)
     → left_by strings carried ≡ strings_after strings carried

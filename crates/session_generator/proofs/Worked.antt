@@ -1,12 +1,9 @@
 -- Worked documents, by computation.
-use Rattle.std.proofs.Common.{◌≡◌, ℕ, List, [], ◌∷◌, map, refl}
-use Rattle.std.specs.Prelude.{codes, pos}
-use Rattle.std.specs.Fmt.{digits}
-use Rattle.std.specs.List.{repeat}
-use Rattle.nbfx_values.specs.declared.content.Item.{Item}
-use Rattle.nbfx_values.specs.declared.content.Item.TheVariants.{Start, Attr, Text, Close}
+use Rattle.std.proofs.Common.{◌≡◌, ℕ, List, [], ◌∷◌, map, pos, codes, refl}
+use Rattle.std.specs.{Fmt.digits, List.repeat}
+use Rattle.nbfx_values.specs.declared.{content.Item.Item, scalars.Value.TheVariants.One}
+use Rattle.nbfx_values.specs.declared.content.Item.TheVariants.{Attr, Close, Start, Text}
 use Rattle.nbfx_values.specs.declared.scalars.Scalar.TheVariants.{Number, Text as TextOf}
-use Rattle.nbfx_values.specs.declared.scalars.Value.TheVariants.{One}
 use Rattle.session_generator.specs.Documents.{documents, documents_from}
 
 -- a document: its name, its number, what it is made of, and the number of its letters

@@ -1,15 +1,10 @@
 -- Worked sessions, by computation.
-use Rattle.std.proofs.Common.{◌≡◌, ℕ, List, [], ◌∷◌, ◌++◌, length, map, refl, Option, Some, None}
-use Rattle.std.proofs.Common.{Result, Ok, Err}
-use Rattle.std.specs.Prelude.{codes}
-use Rattle.std.specs.Char.{encode_utf8}
-use Rattle.std.specs.Fmt.{digits}
-use Rattle.std.specs.List.{repeat}
-use Rattle.multibyte_ints.specs.Integer.{shortest, shortest_within}
-use Rattle.multibyte_ints.specs.Text.{string_bytes_of}
+use Rattle.std.proofs.Common.{◌≡◌, ℕ, List, [], ◌∷◌, ◌++◌, map, length, Some, None, Ok, Err, codes}
+use Rattle.std.proofs.Common.{Option, Result, refl}
+use Rattle.std.specs.{Char.encode_utf8, Fmt.digits, List.repeat}
+use Rattle.multibyte_ints.specs.{Integer.shortest, Integer.shortest_within, Text.string_bytes_of}
 use Rattle.nbfx_values.specs.Limits.{Limits, limits, usual_limits}
-use Rattle.nbfx_encoder.specs.Envelopes.{UnfitAt}
-use Rattle.nbfx_encoder.specs.Placing.{Placed}
+use Rattle.nbfx_encoder.specs.{Envelopes.UnfitAt, Placing.Placed}
 use Rattle.session_generator.specs.Documents.{documents, documents_from}
 use Rattle.session_generator.specs.Generated.{session_of}
 

@@ -1,13 +1,10 @@
 -- The documents that follow a seed: each is made of its number and of the upper half of a number
 -- of 64 bits, which a linear congruence leads on from document to document.
-use Rattle.std.specs.Prelude.{ℕ, zero, suc, ◌+◌, ◌*◌, ◌/◌, ◌%◌, ◌^◌, pos, List, [], ◌∷◌, ◌++◌}
-use Rattle.std.specs.Prelude.{codes}
-use Rattle.std.specs.Fmt.{decimal}
-use Rattle.std.specs.List.{repeat}
-use Rattle.nbfx_values.specs.declared.content.Item.{Item}
-use Rattle.nbfx_values.specs.declared.content.Item.TheVariants.{Start, Attr, Text, Close}
+use Rattle.std.specs.Prelude.{ℕ, zero, suc, ◌+◌, ◌*◌, ◌/◌, ◌%◌, ◌^◌, List, [], ◌∷◌, ◌++◌, pos}
+use Rattle.std.specs.{Prelude.codes, Prelude.decimal, List.repeat}
+use Rattle.nbfx_values.specs.declared.{content.Item.Item, scalars.Value.TheVariants.One}
+use Rattle.nbfx_values.specs.declared.content.Item.TheVariants.{Attr, Close, Start, Text}
 use Rattle.nbfx_values.specs.declared.scalars.Scalar.TheVariants.{Number, Text as TextOf}
-use Rattle.nbfx_values.specs.declared.scalars.Value.TheVariants.{One}
 
 -- the number of 64 bits behind another
 abbrev pub stepped : ℕ → ℕ

@@ -1,23 +1,17 @@
 -- Both ends of the session that was generated, and why there are none.
-use Rattle.std.specs.Prelude.{◌≡◌, ⊤, ℕ, List, length, map, Ok, Some, None}
-use Rattle.unit_streams.specs.Grammar.{standing}
-use Rattle.nbfx_values.specs.Limits.{Limits}
-use Rattle.nbfx_values.specs.declared.content.Item.{Item}
-use Rattle.nbfx_values.specs.declared.refusals.Offence.{Offence}
+use Rattle.std.specs.Prelude.{◌≡◌, ℕ, List, map, length, Some, None, Ok, ⊤}
+use Rattle.{unit_streams.specs.Grammar.standing, nbfx_values.specs.Limits.Limits}
+use Rattle.{string_tables.specs.StaticStrings.Entry, stream_reader.specs.Judging.offence}
+use Rattle.nbfx_values.specs.declared.{content.Item.Item, refusals.Offence.Offence}
 use Rattle.nbfx_values.specs.declared.refusals.Reason.TheVariants.{SessionTooLong as IsLong}
-use Rattle.nbfx_values.specs.declared.session.Kind.TheVariants.{Session}
-use Rattle.nbfx_values.specs.declared.session.Mode.TheVariants.{Duplex}
-use Rattle.string_tables.specs.StaticStrings.{Entry}
-use Rattle.nbfx_encoder.specs.Placing.{Placed}
+use Rattle.nbfx_values.specs.declared.session.{Kind.TheVariants.Session, Mode.TheVariants.Duplex}
+use Rattle.nbfx_encoder.specs.{declared.sender.SendState.TheVariants.Closed, Placing.Placed}
 use Rattle.nbfx_encoder.specs.Sending.{names_in, state_in}
-use Rattle.nbfx_encoder.specs.declared.sender.SendState.TheVariants.{Closed}
-use Rattle.stream_reader.specs.Judging.{offence}
-use Rattle.stream_reader.specs.Sessions.{Carried, IsSession, conversation}
+use Rattle.stream_reader.specs.Sessions.{Carried, conversation, IsSession}
 use Rattle.stream_reader.specs.Stream.{any_initiators, stream, strings_in}
-use Rattle.receiver_machine.specs.ReceiverState.{StandsFor, settings_of}
-use Rattle.session_generator.specs.declared.ends.Ends.{Ends}
-use Rattle.session_generator.specs.declared.ends.GenFault.{GenFault}
-use Rattle.session_generator.specs.declared.ends.GenFault.TheVariants.{SessionTooLong, Memory}
+use Rattle.receiver_machine.specs.ReceiverState.{settings_of, StandsFor}
+use Rattle.session_generator.specs.declared.ends.{Ends.Ends, GenFault.GenFault}
+use Rattle.session_generator.specs.declared.ends.GenFault.TheVariants.{Memory, SessionTooLong}
 use Rattle.session_generator.specs.Generated.{session_of, via}
 
 -- One end has sent the session and ended it, the other has read all of it, and both have the same

@@ -1,8 +1,6 @@
 -- Why a sending half refuses what fits.
-use Rattle.std.specs.Prelude.{⊤}
-use Rattle.nbfx_encoder.specs.declared.faults.EncodeFault.TheVariants.{Memory}
-use Rattle.nbfx_encoder.specs.declared.sender.SendFault.{SendFault}
-use Rattle.nbfx_encoder.specs.declared.sender.SendFault.TheVariants.{Refused}
+use Rattle.{std.specs.Prelude.⊤, nbfx_encoder.specs.declared.faults.EncodeFault.TheVariants.Memory}
+use Rattle.nbfx_encoder.specs.declared.sender.SendFault.{SendFault, TheVariants.Refused}
 
 abbrev pub IsWantOfMemory : SendFault → Type 0
 IsWantOfMemory (Refused Memory) = ⊤

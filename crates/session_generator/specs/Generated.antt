@@ -1,14 +1,10 @@
 -- The session that is generated of documents: an initiator's, in duplex mode, whose payloads bring
 -- strings.
-use Rattle.std.specs.Prelude.{ℕ, List, codes, Result, Ok, Err}
-use Rattle.nbfx_values.specs.Limits.{Limits}
-use Rattle.nbfx_values.specs.declared.content.Item.{Item}
-use Rattle.nbfx_values.specs.declared.session.Kind.TheVariants.{Session}
-use Rattle.nbfx_values.specs.declared.session.Mode.TheVariants.{Duplex}
-use Rattle.string_tables.specs.StaticStrings.{Entry}
-use Rattle.nbfx_encoder.specs.Envelopes.{UnfitAt, envelopes_from}
-use Rattle.nbfx_encoder.specs.Placing.{Placed}
-use Rattle.initiator_machine.specs.Opening.{opening_bytes}
+use Rattle.std.specs.Prelude.{ℕ, List, Ok, Err, codes, Result}
+use Rattle.{string_tables.specs.StaticStrings.Entry, initiator_machine.specs.Opening.opening_bytes}
+use Rattle.nbfx_values.specs.{declared.content.Item.Item, Limits.Limits}
+use Rattle.nbfx_values.specs.declared.session.{Kind.TheVariants.Session, Mode.TheVariants.Duplex}
+use Rattle.nbfx_encoder.specs.{Envelopes.envelopes_from, Envelopes.UnfitAt, Placing.Placed}
 use Rattle.session_ends.specs.Sent.{first_table, session_bytes}
 
 -- the Via that it names

@@ -1,28 +1,22 @@
 -- A session under way, and what its steps answer. Public contracts cite none of this.
-use Rattle.std.specs.Prelude.{◌≡◌, ⊤, ℕ, List, ◌++◌, take, Result, Ok, Err, Some}
-use Rattle.unit_streams.specs.Judging.{Answer, goes_on, completes, offends}
-use Rattle.nbfx_values.specs.Documents.{IsDocument}
-use Rattle.nbfx_values.specs.Limits.{IsGood, Limits}
-use Rattle.nbfx_values.specs.declared.content.Item.{Item}
-use Rattle.nbfx_values.specs.declared.refusals.Offence.{Offence}
+use Rattle.std.specs.Prelude.{◌≡◌, ℕ, List, ◌++◌, take, Some, Ok, Err, Result, ⊤}
+use Rattle.unit_streams.specs.Judging.{Answer, completes, goes_on, offends}
+use Rattle.string_tables.specs.StaticStrings.{Entry, IsStaticMap}
+use Rattle.nbfx_values.specs.declared.{content.Item.Item, refusals.Offence.Offence}
 use Rattle.nbfx_values.specs.declared.refusals.Reason.TheVariants.{SessionTooLong as IsLong}
 use Rattle.nbfx_values.specs.declared.session.Kind.TheVariants.{Session as WithStrings}
-use Rattle.nbfx_values.specs.declared.session.Mode.TheVariants.{Duplex}
-use Rattle.string_tables.specs.StaticStrings.{Entry, IsStaticMap}
-use Rattle.nbfx_encoder.specs.Envelopes.{envelopes_from}
-use Rattle.nbfx_encoder.specs.Placing.{Placed}
+use Rattle.nbfx_values.specs.{declared.session.Mode.TheVariants.Duplex, Documents.IsDocument}
+use Rattle.nbfx_values.specs.Limits.{IsGood, Limits}
+use Rattle.nbfx_encoder.specs.{declared.sender.SendState.TheVariants.Ready, Placing.Placed}
+use Rattle.nbfx_encoder.specs.{declared.sender.Side.TheVariants.Initiator, Spelling.encoded}
+use Rattle.{nbfx_encoder.specs.Envelopes.envelopes_from, stream_reader.specs.Judging.offence}
 use Rattle.nbfx_encoder.specs.Sending.{kind_in, limits_in, mode_in, names_in, side_in, state_in}
-use Rattle.nbfx_encoder.specs.Spelling.{encoded}
-use Rattle.nbfx_encoder.specs.declared.sender.SendState.TheVariants.{Ready}
-use Rattle.nbfx_encoder.specs.declared.sender.Side.TheVariants.{Initiator}
-use Rattle.stream_reader.specs.Judging.{offence}
-use Rattle.stream_reader.specs.Stream.{Settings, StreamEvent, any_initiators}
+use Rattle.stream_reader.specs.Stream.{any_initiators, Settings, StreamEvent}
 use Rattle.receiver_machine.specs.declared.receiver.Receiver.{Receiver}
-use Rattle.receiver_machine.specs.ReceiverState.{StandsFor, settings_of}
+use Rattle.receiver_machine.specs.ReceiverState.{settings_of, StandsFor}
 use Rattle.session_ends.specs.Sent.{AreDocuments, first_table}
-use Rattle.session_generator.specs.declared.ends.GenFault.{GenFault}
-use Rattle.session_generator.specs.declared.ends.GenFault.TheVariants.{SessionTooLong, Memory}
-use Rattle.session_generator.specs.declared.session.Session.{Session}
+use Rattle.session_generator.specs.declared.{ends.GenFault.GenFault, session.Session.Session}
+use Rattle.session_generator.specs.declared.ends.GenFault.TheVariants.{Memory, SessionTooLong}
 use Rattle.session_generator.specs.Generated.{opening}
 
 -- how a receiver takes the bytes y behind p, by the stream's answer to them

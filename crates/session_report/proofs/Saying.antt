@@ -1,41 +1,30 @@
 -- What is written of events as they are said is what a report says of them.
-use Rattle.std.proofs.Common.{◌≡◌, ℕ, ◌<◌, List, ◌++◌, length, take, Bool, Option, Some, Result, Ok}
-use Rattle.std.proofs.Common.{Err, refl, sym, ap, ◌∙◌, subst, arith}
-use Rattle.std.specs.Prelude.{◌^◌}
-use Rattle.io_edges.specs.Puts.{PutsAll}
-use Rattle.io_edges.specs.declared.SinkFault.{SinkFault}
-use Rattle.io_edges.proofs.Putting.{PutsAll-cut}
-use Rattle.unit_streams.specs.Grammar.{standing}
-use Rattle.unit_streams.specs.Judging.{Answer, goes_on, completes, offends, answer, event_at}
-use Rattle.unit_streams.proofs.Answers.{answers_are_first}
-use Rattle.nbfx_values.specs.Limits.{IsGood}
-use Rattle.nbfx_values.specs.Measures.{content_of}
-use Rattle.nbfx_values.specs.declared.content.Item.{Item}
-use Rattle.nbfx_values.specs.declared.refusals.Offence.{Offence}
-use Rattle.nbfx_values.specs.declared.session.Kind.{Kind}
-use Rattle.nbfx_values.specs.declared.session.Mode.{Mode}
-use Rattle.string_tables.specs.SessionStrings.{used_cost}
-use Rattle.stream_loop.specs.Answers.{said, written_by}
-use Rattle.stream_loop.specs.declared.reading_end.FeedFault.{FeedFault}
-use Rattle.stream_loop.proofs.Alike.{alike}
-use Rattle.stream_reader.specs.Saying.{said as said_by_reader, step_for}
-use Rattle.stream_reader.specs.declared.reader.ReadRefusal.{ReadRefusal}
-use Rattle.stream_reader.specs.StreamReaderState.{StandsFor, settings_of}
-use Rattle.stream_reader.specs.Stream.{Settings, StreamEvent, opened, accepted, message, ended}
-use Rattle.stream_reader.specs.Stream.{peer_fault, stream}
-use Rattle.stream_reader.specs.declared.reader.StreamReader.{StreamReader}
-use Rattle.stream_reader.specs.declared.reader.StreamStep.{StreamStep}
-use Rattle.stream_reader.specs.declared.reader.StreamStep.TheVariants as steps
+use Rattle.std.proofs.Common.{◌≡◌, ℕ, ◌^◌, ◌<◌, Bool, List, ◌++◌, length, take, Some, Ok, Err}
+use Rattle.std.proofs.Common.{Option, Result, sym, refl, ap, ◌∙◌, subst, arith}
+use Rattle.{io_edges.proofs.Putting.PutsAll-cut, string_tables.specs.SessionStrings.used_cost}
+use Rattle.io_edges.specs.{declared.SinkFault.SinkFault, Puts.PutsAll}
+use Rattle.unit_streams.{proofs.Answers.answers_are_first, specs.Grammar.standing}
+use Rattle.unit_streams.specs.Judging.{Answer, answer, completes, event_at, goes_on, offends}
+use Rattle.nbfx_values.specs.declared.{content.Item.Item, refusals.Offence.Offence}
+use Rattle.nbfx_values.specs.declared.session.{Kind.Kind, Mode.Mode}
+use Rattle.nbfx_values.specs.{Limits.IsGood, Measures.content_of}
 use Rattle.stream_reader.proofs.Situations.{documents_fit, event_tells}
-use Rattle.command_words.specs.declared.task.Detail.{Detail}
-use Rattle.command_words.specs.declared.task.Detail.TheVariants.{Summary, Whole}
-use Rattle.session_report.specs.declared.reading.Event.{Event}
-use Rattle.session_report.specs.declared.reading.Event.TheVariants as events
-use Rattle.session_report.specs.declared.reading.Received.{Received}
+use Rattle.stream_reader.specs.declared.reader.{ReadRefusal.ReadRefusal, StreamStep.StreamStep}
+use Rattle.stream_reader.specs.declared.reader.StreamReader.{StreamReader}
+use Rattle.stream_reader.specs.Saying.{said as said_by_reader, step_for}
+use Rattle.stream_reader.specs.Stream.{accepted, ended, message, opened, peer_fault, Settings}
+use Rattle.stream_reader.specs.Stream.{stream, StreamEvent}
+use Rattle.stream_reader.specs.StreamReaderState.{settings_of, StandsFor}
+use Rattle.stream_loop.{proofs.Alike.alike, specs.declared.reading_end.FeedFault.FeedFault}
+use Rattle.stream_loop.specs.Answers.{said, written_by}
+use Rattle.command_words.specs.declared.task.Detail.{Detail, TheVariants.Summary, TheVariants.Whole}
+use Rattle.session_report.specs.declared.reading.{Event.Event, Received.Received}
 use Rattle.session_report.specs.declared.reporter.Outcome.{Outcome}
-use Rattle.session_report.specs.Saying.{SaysStep, event_for, said_by, said_line, said_document}
-use Rattle.session_report.specs.Saying.{said_lines, said_outcome}
 use Rattle.session_report.specs.Report.{document_lines, event_line, lines_of, next_outcome, told_of}
+use Rattle.session_report.specs.Saying.{event_for, said_by, said_document, said_line, said_lines}
+use Rattle.session_report.specs.Saying.{said_outcome, SaysStep}
+use Rattle.stream_reader.specs.declared.reader.StreamStep.TheVariants as steps
+use Rattle.session_report.specs.declared.reading.Event.TheVariants as events
 
 same_line : (e : StreamEvent) → said_line (event_for e) ≡ event_line e
 same_line (opened mode kind via) = refl

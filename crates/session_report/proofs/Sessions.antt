@@ -1,26 +1,19 @@
 -- How a session has ended by its events, and its report.
-use Rattle.std.proofs.Common.{◌≡◌, ℕ, ◌+◌, List, [], ◌∷◌, ◌++◌, length, Bool, true, false, Option}
-use Rattle.std.proofs.Common.{Some, None, refl, sym, ap, ◌∙◌}
-use Rattle.std.proofs.lemmas.List.{append-nil}
-use Rattle.std.specs.List.{flat_map}
-use Rattle.unit_streams.specs.Judging.{History, events, history, offence as offence_by}
-use Rattle.unit_streams.specs.Tellers.{report as report_by, told_along, told_of_history}
-use Rattle.unit_streams.specs.Tellers.{state_behind}
-use Rattle.unit_streams.proofs.Pieces.{told_flat}
-use Rattle.nbfx_values.specs.Limits.{IsGood}
-use Rattle.nbfx_values.specs.declared.refusals.Offence.{Offence}
-use Rattle.stream_loop.specs.Reported.{IsJudged}
-use Rattle.stream_reader.specs.Sessions.{Carried, IsClosed, IsSession, HasParts, MayFollow, Parts}
-use Rattle.stream_reader.specs.Sessions.{conversation, answer, lone_ack, broken_off, turned_down}
-use Rattle.stream_reader.specs.Sessions.{message_events, session_events}
-use Rattle.stream_reader.specs.Stream.{Settings, Side, StreamEvent, ended, initiators, peer_fault}
-use Rattle.stream_reader.specs.Stream.{receivers, stream}
-use Rattle.stream_reader.proofs.Closed.{closed_or_refused}
-use Rattle.stream_reader.proofs.SessionEnds.{sessions_are_told}
-use Rattle.command_words.specs.declared.task.Detail.{Detail}
-use Rattle.session_report.specs.declared.reporter.Outcome.{Outcome}
-use Rattle.session_report.specs.declared.reporter.Outcome.TheVariants.{Open, Ended, Faulted}
-use Rattle.session_report.specs.Laws.{closing_line}
+use Rattle.std.proofs.Common.{◌≡◌, ℕ, ◌+◌, Bool, true, false, List, [], ◌∷◌, ◌++◌, length, Some}
+use Rattle.std.proofs.Common.{None, Option, flat_map, sym, refl, ap, ◌∙◌, append-nil}
+use Rattle.unit_streams.{proofs.Pieces.told_flat, specs.Tellers.told_of_history}
+use Rattle.unit_streams.specs.Judging.{events, History, history, offence as offence_by}
+use Rattle.unit_streams.specs.Tellers.{report as report_by, state_behind, told_along}
+use Rattle.nbfx_values.specs.{declared.refusals.Offence.Offence, Limits.IsGood}
+use Rattle.stream_reader.proofs.{Closed.closed_or_refused, SessionEnds.sessions_are_told}
+use Rattle.stream_reader.specs.Sessions.{answer, broken_off, Carried, conversation, HasParts}
+use Rattle.stream_reader.specs.Sessions.{IsClosed, IsSession, lone_ack, MayFollow, message_events}
+use Rattle.stream_reader.specs.Sessions.{Parts, session_events, turned_down}
+use Rattle.stream_reader.specs.Stream.{ended, initiators, peer_fault, receivers, Settings, Side}
+use Rattle.stream_reader.specs.Stream.{stream, StreamEvent}
+use Rattle.{stream_loop.specs.Reported.IsJudged, command_words.specs.declared.task.Detail.Detail}
+use Rattle.session_report.specs.{declared.reporter.Outcome.Outcome, Laws.closing_line}
+use Rattle.session_report.specs.declared.reporter.Outcome.TheVariants.{Ended, Faulted, Open}
 use Rattle.session_report.specs.Report.{ack_length, ended_line, last_line, lines_of, outcome}
 use Rattle.session_report.specs.Report.{report, told_of}
 

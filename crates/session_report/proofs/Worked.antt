@@ -1,18 +1,14 @@
 -- Worked reports, by computation.
-use Rattle.std.proofs.Common.{◌≡◌, [], ◌∷◌, ◌++◌, refl}
-use Rattle.std.specs.Prelude.{codes}
+use Rattle.std.proofs.Common.{◌≡◌, [], ◌∷◌, ◌++◌, codes, refl}
 use Rattle.std.specs.Fmt.{digits}
-use Rattle.line_notation.specs.Lines.{items_text}
-use Rattle.line_notation.specs.Quoted.{quoted}
 use Rattle.unit_streams.specs.Judging.{history, history_from}
-use Rattle.unit_streams.specs.Tellers.{report as report_by, told_along, state_behind}
-use Rattle.nbfx_values.specs.Limits.{usual_limits}
-use Rattle.nbfx_values.specs.declared.session.Kind.TheVariants.{Session}
-use Rattle.nbfx_values.specs.declared.session.Mode.{Mode}
-use Rattle.nbfx_values.specs.declared.session.Mode.TheVariants.{Duplex, Simplex}
-use Rattle.stream_reader.specs.Stream.{Settings, receivers}
-use Rattle.stream_reader.proofs.OnLiterals.{streams_on_literals, usual, of_session, preamble}
-use Rattle.stream_reader.proofs.OnLiterals.{plain_preamble}
+use Rattle.unit_streams.specs.Tellers.{report as report_by, state_behind, told_along}
+use Rattle.nbfx_values.specs.{declared.session.Kind.TheVariants.Session, Limits.usual_limits}
+use Rattle.nbfx_values.specs.declared.session.Mode.{Mode, TheVariants.Duplex, TheVariants.Simplex}
+use Rattle.stream_reader.proofs.OnLiterals.{of_session, plain_preamble, preamble}
+use Rattle.stream_reader.proofs.OnLiterals.{streams_on_literals, usual}
+use Rattle.stream_reader.specs.Stream.{receivers, Settings}
+use Rattle.line_notation.specs.{Lines.items_text, Quoted.quoted}
 use Rattle.command_words.specs.declared.task.Detail.TheVariants.{Summary, Whole}
 use Rattle.session_report.specs.Report.{offence_line, report}
 

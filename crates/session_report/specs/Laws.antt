@@ -1,12 +1,9 @@
 -- What holds of reports by their definitions alone, whatever the settings and the detail.
-use Rattle.std.specs.Prelude.{◌≡◌, ℕ, List, [], ◌++◌, length}
-use Rattle.std.specs.List.{flat_map}
-use Rattle.unit_streams.specs.Judging.{events}
-use Rattle.nbfx_values.specs.Limits.{IsGood}
+use Rattle.std.specs.Prelude.{◌≡◌, ℕ, List, [], ◌++◌, length, flat_map}
+use Rattle.{unit_streams.specs.Judging.events, nbfx_values.specs.Limits.IsGood}
+use Rattle.stream_reader.specs.{Judging.offence, Stream.Settings, Stream.stream}
+use Rattle.stream_reader.specs.Sessions.{IsSession, lone_ack, MayFollow, Parts, session_events}
 use Rattle.command_words.specs.declared.task.Detail.{Detail}
-use Rattle.stream_reader.specs.Judging.{offence}
-use Rattle.stream_reader.specs.Sessions.{IsSession, MayFollow, Parts, lone_ack, session_events}
-use Rattle.stream_reader.specs.Stream.{Settings, stream}
 use Rattle.session_report.specs.Report.{ended_line, last_line, outcome, report, told_of}
 
 -- a report is the lines of each event, in their order, and then the last line

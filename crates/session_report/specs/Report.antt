@@ -1,28 +1,19 @@
 -- What a report of a stream says, in lines, and how a session ends by its events.
-use Rattle.std.specs.Prelude.{ℕ, List, [], ◌∷◌, ◌++◌, length, Option, Some, None, codes}
-use Rattle.std.specs.Fmt.{decimal}
-use Rattle.line_notation.specs.Quoted.{quoted}
-use Rattle.line_notation.specs.Lines.{items_text, with_line_feed}
-use Rattle.line_notation.specs.Words.{spaced}
-use Rattle.nbfx_values.specs.Measures.{content_of, depth_of}
-use Rattle.nbfx_values.specs.Refusals.{reason_number, reason_name}
-use Rattle.nbfx_values.specs.Session.{kind_number}
-use Rattle.nbfx_values.specs.declared.content.Item.{Item}
-use Rattle.nbfx_values.specs.declared.refusals.Offence.{Offence}
-use Rattle.nbfx_values.specs.declared.refusals.Place.{Place}
-use Rattle.nbfx_values.specs.declared.refusals.Place.TheVariants.{Frame, Payload}
-use Rattle.nbfx_values.specs.declared.session.Kind.{Kind}
-use Rattle.nbfx_values.specs.declared.session.Mode.{Mode}
-use Rattle.string_tables.specs.SessionStrings.{used_cost}
-use Rattle.unit_streams.specs.Tellers.{Teller, report as report_by}
+use Rattle.std.specs.Prelude.{ℕ, List, [], ◌∷◌, ◌++◌, length, Some, None, codes, decimal, Option}
+use Rattle.unit_streams.specs.Tellers.{report as report_by, Teller}
+use Rattle.{string_tables.specs.SessionStrings.used_cost, command_words.specs.Values.mode_name}
+use Rattle.nbfx_values.specs.declared.{content.Item.Item, refusals.Offence.Offence}
+use Rattle.nbfx_values.specs.declared.refusals.Place.{Place, TheVariants.Frame, TheVariants.Payload}
+use Rattle.nbfx_values.specs.declared.session.{Kind.Kind, Mode.Mode}
+use Rattle.nbfx_values.specs.{Measures.content_of, Measures.depth_of, Session.kind_number}
+use Rattle.nbfx_values.specs.Refusals.{reason_name, reason_number}
+use Rattle.stream_reader.specs.Stream.{accepted, ended, Envelope, message, opened, peer_fault}
+use Rattle.stream_reader.specs.Stream.{Settings, stream, StreamEvent}
 use Rattle.stream_loop.specs.Reported.{last_state}
-use Rattle.stream_reader.specs.Stream.{Settings, Envelope, StreamEvent, opened, accepted, message}
-use Rattle.stream_reader.specs.Stream.{ended, peer_fault, stream}
-use Rattle.command_words.specs.Values.{mode_name}
-use Rattle.command_words.specs.declared.task.Detail.{Detail}
-use Rattle.command_words.specs.declared.task.Detail.TheVariants.{Summary, Whole}
+use Rattle.line_notation.specs.{Lines.items_text, Lines.with_line_feed, Quoted.quoted, Words.spaced}
+use Rattle.command_words.specs.declared.task.Detail.{Detail, TheVariants.Summary, TheVariants.Whole}
 use Rattle.session_report.specs.declared.reporter.Outcome.{Outcome}
-use Rattle.session_report.specs.declared.reporter.Outcome.TheVariants.{Open, Ended, Faulted}
+use Rattle.session_report.specs.declared.reporter.Outcome.TheVariants.{Ended, Faulted, Open}
 
 -- a line: its keyword, other words, each after a space, and a line feed
 abbrev pub line : List ℕ → List (List ℕ) → List ℕ

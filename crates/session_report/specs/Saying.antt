@@ -1,28 +1,20 @@
 -- How events are said by a reading end, and what a reporter writes of them.
-use Rattle.std.specs.Prelude.{◌≡◌, ℕ, List, [], ◌∷◌, ◌++◌, length, Option, Some, None, codes}
-use Rattle.std.specs.Fmt.{decimal}
-use Rattle.line_notation.specs.Lines.{items_text}
-use Rattle.unit_streams.specs.Judging.{event_at}
-use Rattle.unit_streams.specs.Tellers.{Teller}
-use Rattle.nbfx_values.specs.Measures.{content_of}
-use Rattle.nbfx_values.specs.declared.refusals.Offence.{Offence}
-use Rattle.string_tables.specs.SessionStrings.{used_cost}
-use Rattle.stream_reader.specs.Saying.{step_for}
-use Rattle.stream_reader.specs.StreamReaderState.{StandsFor, settings_of}
-use Rattle.stream_reader.specs.Stream.{StreamEvent, opened, accepted, message, ended, peer_fault}
-use Rattle.stream_reader.specs.Stream.{stream}
-use Rattle.stream_reader.specs.declared.reader.StreamReader.{StreamReader}
-use Rattle.stream_reader.specs.declared.reader.StreamStep.{StreamStep}
-use Rattle.stream_reader.specs.declared.reader.StreamStep.TheVariants.{More}
-use Rattle.command_words.specs.declared.task.Detail.{Detail}
-use Rattle.command_words.specs.declared.task.Detail.TheVariants.{Summary, Whole}
-use Rattle.session_report.specs.declared.reading.Event.{Event}
-use Rattle.session_report.specs.declared.reading.Event.TheVariants as events
-use Rattle.session_report.specs.declared.reading.Received.{Received}
+use Rattle.std.specs.Prelude.{◌≡◌, ℕ, List, [], ◌∷◌, ◌++◌, length, Some, None, codes, decimal}
+use Rattle.{std.specs.Prelude.Option, string_tables.specs.SessionStrings.used_cost}
+use Rattle.unit_streams.specs.{Judging.event_at, Tellers.Teller}
+use Rattle.nbfx_values.specs.{declared.refusals.Offence.Offence, Measures.content_of}
+use Rattle.stream_reader.specs.{declared.reader.StreamReader.StreamReader, Saying.step_for}
+use Rattle.stream_reader.specs.declared.reader.StreamStep.{StreamStep, TheVariants.More}
+use Rattle.stream_reader.specs.Stream.{accepted, ended, message, opened, peer_fault, stream}
+use Rattle.{stream_reader.specs.Stream.StreamEvent, line_notation.specs.Lines.items_text}
+use Rattle.stream_reader.specs.StreamReaderState.{settings_of, StandsFor}
+use Rattle.command_words.specs.declared.task.Detail.{Detail, TheVariants.Summary, TheVariants.Whole}
+use Rattle.session_report.specs.declared.reading.{Event.Event, Received.Received}
 use Rattle.session_report.specs.declared.reporter.Outcome.{Outcome}
-use Rattle.session_report.specs.declared.reporter.Outcome.TheVariants.{Open, Ended, Faulted}
+use Rattle.session_report.specs.declared.reporter.Outcome.TheVariants.{Ended, Faulted, Open}
 use Rattle.session_report.specs.Report.{accepted_line, ended_line, fault_line, last_line, line}
 use Rattle.session_report.specs.Report.{measure_words, open_line, string_words}
+use Rattle.session_report.specs.declared.reading.Event.TheVariants as events
 
 -- the value that an event is said with
 abbrev pub event_for : StreamEvent → Event

@@ -4,9 +4,8 @@
 //! The one idea: a report is a function of the stream's history (`specs/Report`): its events in
 //! order, and then its offence, or that the session is over where no event says so. A [`StreamEnd`]
 //! reads a stream and owns the texts of its events, and a [`LineReporter`] writes the lines of
-//! these events; `stream_loop` and `stream_follower` have the loops over both. `specs/Saying` has
-//! how events are said between them, `specs/Laws` what holds of reports alone, which [`laws`]
-//! carries.
+//! these events; `stream_loop` has the loops over both. `specs/Saying` has how events are said
+//! between them, `specs/Laws` what holds of reports alone, which [`laws`] carries.
 #![tactic(auto)]
 
 pub mod laws;

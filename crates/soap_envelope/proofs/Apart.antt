@@ -1,17 +1,10 @@
 -- Sorted declarations are of prefixes that differ.
-use Rattle.std.proofs.Common.{◌≡◌, ◌∙◌, ◌∷◌, ◌++◌, [], ℕ, List, Bool, true, false, ◌&&◌, ◌||◌, not}
-use Rattle.std.proofs.Common.{ap, inl, inr, refl, sym}
-use Rattle.std.specs.Cmp.Lexicographic.{slice_cmp}
-use Rattle.std.specs.List.{filter, list_all}
-use Rattle.std.specs.Option.{is_some}
-use Rattle.std.specs.Ordering.{is_lt, nat_cmp, ordering_reverse}
-use Rattle.std.specs.Str.{bytes_eq}
-use Rattle.std.specs.declared.cmp.Ordering.{Ordering}
-use Rattle.std.specs.declared.cmp.Ordering.TheVariants.{Less, Equal, Greater}
-use Rattle.std.proofs.lemmas.Bool.{and_parts, cases_Bool}
-use Rattle.std.proofs.lemmas.Cmp.{nat_list_cmp_total}
-use Rattle.std.proofs.lemmas.Map.Lookups.{exact_bytes}
-use Rattle.std.proofs.lemmas.Slice.Eq.{bytes_eq-Decides}
+use Rattle.std.proofs.Common.{◌≡◌, ℕ, Bool, true, false, not, ◌&&◌, ◌||◌, List, [], ◌∷◌, ◌++◌}
+use Rattle.std.proofs.Common.{is_some, filter, bytes_eq, nat_cmp, is_lt, Ordering, Less, Equal}
+use Rattle.std.proofs.Common.{Greater, sym, refl, ap, ◌∙◌, inl, inr}
+use Rattle.std.proofs.lemmas.{Bool.and_parts, Bool.cases_Bool, Slice.Eq.bytes_eq-Decides}
+use Rattle.std.proofs.lemmas.{Cmp.nat_list_cmp_total, Map.Lookups.exact_bytes}
+use Rattle.std.specs.{Cmp.Lexicographic.slice_cmp, List.list_all, Ordering.ordering_reverse}
 use Rattle.soap_envelope.specs.Body.{in_scope, placed, put, put_all}
 use Rattle.soap_envelope.specs.Scopes.{Declaration, Scope, uri_in}
 

@@ -1,24 +1,16 @@
 -- What of a document is seen without its prefixes.
-use Rattle.std.proofs.Common.{◌≡◌, ◌∙◌, ◌+◌, ℕ, List, [], ◌∷◌, ap, drop, map, refl, Option, Some}
-use Rattle.std.proofs.Common.{None}
-use Rattle.std.proofs.Common.{if◌then◌else◌}
-use Rattle.std.specs.Prelude.{◌==◌, ◌&&◌}
-use Rattle.std.specs.Option.{option_map}
-use Rattle.std.proofs.Math.Path.{fun_ext}
-use Rattle.std.proofs.lemmas.List.{drop-map}
-use Rattle.nbfx_values.specs.declared.content.ArrayItem.{ArrayItem}
-use Rattle.nbfx_values.specs.declared.content.ArrayKind.TheVariants.{Int16}
-use Rattle.nbfx_values.specs.declared.content.Item.{Item}
-use Rattle.nbfx_values.specs.declared.content.Item.TheVariants.{Start, Xmlns, Attr, Text, Comment}
-use Rattle.nbfx_values.specs.declared.content.Item.TheVariants.{Array, Close}
+use Rattle.std.proofs.Common.{◌≡◌, ℕ, ◌+◌, ◌&&◌, List, [], ◌∷◌, map, drop, if◌then◌else◌, ◌==◌}
+use Rattle.std.proofs.Common.{Some, None, Option, option_map, refl, ap, ◌∙◌}
+use Rattle.std.proofs.{Math.Path.fun_ext, lemmas.List.drop-map}
+use Rattle.nbfx_values.specs.declared.content.{ArrayItem.ArrayItem, ArrayKind.TheVariants.Int16}
+use Rattle.nbfx_values.specs.declared.content.Item.{Item, TheVariants.Text, TheVariants.Xmlns}
+use Rattle.nbfx_values.specs.declared.content.Item.TheVariants.{Array, Attr, Close, Comment, Start}
 use Rattle.soap_envelope.specs.Characters.{characters_of, is_passed, is_plain}
 use Rattle.soap_envelope.specs.Children.{children_from, children_of, close_from, close_of, ends_at}
 use Rattle.soap_envelope.specs.Children.{is_child, is_start, open_behind}
-use Rattle.soap_envelope.specs.Scopes.{Scope}
-use Rattle.soap_envelope.specs.View.{text_item}
-use Rattle.soap_envelope.specs.Resolved.{Resolved, Element, Declares, Attribute, Texts, Comments}
-use Rattle.soap_envelope.specs.Resolved.{Arrays, Ends}
-use Rattle.soap_envelope.specs.Resolved.{resolved_from, resolved_item, scope_behind}
+use Rattle.soap_envelope.specs.Resolved.{Arrays, Attribute, Comments, Declares, Element, Ends}
+use Rattle.soap_envelope.specs.Resolved.{Resolved, resolved_from, resolved_item, scope_behind}
+use Rattle.soap_envelope.specs.{Resolved.Texts, Scopes.Scope, View.text_item}
 
 -- an item without what its prefixes and the declarations say
 abbrev some_array : ArrayItem

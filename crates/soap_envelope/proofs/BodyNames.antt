@@ -1,51 +1,36 @@
 -- The content of a view's Body has in any reply the names that it has in its document.
-use Rattle.std.proofs.Common.{◌≡◌, ◌∙◌, ◌∷◌, ◌++◌, ◌+◌, [], ℕ, zero, suc, List, true}
-use Rattle.std.proofs.Common.{Option, None, Some, Ok, add-one, ap, codes, drop}
-use Rattle.std.proofs.Common.{inl, inr, length, map, refl, subst, sym, if◌then◌else◌}
-use Rattle.std.specs.Prelude.{◌==◌, not, slice_get}
-use Rattle.std.specs.List.{list_all}
-use Rattle.std.specs.Option.{is_some, unwrap_or}
-use Rattle.std.proofs.lemmas.Bool.{and_parts, cases_Bool}
-use Rattle.nbfx_values.specs.declared.content.ArrayItem.{ArrayItem}
-use Rattle.nbfx_values.specs.declared.content.AttrItem.{AttrItem}
+use Rattle.std.proofs.Common.{◌≡◌, ℕ, zero, suc, ◌+◌, true, not, List, [], ◌∷◌, ◌++◌, map, length}
+use Rattle.std.proofs.Common.{drop, is_some, if◌then◌else◌, ◌==◌, slice_get, Some, None, Ok, codes}
+use Rattle.std.proofs.Common.{Option, unwrap_or, sym, refl, ap, ◌∙◌, subst, inl, inr, add-one}
+use Rattle.std.{proofs.lemmas.Bool.and_parts, proofs.lemmas.Bool.cases_Bool, specs.List.list_all}
+use Rattle.nbfx_values.{proofs.Walks.document-position, specs.declared.content.ArrayItem.ArrayItem}
+use Rattle.nbfx_values.specs.declared.content.AttrItem.{AttrItem, TheVariants.Attr as AttrOn}
 use Rattle.nbfx_values.specs.declared.content.AttrItem.TheVariants.{Xmlns as DeclaresOn}
-use Rattle.nbfx_values.specs.declared.content.AttrItem.TheVariants.{Attr as AttrOn}
-use Rattle.nbfx_values.specs.declared.content.Item.{Item}
-use Rattle.nbfx_values.specs.declared.content.Item.TheVariants.{Start, Xmlns, Attr, Text, Comment}
-use Rattle.nbfx_values.specs.declared.content.Item.TheVariants.{Array, Close}
+use Rattle.nbfx_values.specs.declared.content.Item.{Item, TheVariants.Text, TheVariants.Xmlns}
+use Rattle.nbfx_values.specs.declared.content.Item.TheVariants.{Array, Attr, Close, Comment, Start}
 use Rattle.nbfx_values.specs.declared.position.Position.TheVariants.{Before}
-use Rattle.nbfx_values.proofs.Walks.{document-position}
-use Rattle.soap_envelope.specs.declared.parts.Parts.{Parts}
+use Rattle.soap_envelope.specs.{declared.parts.Parts.Parts, Laws.BodiesAreNamed, Resolved.Texts}
 use Rattle.soap_envelope.specs.BadNames.{are_good, is_good_array}
-use Rattle.soap_envelope.specs.Body.{array_with, attribute_of, behind_head, missing}
-use Rattle.soap_envelope.specs.Body.{needed, self_standing, xmlns_of}
-use Rattle.soap_envelope.specs.Characters.{is_passed}
+use Rattle.soap_envelope.specs.{Bindings.scope_to, Seen.BodyStands}
+use Rattle.soap_envelope.specs.Body.{array_with, attribute_of, behind_head, missing, needed}
+use Rattle.soap_envelope.specs.{Body.self_standing, Body.xmlns_of, Names.qualified_name, Names.soap}
+use Rattle.soap_envelope.specs.{Characters.is_passed, Made.reply_scope}
 use Rattle.soap_envelope.specs.Children.{children_of, is_start}
-use Rattle.soap_envelope.specs.Laws.{BodiesAreNamed}
-use Rattle.soap_envelope.specs.Made.{reply_scope}
-use Rattle.soap_envelope.specs.Names.{qualified_name, soap}
 use Rattle.soap_envelope.specs.Parts.{is_element, kept_children, parts_among, parts_behind}
 use Rattle.soap_envelope.specs.Parts.{parts_of, root_scope}
-use Rattle.soap_envelope.specs.Resolved.{Arrays, Attribute, Comments, Element, Ends, Resolved}
-use Rattle.soap_envelope.specs.Resolved.{Texts}
-use Rattle.soap_envelope.specs.Resolved.{attributes_on, content_from}
-use Rattle.soap_envelope.specs.Resolved.{resolved_from, resolved_item}
-use Rattle.soap_envelope.specs.Scopes.{Declaration, Scope, around, attribute_uri, declaration}
-use Rattle.soap_envelope.specs.Scopes.{declared, declared_on, element_uri, is_bound, uri_in, within}
-use Rattle.soap_envelope.specs.Seen.{BodyStands}
-use Rattle.soap_envelope.proofs.Apart.{are_apart, in_scope-apart}
+use Rattle.soap_envelope.specs.Resolved.{Arrays, Attribute, attributes_on, Comments, content_from}
+use Rattle.soap_envelope.specs.Resolved.{Element, Ends, Resolved, resolved_from, resolved_item}
+use Rattle.soap_envelope.specs.Scopes.{around, attribute_uri, Declaration, declaration, declared}
+use Rattle.soap_envelope.specs.Scopes.{declared_on, element_uri, is_bound, Scope, uri_in, within}
+use Rattle.soap_envelope.proofs.{Apart.are_apart, Apart.in_scope-apart, Standing.front-declared-on}
 use Rattle.soap_envelope.proofs.BoundNames.{all_bound, bound-all, bound-at, head-gone, names-at}
-use Rattle.soap_envelope.proofs.BoundNames.{starts-apart}
-use Rattle.soap_envelope.proofs.Contents.{view-stands}
+use Rattle.soap_envelope.proofs.{BoundNames.starts-apart, LawFacts.is-viewed}
+use Rattle.soap_envelope.proofs.{Contents.view-stands, ResolvedViews.each-filter}
 use Rattle.soap_envelope.proofs.GoodNames.{good_attributes, good_head, good_names, head-good}
 use Rattle.soap_envelope.proofs.GoodNames.{names-good, refuted}
-use Rattle.soap_envelope.proofs.InScope.{Means, Reached, means-child, means-deeper, needs-reach}
-use Rattle.soap_envelope.proofs.LawFacts.{is-viewed}
-use Rattle.soap_envelope.proofs.ResolvedPlaces.{Each, children-stand, drop-resolved, inside}
-use Rattle.soap_envelope.proofs.ResolvedPlaces.{scope_to}
-use Rattle.soap_envelope.proofs.ResolvedViews.{each-filter}
+use Rattle.soap_envelope.proofs.InScope.{Means, means-child, means-deeper, needs-reach, Reached}
+use Rattle.soap_envelope.proofs.ResolvedPlaces.{children-stand, drop-resolved, Each, inside}
 use Rattle.soap_envelope.proofs.Standing.{deep-declared, deep-item, front-declared}
-use Rattle.soap_envelope.proofs.Standing.{front-declared-on}
 
 -- names in a scope where bound prefixes mean the same
 of-element : (scope other : Scope) → Means scope other → (p : List ℕ) → is_bound scope p ≡ true

@@ -1,32 +1,21 @@
 -- In a document with good names each attribute's prefix is bound, and no element declares a prefix
 -- twice.
-use Rattle.std.proofs.Common.{◌≡◌, ◌∙◌, ◌∷◌, ◌++◌, [], ℕ, zero, suc, List, Bool, true, false, ◌&&◌}
-use Rattle.std.proofs.Common.{◌||◌, None, Some, ap, append_assoc, drop, inl, inr, refl}
-use Rattle.std.proofs.Common.{sym}
-use Rattle.std.specs.Option.{is_some}
-use Rattle.std.specs.Prelude.{slice_get}
-use Rattle.std.specs.Str.{bytes_eq}
-use Rattle.std.proofs.lemmas.Bool.{and_parts, cases_Bool}
-use Rattle.std.proofs.lemmas.List.{append-nil}
-use Rattle.std.proofs.lemmas.Slice.Eq.{bytes_eq-Decides}
-use Rattle.nbfx_values.specs.declared.content.Item.{Item}
-use Rattle.nbfx_values.specs.declared.content.Item.TheVariants.{Start, Xmlns, Attr, Text, Comment}
-use Rattle.nbfx_values.specs.declared.content.Item.TheVariants.{Array, Close}
-use Rattle.nbfx_values.specs.declared.position.Position.{Position}
-use Rattle.nbfx_values.specs.declared.position.Position.TheVariants.{Before, Within, After}
-use Rattle.nbfx_values.specs.Items.{is_valid_item}
-use Rattle.nbfx_values.specs.Positions.{position_from, takes_attributes}
+use Rattle.std.proofs.Common.{◌≡◌, ℕ, zero, suc, Bool, true, false, ◌&&◌, ◌||◌, List, [], ◌∷◌, ◌++◌}
+use Rattle.std.proofs.Common.{drop, is_some, slice_get, Some, None, bytes_eq, sym, refl, ap, ◌∙◌}
+use Rattle.std.proofs.Common.{inl, inr, append_assoc, append-nil}
+use Rattle.std.proofs.lemmas.{Bool.and_parts, Bool.cases_Bool, Slice.Eq.bytes_eq-Decides}
 use Rattle.nbfx_values.proofs.Positions.{passed, position_from-none}
-use Rattle.soap_envelope.specs.BadNames.{is_good_array}
-use Rattle.soap_envelope.specs.Body.{behind_head}
-use Rattle.soap_envelope.specs.Children.{is_start}
-use Rattle.soap_envelope.specs.Resolved.{scope_behind}
-use Rattle.soap_envelope.specs.Scopes.{Declaration, Scope, around, declaration, declared, is_bound}
-use Rattle.soap_envelope.specs.Scopes.{uri_in}
+use Rattle.nbfx_values.specs.declared.content.Item.{Item, TheVariants.Text, TheVariants.Xmlns}
+use Rattle.nbfx_values.specs.declared.content.Item.TheVariants.{Array, Attr, Close, Comment, Start}
+use Rattle.nbfx_values.specs.{declared.position.Position.Position, Items.is_valid_item}
+use Rattle.nbfx_values.specs.declared.position.Position.TheVariants.{After, Before, Within}
+use Rattle.nbfx_values.specs.Positions.{position_from, takes_attributes}
+use Rattle.soap_envelope.specs.{BadNames.is_good_array, Scopes.uri_in}
+use Rattle.soap_envelope.{specs.Bindings.scope_to, specs.Body.behind_head, proofs.GoodNames.refuted}
+use Rattle.soap_envelope.specs.{Children.is_start, Resolved.scope_behind}
+use Rattle.soap_envelope.specs.Scopes.{around, Declaration, declaration, declared, is_bound, Scope}
 use Rattle.soap_envelope.proofs.Apart.{apart-parts, are_apart, has, has-append, has-cons}
 use Rattle.soap_envelope.proofs.GoodNames.{good_attributes, good_head, good_names, names-behind}
-use Rattle.soap_envelope.proofs.GoodNames.{refuted}
-use Rattle.soap_envelope.proofs.ResolvedPlaces.{scope_to}
 
 -- whether the prefixes of attributes are bound: of those at the head of items, and of all
 abbrev head_bound : Scope → List Item → Bool

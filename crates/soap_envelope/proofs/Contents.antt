@@ -1,36 +1,27 @@
 -- The content of Body may stand inside an element, and the texts of a document are valid.
-use Rattle.std.proofs.Common.{◌≡◌, ◌∙◌, ◌+◌, ◌∷◌, ◌++◌, [], ℕ, zero, suc, List, Bool, true, false}
-use Rattle.std.proofs.Common.{Option, None, Some, Result, Ok, Err, add-one, ap, arith, codes, drop}
-use Rattle.std.proofs.Common.{inl, inr, map, refl, subst, sym}
-use Rattle.std.specs.Prelude.{◌==◌, IfOk, option_map, slice_get}
-use Rattle.std.specs.List.{list_all}
-use Rattle.std.proofs.lemmas.Bool.{and_parts, cases_Bool}
-use Rattle.std.proofs.lemmas.List.Folds.{list_all-append}
-use Rattle.nbfx_values.specs.declared.content.Item.{Item}
-use Rattle.nbfx_values.specs.declared.content.Item.TheVariants.{Start, Xmlns, Attr, Text, Comment}
-use Rattle.nbfx_values.specs.declared.content.Item.TheVariants.{Array, Close}
-use Rattle.nbfx_values.specs.declared.position.Position.{Position}
-use Rattle.nbfx_values.specs.declared.position.Position.TheVariants.{Before, Within, After}
-use Rattle.nbfx_values.specs.Documents.{IsDocument}
-use Rattle.nbfx_values.specs.Items.{is_valid_item}
-use Rattle.nbfx_values.specs.Positions.{next_position, position_from}
+use Rattle.std.proofs.Common.{◌≡◌, ℕ, zero, suc, ◌+◌, Bool, true, false, List, [], ◌∷◌, ◌++◌, map}
+use Rattle.std.proofs.Common.{drop, IfOk, ◌==◌, slice_get, Some, None, Ok, Err, codes, Option}
+use Rattle.std.proofs.Common.{Result, option_map, sym, refl, ap, ◌∙◌, subst, inl, inr, add-one}
+use Rattle.std.{proofs.Common.arith, specs.List.list_all}
+use Rattle.std.proofs.lemmas.{Bool.and_parts, Bool.cases_Bool, List.Folds.list_all-append}
 use Rattle.nbfx_values.proofs.Positions.{passed, position_from-none, stepped}
-use Rattle.nbfx_values.proofs.Walks.{document-position}
-use Rattle.soap_envelope.specs.declared.parts.Parts.{Parts}
-use Rattle.soap_envelope.specs.declared.refusals.SoapFault.{SoapFault}
-use Rattle.soap_envelope.specs.declared.refusals.SoapFault.TheVariants.{BadNames}
-use Rattle.soap_envelope.specs.BadNames.{bad_name}
+use Rattle.nbfx_values.{proofs.Walks.document-position, specs.Documents.IsDocument}
+use Rattle.nbfx_values.specs.declared.content.Item.{Item, TheVariants.Text, TheVariants.Xmlns}
+use Rattle.nbfx_values.specs.declared.content.Item.TheVariants.{Array, Attr, Close, Comment, Start}
+use Rattle.nbfx_values.specs.{declared.position.Position.Position, Items.is_valid_item}
+use Rattle.nbfx_values.specs.declared.position.Position.TheVariants.{After, Before, Within}
+use Rattle.nbfx_values.specs.Positions.{next_position, position_from}
+use Rattle.soap_envelope.specs.{declared.parts.Parts.Parts, Names.soap, View.viewed, View.viewed_by}
+use Rattle.soap_envelope.specs.declared.refusals.SoapFault.{SoapFault, TheVariants.BadNames}
+use Rattle.soap_envelope.specs.{BadNames.bad_name, Seen.BodyStands}
 use Rattle.soap_envelope.specs.Body.{array_with, behind_head, body_items, child_items, missing}
 use Rattle.soap_envelope.specs.Body.{needed, self_standing, standing_items, xmlns_of}
 use Rattle.soap_envelope.specs.Children.{children_of, is_start}
-use Rattle.soap_envelope.specs.Making.{AreTexts, IsContent, is_valid_text}
-use Rattle.soap_envelope.specs.Names.{soap}
+use Rattle.soap_envelope.specs.Making.{AreTexts, is_valid_text, IsContent}
 use Rattle.soap_envelope.specs.Parts.{is_element, is_some_name, kept_children, name_by, parts_among}
 use Rattle.soap_envelope.specs.Parts.{parts_behind, parts_of, root_scope, wrong_root}
-use Rattle.soap_envelope.specs.Scopes.{Declaration, Scope, declared, within}
+use Rattle.soap_envelope.specs.Scopes.{Declaration, declared, Scope, within}
 use Rattle.soap_envelope.specs.View.{header_fault, texts_among, texts_at, texts_in, unless, view}
-use Rattle.soap_envelope.specs.View.{viewed, viewed_by}
-use Rattle.soap_envelope.specs.Seen.{BodyStands}
 use Rattle.soap_envelope.proofs.Declarations.{array-valid, is_text, missing-texts, needed-texts}
 
 -- declarations lead nowhere else behind the beginning of an element

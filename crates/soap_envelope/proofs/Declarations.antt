@@ -1,17 +1,11 @@
 -- Declarations of a document are texts, in whatever order they are kept.
-use Rattle.std.proofs.Common.{◌≡◌, ◌∙◌, ℕ, List, [], ◌∷◌, ◌+◌, Bool, true, drop, map, refl, inl}
-use Rattle.std.proofs.Common.{inr}
-use Rattle.std.specs.Cmp.Lexicographic.{slice_cmp}
-use Rattle.std.specs.Ordering.{nat_cmp}
-use Rattle.std.specs.declared.cmp.Ordering.{Ordering}
-use Rattle.std.specs.declared.cmp.Ordering.TheVariants.{Less, Equal, Greater}
-use Rattle.std.specs.List.{filter, list_all}
-use Rattle.std.specs.Prelude.{not}
+use Rattle.std.proofs.Common.{◌≡◌, ℕ, ◌+◌, Bool, true, not, List, [], ◌∷◌, map, drop, filter}
+use Rattle.std.proofs.Common.{nat_cmp, Ordering, Less, Equal, Greater, refl, ◌∙◌, inl, inr}
 use Rattle.std.proofs.lemmas.Bool.{and_parts, cases_Bool}
 use Rattle.std.proofs.lemmas.List.Folds.{list_all-append, list_all-map}
+use Rattle.std.specs.{Cmp.Lexicographic.slice_cmp, List.list_all}
 use Rattle.nbfx_values.specs.declared.content.ArrayItem.{ArrayItem}
-use Rattle.nbfx_values.specs.declared.content.Item.{Item}
-use Rattle.nbfx_values.specs.declared.content.Item.TheVariants.{Xmlns, Attr}
+use Rattle.nbfx_values.specs.declared.content.Item.{Item, TheVariants.Attr, TheVariants.Xmlns}
 use Rattle.nbfx_values.specs.Items.{are_texts, is_valid_array, is_valid_attribute, is_valid_item}
 use Rattle.soap_envelope.specs.Body.{array_with, attribute_of, in_scope, is_missing, is_usual}
 use Rattle.soap_envelope.specs.Body.{missing, needed, placed, put, put_all}

@@ -1,10 +1,8 @@
 -- Literal documents for worked cases.
-use Rattle.std.proofs.Common.{ℕ, List, [], ◌∷◌, ◌++◌, codes, pos}
-use Rattle.nbfx_values.specs.declared.content.ArrayKind.TheVariants.{Int32}
-use Rattle.nbfx_values.specs.declared.content.AttrItem.{AttrItem}
-use Rattle.nbfx_values.specs.declared.content.Item.{Item}
-use Rattle.nbfx_values.specs.declared.content.Item.TheVariants.{Start, Xmlns, Attr, Text, Array}
-use Rattle.nbfx_values.specs.declared.content.Item.TheVariants.{Close}
+use Rattle.std.proofs.Common.{ℕ, List, [], ◌∷◌, ◌++◌, pos, codes}
+use Rattle.nbfx_values.specs.declared.content.{ArrayKind.TheVariants.Int32, AttrItem.AttrItem}
+use Rattle.nbfx_values.specs.declared.content.Item.{Item, TheVariants.Xmlns}
+use Rattle.nbfx_values.specs.declared.content.Item.TheVariants.{Array, Attr, Close, Start, Text}
 use Rattle.nbfx_values.specs.declared.scalars.Scalar.TheVariants.{Number, Text as TextOf, UniqueId}
 use Rattle.nbfx_values.specs.declared.scalars.Value.TheVariants.{One}
 use Rattle.soap_envelope.specs.Names.{addressing, soap}

@@ -1,26 +1,18 @@
 -- Where the items of faults lead in a document.
-use Rattle.std.proofs.Common.{◌≡◌, ◌∙◌, ℕ, true, false, List, [], ◌∷◌, ◌++◌, Some, refl, codes}
-use Rattle.std.specs.Str.{is_utf8}
-use Rattle.std.specs.List.{flat_map, list_all}
-use Rattle.std.proofs.lemmas.Bool.{and_parts}
-use Rattle.nbfx_values.specs.declared.content.Item.TheVariants.{Xmlns, Attr, Close}
+use Rattle.std.proofs.Common.{◌≡◌, ℕ, true, false, List, [], ◌∷◌, ◌++◌, Some, codes, flat_map, refl}
+use Rattle.std.proofs.{Common.◌∙◌, lemmas.Bool.and_parts}
+use Rattle.{std.specs.List.list_all, std.specs.Str.is_utf8, nbfx_values.proofs.Positions.stepped}
+use Rattle.nbfx_values.specs.declared.content.Item.TheVariants.{Attr, Close, Xmlns}
 use Rattle.nbfx_values.specs.declared.position.Position.TheVariants.{Within}
 use Rattle.nbfx_values.specs.declared.scalars.Scalar.TheVariants.{Text as TextOf}
-use Rattle.nbfx_values.specs.declared.scalars.Value.TheVariants.{One}
-use Rattle.nbfx_values.specs.Positions.{position_from}
-use Rattle.nbfx_values.proofs.Positions.{stepped}
-use Rattle.soap_envelope.specs.Qualified.{Name}
-use Rattle.soap_envelope.specs.declared.report.Code.{Code}
-use Rattle.soap_envelope.specs.declared.report.Code.TheVariants.{VersionMismatch, MustUnderstand}
-use Rattle.soap_envelope.specs.declared.report.Code.TheVariants.{Sender, Receiver}
-use Rattle.soap_envelope.specs.declared.report.FaultReport.{FaultReport}
-use Rattle.soap_envelope.specs.declared.report.Sub.{Sub}
-use Rattle.soap_envelope.specs.declared.report.Sub.TheVariants as sub
+use Rattle.nbfx_values.specs.{declared.scalars.Value.TheVariants.One, Positions.position_from}
+use Rattle.soap_envelope.specs.declared.report.Code.{Code, TheVariants.VersionMismatch}
+use Rattle.soap_envelope.specs.declared.report.Code.TheVariants.{MustUnderstand, Receiver, Sender}
+use Rattle.soap_envelope.specs.declared.report.{FaultReport.FaultReport, Sub.Sub}
 use Rattle.soap_envelope.specs.Faults.{code_items, fault_body, is_nameable, not_understood_block}
-use Rattle.soap_envelope.specs.Faults.{reason_items}
-use Rattle.soap_envelope.specs.Making.{words}
-use Rattle.soap_envelope.proofs.OnLiterals.{envelopes_on_literals}
-use Rattle.soap_envelope.proofs.Places.{leads-on}
+use Rattle.soap_envelope.specs.{Faults.reason_items, Making.words, Qualified.Name}
+use Rattle.soap_envelope.proofs.{OnLiterals.envelopes_on_literals, Places.leads-on}
+use Rattle.soap_envelope.specs.declared.report.Sub.TheVariants as sub
 
 -- a block that names what wasn't understood
 name-leads : (name : Name) → is_nameable name ≡ true

@@ -1,17 +1,13 @@
 -- A fault counts at least what its names do.
-use Rattle.std.proofs.Common.{◌≤◌, List, [], ◌∷◌, ◌++◌, arith, inl, inr}
-use Rattle.std.specs.List.{flat_map}
-use Rattle.std.proofs.lemmas.Bool.{cases_Bool, le-leb, leb-true}
-use Rattle.std.proofs.lemmas.List.Sums.{sum_by-append, sum_by-cons}
+use Rattle.std.proofs.Common.{◌≤◌, List, [], ◌∷◌, ◌++◌, flat_map, inl, inr, arith, le-leb, leb-true}
+use Rattle.std.proofs.lemmas.{Bool.cases_Bool, List.Sums.sum_by-append, List.Sums.sum_by-cons}
 use Rattle.nbfx_values.specs.declared.content.Item.{Item}
 use Rattle.nbfx_values.specs.Measures.{content_of, item_content}
-use Rattle.soap_envelope.specs.declared.report.FaultReport.{FaultReport}
+use Rattle.soap_envelope.specs.{declared.report.FaultReport.FaultReport, Qualified.Name}
 use Rattle.soap_envelope.specs.Faults.{fault_action, fault_body, fault_items, not_understood_block}
 use Rattle.soap_envelope.specs.Fitting.{fits, name_content, names_content}
-use Rattle.soap_envelope.specs.Laws.{UnfitNamesAreUnfit}
+use Rattle.soap_envelope.{specs.Laws.UnfitNamesAreUnfit, proofs.OnLiterals.envelopes_on_literals}
 use Rattle.soap_envelope.specs.Making.{action_block, ending, middle, opening, relates_block}
-use Rattle.soap_envelope.specs.Qualified.{Name}
-use Rattle.soap_envelope.proofs.OnLiterals.{envelopes_on_literals}
 
 block-least : (name : Name) → name_content name ≤ content_of (not_understood_block name)
 unfolding envelopes_on_literals

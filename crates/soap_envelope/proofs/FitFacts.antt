@@ -1,17 +1,13 @@
 -- What fits a quota on content.
-use Rattle.std.proofs.Common.{◌≡◌, ◌∙◌, ◌≤◌, ◌+◌, ◌==◌, ℕ, zero, suc, Bool, true, false, List, []}
-use Rattle.std.proofs.Common.{◌∷◌, Option, None, Some, arith, drop, if◌then◌else◌, inl, inr}
-use Rattle.std.proofs.Common.{le_trans}
-use Rattle.std.specs.Prelude.{IfSome}
-use Rattle.std.proofs.lemmas.Bool.{cases_Bool, le-leb, leb-true}
-use Rattle.std.proofs.lemmas.List.Sums.{sum_by-append, sum_by-cons}
-use Rattle.nbfx_values.specs.declared.content.Item.{Item}
-use Rattle.nbfx_values.specs.declared.content.Item.TheVariants.{Start, Xmlns, Attr, Text, Comment}
-use Rattle.nbfx_values.specs.declared.content.Item.TheVariants.{Array, Close}
+use Rattle.std.proofs.Common.{◌≡◌, ℕ, zero, suc, ◌+◌, ◌≤◌, Bool, true, false, List, [], ◌∷◌, drop}
+use Rattle.std.proofs.Common.{IfSome, if◌then◌else◌, ◌==◌, Some, None, Option, ◌∙◌, inl, inr}
+use Rattle.std.proofs.Common.{le_trans, arith, le-leb, leb-true}
+use Rattle.std.proofs.lemmas.{Bool.cases_Bool, List.Sums.sum_by-append, List.Sums.sum_by-cons}
+use Rattle.nbfx_values.specs.declared.content.Item.{Item, TheVariants.Text, TheVariants.Xmlns}
+use Rattle.nbfx_values.specs.declared.content.Item.TheVariants.{Array, Attr, Close, Comment, Start}
 use Rattle.nbfx_values.specs.Measures.{content_of, item_content}
 use Rattle.soap_envelope.specs.Body.{behind_head, child_items, self_standing, standing_items}
-use Rattle.soap_envelope.specs.Body.{while_open}
-use Rattle.soap_envelope.specs.Children.{open_behind}
+use Rattle.soap_envelope.specs.{Body.while_open, Children.open_behind}
 use Rattle.soap_envelope.specs.Fitting.{fits, fitting}
 
 -- what fits a quota fits a greater one

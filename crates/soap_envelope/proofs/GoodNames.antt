@@ -1,29 +1,19 @@
 -- Good names, told without places: of a document, and of the content of its Body.
-use Rattle.std.proofs.Common.{◌≡◌, ◌∷◌, ◌++◌, ◌+◌, [], ℕ, zero, suc, List, Bool, true, false}
-use Rattle.std.proofs.Common.{Option, None, Some, Ok, ◌&&◌, not, add-one, arith, codes, drop}
-use Rattle.std.proofs.Common.{if◌then◌else◌, inl, inr, refl, subst}
-use Rattle.std.specs.List.{list_all}
-use Rattle.std.specs.Option.{is_some}
-use Rattle.std.specs.Prelude.{◌==◌, slice_get}
-use Rattle.std.proofs.lemmas.Bool.{and_parts, cases_Bool, eqb-true}
-use Rattle.nbfx_values.specs.declared.content.Item.{Item}
-use Rattle.nbfx_values.specs.declared.content.Item.TheVariants.{Start, Xmlns, Attr, Text, Comment}
-use Rattle.nbfx_values.specs.declared.content.Item.TheVariants.{Array, Close}
-use Rattle.soap_envelope.specs.declared.parts.Parts.{Parts}
+use Rattle.std.proofs.Common.{◌≡◌, ℕ, zero, suc, ◌+◌, Bool, true, false, not, ◌&&◌, List, [], ◌∷◌}
+use Rattle.std.proofs.Common.{◌++◌, drop, is_some, if◌then◌else◌, ◌==◌, slice_get, Some, None, Ok}
+use Rattle.std.proofs.Common.{codes, Option, refl, subst, inl, inr, add-one, arith, eqb-true}
+use Rattle.std.{proofs.lemmas.Bool.and_parts, proofs.lemmas.Bool.cases_Bool, specs.List.list_all}
+use Rattle.nbfx_values.specs.declared.content.Item.{Item, TheVariants.Text, TheVariants.Xmlns}
+use Rattle.nbfx_values.specs.declared.content.Item.TheVariants.{Array, Attr, Close, Comment, Start}
+use Rattle.soap_envelope.specs.{declared.parts.Parts.Parts, Names.soap, Resolved.scope_behind}
 use Rattle.soap_envelope.specs.BadNames.{bad_attribute, bad_in_head, bad_name, first_bad_name}
-use Rattle.soap_envelope.specs.BadNames.{is_good_array}
-use Rattle.soap_envelope.specs.Body.{behind_head}
-use Rattle.soap_envelope.specs.Characters.{is_passed}
+use Rattle.soap_envelope.specs.{BadNames.is_good_array, Body.behind_head}
+use Rattle.soap_envelope.specs.{Characters.is_passed, Children.open_behind}
 use Rattle.soap_envelope.specs.Children.{children_from, children_of, is_child, is_start}
-use Rattle.soap_envelope.specs.Children.{open_behind}
-use Rattle.soap_envelope.specs.Names.{soap}
 use Rattle.soap_envelope.specs.Parts.{is_element, kept_children, parts_among, parts_behind}
-use Rattle.soap_envelope.specs.Parts.{parts_of, root_scope}
-use Rattle.soap_envelope.specs.Resolved.{scope_behind}
-use Rattle.soap_envelope.specs.Scopes.{Declaration, Scope, around, declaration, declared, is_bound}
-use Rattle.soap_envelope.specs.Scopes.{uri_in, within}
-use Rattle.soap_envelope.proofs.Declarations.{filtered}
-use Rattle.soap_envelope.proofs.Lists.{drop-head}
+use Rattle.soap_envelope.specs.{Parts.parts_of, Parts.root_scope, Scopes.uri_in, Scopes.within}
+use Rattle.soap_envelope.specs.Scopes.{around, Declaration, declaration, declared, is_bound, Scope}
+use Rattle.soap_envelope.proofs.{Declarations.filtered, Lists.drop-head}
 use Rattle.soap_envelope.proofs.MadeNames.{neither, unless_bad}
 
 -- whether an element's declarations and attributes are good, behind these declarations of it

@@ -1,24 +1,17 @@
 -- What a prefix stands for in Body it stands for in a reply, by what an element there gets.
-use Rattle.std.proofs.Common.{◌≡◌, ◌∙◌, ◌∷◌, ◌++◌, ◌⊎◌, [], ℕ, List, true, false, ◌&&◌, Option}
-use Rattle.std.proofs.Common.{None, Some, not, ap, codes, inl, inr, refl, subst, sym}
-use Rattle.std.specs.List.{list_all}
-use Rattle.std.specs.Option.{is_none, is_some, option_or}
-use Rattle.std.specs.Ordering.{ordering_reverse}
-use Rattle.std.specs.Str.{bytes_eq}
-use Rattle.std.specs.declared.cmp.Ordering.{Ordering}
-use Rattle.std.specs.declared.cmp.Ordering.TheVariants.{Less, Equal, Greater}
+use Rattle.std.proofs.Common.{◌≡◌, ℕ, true, false, not, ◌&&◌, ◌⊎◌, List, [], ◌∷◌, ◌++◌, is_some}
+use Rattle.std.proofs.Common.{is_none, Some, None, codes, Option, bytes_eq, Ordering, Less, Equal}
+use Rattle.std.proofs.Common.{Greater, sym, refl, ap, ◌∙◌, subst, inl, inr}
 use Rattle.std.proofs.lemmas.Bool.{and_parts, cases_Bool, or_cases}
-use Rattle.std.proofs.lemmas.Cmp.{nat_list_cmp_total}
-use Rattle.std.proofs.lemmas.Map.Lookups.{exact_bytes}
+use Rattle.std.proofs.lemmas.{Cmp.nat_list_cmp_total, Map.Lookups.exact_bytes}
 use Rattle.std.proofs.lemmas.Slice.Eq.{bytes_eq-Decides}
+use Rattle.std.specs.{List.list_all, Option.option_or, Ordering.ordering_reverse}
 use Rattle.soap_envelope.specs.Body.{in_scope, is_missing, is_usual, missing, needed, placed, put}
-use Rattle.soap_envelope.specs.Body.{put_all, unusual}
-use Rattle.soap_envelope.specs.Made.{reply_scope}
+use Rattle.soap_envelope.specs.{Body.put_all, Body.unusual, Made.reply_scope}
 use Rattle.soap_envelope.specs.Names.{addressing, soap}
-use Rattle.soap_envelope.specs.Scopes.{Declaration, Scope, is_bound, undeclared_uri, uri_in, uri_of}
+use Rattle.soap_envelope.specs.Scopes.{Declaration, is_bound, Scope, undeclared_uri, uri_in, uri_of}
 use Rattle.soap_envelope.proofs.Apart.{apart-parts, are_apart, has, lacks-filter, order}
-use Rattle.soap_envelope.proofs.OnLiterals.{envelopes_on_literals}
-use Rattle.soap_envelope.proofs.Standing.{missing-lacks}
+use Rattle.soap_envelope.proofs.{OnLiterals.envelopes_on_literals, Standing.missing-lacks}
 
 -- what declarations say of a prefix
 none-in : (o : Option (List ℕ)) → is_some o ≡ false → o ≡ None

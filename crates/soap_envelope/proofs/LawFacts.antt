@@ -1,40 +1,30 @@
 -- What replies and faults are seen as.
-use Rattle.std.proofs.Common.{◌≡◌, ◌+◌, ℕ, true, List, [], ◌∷◌, ◌++◌, ap, append_assoc, arith}
-use Rattle.std.proofs.Common.{length, refl, sym, ◌∙◌, Some, None, Ok, Err, Option, Result, codes}
-use Rattle.std.proofs.Common.{drop, option_map}
-use Rattle.std.specs.Prelude.{flat_map, slice_get}
-use Rattle.std.specs.List.{list_all}
-use Rattle.std.proofs.lemmas.Bool.{and_parts}
-use Rattle.std.proofs.lemmas.List.{length-append}
-use Rattle.nbfx_values.specs.Items.{is_valid_item}
-use Rattle.nbfx_values.specs.declared.content.Item.{Item}
-use Rattle.nbfx_values.specs.declared.content.Item.TheVariants.{Start, Text, Close}
-use Rattle.soap_envelope.specs.declared.report.FaultReport.{FaultReport}
-use Rattle.soap_envelope.specs.declared.report.Sub.{Sub}
-use Rattle.soap_envelope.specs.declared.report.Sub.TheVariants as sub
+use Rattle.std.proofs.Common.{◌≡◌, ℕ, ◌+◌, true, List, [], ◌∷◌, ◌++◌, length, drop, slice_get, Some}
+use Rattle.std.proofs.Common.{None, Ok, Err, codes, Option, Result, option_map, flat_map, sym, refl}
+use Rattle.std.proofs.Common.{ap, ◌∙◌, append_assoc, arith, length-append}
+use Rattle.std.{proofs.lemmas.Bool.and_parts, specs.List.list_all}
+use Rattle.nbfx_values.specs.{declared.content.Item.Item, Items.is_valid_item}
+use Rattle.nbfx_values.specs.declared.content.Item.TheVariants.{Close, Start, Text}
+use Rattle.soap_envelope.specs.{declared.parts.Parts.Parts, Seen.BodyStands}
+use Rattle.soap_envelope.specs.declared.refusals.SoapFault.{SoapFault, TheVariants.BadNames}
+use Rattle.soap_envelope.specs.declared.report.{FaultReport.FaultReport, Sub.Sub}
 use Rattle.soap_envelope.specs.BadNames.{bad_name, first_bad_name}
+use Rattle.soap_envelope.specs.Body.{behind_head, body_items, needed, self_standing}
 use Rattle.soap_envelope.specs.Children.{children_from, is_start}
 use Rattle.soap_envelope.specs.Faults.{code_text, fault_action, fault_body, reason_items, sub_texts}
 use Rattle.soap_envelope.specs.Faults.{subcode_items, value_items}
 use Rattle.soap_envelope.specs.Laws.{BodiesStand, FaultsAreViewed, RelatesAreKept, RepliesAreViewed}
-use Rattle.soap_envelope.specs.Made.{StandsInReplies, reply_scope}
-use Rattle.soap_envelope.specs.Making.{IsContent, action_block, ending, is_valid_text, middle}
-use Rattle.soap_envelope.specs.Making.{opening, response_action, soap_start, addressing_start}
-use Rattle.soap_envelope.specs.declared.parts.Parts.{Parts}
-use Rattle.soap_envelope.specs.declared.refusals.SoapFault.{SoapFault}
-use Rattle.soap_envelope.specs.declared.refusals.SoapFault.TheVariants.{BadNames}
+use Rattle.soap_envelope.specs.{Made.reply_scope, Made.StandsInReplies, Scopes.Scope, Scopes.within}
+use Rattle.soap_envelope.specs.Making.{action_block, addressing_start, ending, is_valid_text}
+use Rattle.soap_envelope.specs.Making.{IsContent, middle, opening, response_action, soap_start}
 use Rattle.soap_envelope.specs.Parts.{name_by, parts_of, root_scope, wrong_name, wrong_root}
-use Rattle.soap_envelope.specs.Seen.{BodyStands}
-use Rattle.soap_envelope.specs.Scopes.{Scope, within}
-use Rattle.soap_envelope.specs.Body.{behind_head, body_items, needed, self_standing}
-use Rattle.soap_envelope.specs.View.{View, header_fault, texts_in, unless, view, viewed, viewed_by}
+use Rattle.soap_envelope.specs.View.{header_fault, texts_in, unless, View, view, viewed, viewed_by}
 use Rattle.soap_envelope.proofs.Contents.{body-content, view-stands}
+use Rattle.soap_envelope.proofs.{FaultPlaces.fault-content, MadeParts.get-behind}
 use Rattle.soap_envelope.proofs.GoodNames.{content-good, good-names}
+use Rattle.soap_envelope.proofs.{MadeView.made-viewed, OnLiterals.envelopes_on_literals}
 use Rattle.soap_envelope.proofs.Standing.{standing-good}
-use Rattle.soap_envelope.proofs.FaultPlaces.{fault-content}
-use Rattle.soap_envelope.proofs.MadeParts.{get-behind}
-use Rattle.soap_envelope.proofs.MadeView.{made-viewed}
-use Rattle.soap_envelope.proofs.OnLiterals.{envelopes_on_literals}
+use Rattle.soap_envelope.specs.declared.report.Sub.TheVariants as sub
 
 pub replies_are_viewed : RepliesAreViewed
 replies_are_viewed action relates body texts content named =

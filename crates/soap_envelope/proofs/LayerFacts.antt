@@ -1,14 +1,11 @@
 -- Where the first declaration of a prefix stands.
-use Rattle.std.proofs.Common.{◌≡◌, ◌∙◌, ◌≤◌, ◌<◌, ◌+◌, ℕ, Bool, true, false, List, [], ◌∷◌, ◌++◌}
-use Rattle.std.proofs.Common.{Option, None, Some, Bor, BTreeMap, ap, arith, get_or, if◌then◌else◌}
-use Rattle.std.proofs.Common.{inl, inr, length, map, refl, sym, take, zero, suc}
-use Rattle.std.specs.Map.{update}
-use Rattle.std.specs.Option.{is_some, option_or}
-use Rattle.std.specs.Prelude.{nat_lt}
-use Rattle.std.specs.Str.{bytes_eq}
-use Rattle.std.proofs.lemmas.Bool.{cases_Bool, le-ltb, lt-ltb}
-use Rattle.std.proofs.lemmas.Slice.Eq.{bytes_eq-Decides}
-use Rattle.std.proofs.lemmas.List.{length-map, length-take, map-append, take_more}
+use Rattle.std.proofs.Common.{◌≡◌, ℕ, zero, suc, ◌+◌, ◌<◌, ◌≤◌, Bool, true, false, List, [], ◌∷◌}
+use Rattle.std.proofs.Common.{◌++◌, map, length, get_or, take, is_some, if◌then◌else◌, nat_lt, Some}
+use Rattle.std.proofs.Common.{None, Option, bytes_eq, BTreeMap, sym, refl, ap, ◌∙◌, inl, inr, arith}
+use Rattle.std.proofs.Common.{length-take, Bor, le-ltb, lt-ltb}
+use Rattle.std.proofs.lemmas.{Bool.cases_Bool, Slice.Eq.bytes_eq-Decides}
+use Rattle.std.proofs.lemmas.List.{length-map, map-append, take_more}
+use Rattle.std.specs.{Map.update, Option.option_or}
 use Rattle.soap_envelope.specs.declared.layers.Declared.{Declared}
 use Rattle.soap_envelope.specs.Layers.{kept, place_from, place_in, place_of}
 use Rattle.soap_envelope.specs.Scopes.{Declaration, uri_in}

@@ -1,6 +1,8 @@
 pub mod Lists
 pub mod NameFacts
 pub mod LayerFacts
+pub mod BindingFacts
+pub mod ScopeFacts
 pub mod OnLiterals
 pub mod Documents
 pub mod PutFacts
@@ -18,6 +20,7 @@ pub mod MadeView
 pub mod LawFacts
 pub mod Bare
 pub mod ResolvedPlaces
+pub mod RootScope
 pub mod ResolvedViews
 pub mod Renamed
 pub mod BoundNames

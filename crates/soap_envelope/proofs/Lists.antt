@@ -1,10 +1,9 @@
 -- Lists from a place on.
-use Rattle.std.proofs.Common.{◌≡◌, ◌∙◌, ◌<◌, ◌+◌, ℕ, List, [], ◌∷◌, ◌++◌, add-one, ap, drop, get_or}
-use Rattle.std.proofs.Common.{length, map, refl, reverse, suc, sym, take, zero, arith, Bool, true}
+use Rattle.std.proofs.Common.{◌≡◌, ℕ, zero, suc, ◌+◌, ◌<◌, Bool, true, List, [], ◌∷◌, ◌++◌, map}
+use Rattle.std.proofs.Common.{reverse, length, get_or, take, drop, sym, refl, ap, ◌∙◌, add-one}
+use Rattle.std.proofs.{Common.arith, Math.Seq.drop-cons, Math.Seq.drop-nil}
+use Rattle.std.proofs.lemmas.{Bool.and_parts, List.map-append, List.reverse-append, List.take_more}
 use Rattle.std.specs.List.{list_all}
-use Rattle.std.proofs.lemmas.Bool.{and_parts}
-use Rattle.std.proofs.Math.Seq.{drop-cons, drop-nil}
-use Rattle.std.proofs.lemmas.List.{map-append, reverse-append, take_more}
 
 -- the element at a place, and those behind it
 pub drop-at : {X : Type 0} (xs : List X) (i : ℕ) (x : X) → i < length xs → x ≡ get_or xs i x

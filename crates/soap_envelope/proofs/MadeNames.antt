@@ -1,26 +1,19 @@
 -- The names of replies and faults are good.
-use Rattle.std.proofs.Common.{◌≡◌, ◌+◌, ℕ, Bool, true, false, List, [], ◌∷◌, ◌++◌, ap, append_assoc}
-use Rattle.std.proofs.Common.{arith, length, refl, ◌∙◌, Option, Some, None, if◌then◌else◌}
-use Rattle.std.specs.Prelude.{flat_map}
-use Rattle.std.specs.List.{list_all}
-use Rattle.std.specs.Option.{is_some, option_or}
-use Rattle.std.proofs.lemmas.Bool.{and_parts}
-use Rattle.nbfx_values.specs.Items.{is_valid_item}
-use Rattle.nbfx_values.specs.declared.content.Item.{Item}
-use Rattle.nbfx_values.specs.declared.content.Item.TheVariants.{Start, Xmlns, Attr, Text, Comment}
-use Rattle.nbfx_values.specs.declared.content.Item.TheVariants.{Array, Close}
-use Rattle.nbfx_values.specs.declared.position.Position.TheVariants.{Within}
+use Rattle.std.proofs.Common.{◌≡◌, ℕ, ◌+◌, Bool, true, false, List, [], ◌∷◌, ◌++◌, length, is_some}
+use Rattle.std.proofs.Common.{if◌then◌else◌, Some, None, Option, flat_map, refl, ap, ◌∙◌}
+use Rattle.std.proofs.{Common.append_assoc, Common.arith, lemmas.Bool.and_parts}
+use Rattle.std.specs.{List.list_all, Option.option_or}
 use Rattle.nbfx_values.proofs.Positions.{passed}
-use Rattle.soap_envelope.specs.Qualified.{Name}
+use Rattle.nbfx_values.specs.declared.content.Item.{Item, TheVariants.Text, TheVariants.Xmlns}
+use Rattle.nbfx_values.specs.declared.content.Item.TheVariants.{Array, Attr, Close, Comment, Start}
+use Rattle.nbfx_values.specs.{declared.position.Position.TheVariants.Within, Items.is_valid_item}
 use Rattle.soap_envelope.specs.BadNames.{bad_attribute, bad_in_head, bad_name, first_bad_name}
-use Rattle.soap_envelope.specs.BadNames.{is_good_array}
-use Rattle.soap_envelope.specs.Body.{behind_head}
-use Rattle.soap_envelope.specs.Faults.{not_understood_block}
-use Rattle.soap_envelope.specs.Made.{StandsInReplies, reply_scope}
-use Rattle.soap_envelope.specs.Making.{IsContent, ending, envelope_items, is_valid_text, middle}
-use Rattle.soap_envelope.specs.Making.{relates_block}
-use Rattle.soap_envelope.specs.Scopes.{Declaration, Scope, around, declaration, declared, is_bound}
-use Rattle.soap_envelope.specs.Scopes.{uri_in}
+use Rattle.soap_envelope.specs.{BadNames.is_good_array, Scopes.uri_in}
+use Rattle.soap_envelope.specs.{Body.behind_head, Qualified.Name}
+use Rattle.soap_envelope.specs.{Faults.not_understood_block, Making.relates_block}
+use Rattle.soap_envelope.specs.Made.{reply_scope, StandsInReplies}
+use Rattle.soap_envelope.specs.Making.{ending, envelope_items, is_valid_text, IsContent, middle}
+use Rattle.soap_envelope.specs.Scopes.{around, Declaration, declaration, declared, is_bound, Scope}
 use Rattle.soap_envelope.proofs.Nesting.{declared-inside, nowhere}
 use Rattle.soap_envelope.proofs.OnLiterals.{envelopes_on_literals}
 

@@ -1,26 +1,18 @@
 -- The children of a reply's root and of its Header, by their places.
-use Rattle.std.proofs.Common.{◌≡◌, ◌+◌, ℕ, true, false, List, [], ◌∷◌, ◌++◌, ap, append_assoc}
-use Rattle.std.proofs.Common.{arith, drop, length, refl, sym, suc, ◌∙◌, Some, codes, Ok}
-use Rattle.std.specs.Prelude.{flat_map, slice_get, not}
-use Rattle.std.specs.List.{filter, list_all}
-use Rattle.std.proofs.lemmas.Bool.{and_parts}
-use Rattle.std.proofs.lemmas.List.{length-append}
+use Rattle.std.proofs.Common.{◌≡◌, ℕ, suc, ◌+◌, true, false, not, List, [], ◌∷◌, ◌++◌, length, drop}
+use Rattle.std.proofs.Common.{slice_get, Some, Ok, codes, filter, flat_map, sym, refl, ap, ◌∙◌}
+use Rattle.std.proofs.Common.{append_assoc, arith, length-append}
+use Rattle.std.{proofs.lemmas.Bool.and_parts, specs.List.list_all}
+use Rattle.nbfx_values.specs.declared.content.Item.{Item, TheVariants.Close, TheVariants.Text}
 use Rattle.nbfx_values.specs.Items.{is_valid_item}
-use Rattle.nbfx_values.specs.declared.content.Item.{Item}
-use Rattle.nbfx_values.specs.declared.content.Item.TheVariants.{Text, Close}
-use Rattle.soap_envelope.specs.Qualified.{Name}
-use Rattle.soap_envelope.specs.Characters.{is_passed}
-use Rattle.soap_envelope.specs.Children.{children_from}
-use Rattle.soap_envelope.specs.Faults.{not_understood_block}
-use Rattle.soap_envelope.specs.Making.{IsContent, action_block, ending, envelope_items}
-use Rattle.soap_envelope.specs.Making.{is_valid_text, middle, opening, relates_block, soap_start}
-use Rattle.soap_envelope.specs.Made.{reply_root}
+use Rattle.soap_envelope.specs.{Characters.is_passed, Names.soap, Scopes.declared}
+use Rattle.soap_envelope.specs.{Children.children_from, Qualified.Name}
+use Rattle.soap_envelope.specs.{Faults.not_understood_block, Made.reply_root}
+use Rattle.soap_envelope.specs.Making.{action_block, ending, envelope_items, is_valid_text}
+use Rattle.soap_envelope.specs.Making.{IsContent, middle, opening, relates_block, soap_start}
 use Rattle.soap_envelope.specs.Parts.{is_element, kept_children, parts_among, parts_of, root_scope}
-use Rattle.soap_envelope.specs.Names.{soap}
-use Rattle.soap_envelope.specs.Scopes.{declared}
-use Rattle.soap_envelope.proofs.MadeNames.{begins-with-content}
+use Rattle.soap_envelope.proofs.{MadeNames.begins-with-content, OnLiterals.envelopes_on_literals}
 use Rattle.soap_envelope.proofs.Nesting.{children-inside, leads-nested, nested, nested-append}
-use Rattle.soap_envelope.proofs.OnLiterals.{envelopes_on_literals}
 
 -- what stands at a place after a front
 pub get-behind : {X : Type 0} (front : List X) (x : X) (rest : List X)

@@ -1,42 +1,34 @@
 -- The blocks of a reply's Header, and its view.
-use Rattle.std.proofs.Common.{◌≡◌, ◌+◌, ℕ, true, false, List, [], ◌∷◌, ◌++◌, ap, append_assoc}
-use Rattle.std.proofs.Common.{append-nil, arith, drop, length, refl, sym, ◌∙◌, Some, None, codes}
-use Rattle.std.proofs.Common.{Ok}
-use Rattle.std.specs.Prelude.{⊤, flat_map, slice_get, not}
-use Rattle.std.specs.List.{filter, list_all}
-use Rattle.std.specs.Option.{option_and_then, option_map, option_or}
-use Rattle.std.proofs.lemmas.List.{length-append}
-use Rattle.nbfx_values.specs.declared.content.Item.{Item}
-use Rattle.nbfx_values.specs.declared.content.Item.TheVariants.{Xmlns, Attr, Text, Close}
-use Rattle.nbfx_values.specs.declared.scalars.Scalar.TheVariants.{Text as TextOf}
+use Rattle.std.proofs.Common.{◌≡◌, ℕ, ◌+◌, true, false, not, List, [], ◌∷◌, ◌++◌, length, drop}
+use Rattle.std.proofs.Common.{slice_get, Some, None, Ok, codes, filter, option_map, flat_map}
+use Rattle.std.proofs.Common.{option_and_then, sym, refl, ap, ◌∙◌, append_assoc, append-nil, arith}
+use Rattle.std.proofs.Common.{length-append}
+use Rattle.std.specs.{Prelude.⊤, List.list_all, Option.option_or}
+use Rattle.nbfx_values.specs.declared.{content.Item.Item, scalars.Scalar.TheVariants.Text as TextOf}
+use Rattle.nbfx_values.specs.declared.content.Item.TheVariants.{Attr, Close, Text, Xmlns}
 use Rattle.nbfx_values.specs.declared.scalars.Value.TheVariants.{One}
-use Rattle.soap_envelope.specs.declared.blocks.Block.{Block}
-use Rattle.soap_envelope.specs.Qualified.{Name}
-use Rattle.soap_envelope.specs.Blocks.{block_of, blocks_among}
+use Rattle.soap_envelope.specs.{declared.blocks.Block.Block, Qualified.Name}
+use Rattle.soap_envelope.specs.declared.refusals.SoapFault.TheVariants.{BadHeader, BadNames}
+use Rattle.soap_envelope.specs.declared.refusals.SoapFault.TheVariants.{RepeatedHeader}
+use Rattle.soap_envelope.specs.{Blocks.block_of, Blocks.blocks_among, Scopes.declared, Scopes.Scope}
 use Rattle.soap_envelope.specs.Body.{behind_head, body_items, needed, self_standing}
 use Rattle.soap_envelope.specs.Characters.{is_passed, text_of}
 use Rattle.soap_envelope.specs.Children.{children_from, close_from, is_start}
-use Rattle.soap_envelope.specs.Faults.{not_understood_block}
-use Rattle.soap_envelope.specs.Headers.{bad_header, bad_in_block, first_counted, counted_at}
-use Rattle.soap_envelope.specs.Headers.{counts_as, repeated_behind}
-use Rattle.soap_envelope.specs.Made.{StandsInReplies, action_seen, behind_names, behind_relates}
-use Rattle.soap_envelope.specs.Made.{made_view, name_seen, names_seen, relates_seen, reply_root}
-use Rattle.soap_envelope.specs.Made.{reply_scope}
-use Rattle.soap_envelope.specs.Making.{IsContent, action_block, ending, is_valid_text, middle}
+use Rattle.soap_envelope.specs.{Faults.not_understood_block, Made.StandsInReplies}
+use Rattle.soap_envelope.specs.Headers.{bad_header, bad_in_block, counted_at, counts_as}
+use Rattle.soap_envelope.specs.Headers.{first_counted, repeated_behind}
+use Rattle.soap_envelope.specs.Made.{action_seen, behind_names, behind_relates, made_view}
+use Rattle.soap_envelope.specs.Made.{name_seen, names_seen, relates_seen, reply_root, reply_scope}
+use Rattle.soap_envelope.specs.Making.{action_block, ending, is_valid_text, IsContent, middle}
 use Rattle.soap_envelope.specs.Making.{opening, relates_block, soap_start}
 use Rattle.soap_envelope.specs.Parts.{kept_children, parts_of, root_scope, wrong_root}
-use Rattle.soap_envelope.specs.Scopes.{Scope, declared}
-use Rattle.soap_envelope.specs.View.{View, address_in, blocks_of, fault_among, header_fault}
-use Rattle.soap_envelope.specs.View.{reply_address_at, texts_at, unless, view, viewed, viewed_by}
-use Rattle.soap_envelope.specs.declared.refusals.SoapFault.TheVariants.{BadHeader, BadNames}
-use Rattle.soap_envelope.specs.declared.refusals.SoapFault.TheVariants.{RepeatedHeader}
+use Rattle.soap_envelope.specs.View.{address_in, blocks_of, fault_among, header_fault, viewed_by}
+use Rattle.soap_envelope.specs.View.{reply_address_at, texts_at, unless, View, view, viewed}
 use Rattle.soap_envelope.proofs.MadeNames.{begins-with-content, made-named}
 use Rattle.soap_envelope.proofs.MadeParts.{behind-body, drop-behind, front, get-behind, items}
-use Rattle.soap_envelope.proofs.MadeParts.{parts-there}
+use Rattle.soap_envelope.proofs.MadeParts.{parts-there, texts-nested}
 use Rattle.soap_envelope.proofs.Nesting.{children-inside, close-inside, leads-nested}
-use Rattle.soap_envelope.proofs.Nesting.{standing-inside}
-use Rattle.soap_envelope.proofs.MadeParts.{texts-nested}
-use Rattle.soap_envelope.proofs.OnLiterals.{envelopes_on_literals}
+use Rattle.soap_envelope.proofs.{Nesting.standing-inside, OnLiterals.envelopes_on_literals}
 
 -- a block begins at a place, and nothing is wrong with it
 record IsBlock (items : List Item) (scope : Scope) (at : ℕ) (b : Block) : Type 0 where

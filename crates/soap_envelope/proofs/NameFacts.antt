@@ -1,18 +1,14 @@
 -- What one item more says of names.
-use Rattle.std.proofs.Common.{◌≡◌, ◌≤◌, ◌+◌, ℕ, true, false, List, [], ◌∷◌, ◌++◌, ap, arith, drop}
-use Rattle.std.proofs.Common.{length, refl, sym, take, Option, Some, None}
-use Rattle.std.specs.Option.{is_some, option_copied}
-use Rattle.std.proofs.Common.{Bor}
-use Rattle.nbfx_values.specs.declared.content.AttrItem.{AttrItem}
+use Rattle.std.proofs.Common.{◌≡◌, ℕ, ◌+◌, ◌≤◌, true, false, List, [], ◌∷◌, ◌++◌, length, take}
+use Rattle.std.proofs.Common.{drop, is_some, Some, None, Option, option_copied, sym, refl, ap}
+use Rattle.std.proofs.Common.{arith, Bor}
+use Rattle.nbfx_values.specs.declared.content.AttrItem.{AttrItem, TheVariants.Attr as AttrOn}
 use Rattle.nbfx_values.specs.declared.content.AttrItem.TheVariants.{Xmlns as DeclaresOn}
-use Rattle.nbfx_values.specs.declared.content.AttrItem.TheVariants.{Attr as AttrOn}
-use Rattle.nbfx_values.specs.declared.content.Item.{Item}
-use Rattle.nbfx_values.specs.declared.content.Item.TheVariants.{Xmlns, Attr}
+use Rattle.nbfx_values.specs.declared.content.Item.{Item, TheVariants.Attr, TheVariants.Xmlns}
 use Rattle.nbfx_values.specs.declared.scalars.Value.{Value}
 use Rattle.soap_envelope.specs.BadNames.{are_good, bad_attribute}
-use Rattle.soap_envelope.specs.Scopes.{Declaration, Scope, declaration, declared, declared_on}
-use Rattle.soap_envelope.specs.Scopes.{is_bound, uri_in}
-use Rattle.soap_envelope.proofs.Lists.{drop-head}
+use Rattle.soap_envelope.specs.Scopes.{Declaration, declaration, declared, declared_on, is_bound}
+use Rattle.soap_envelope.{specs.Scopes.Scope, specs.Scopes.uri_in, proofs.Lists.drop-head}
 
 -- one declaration more of an element's
 one-declared : (own : List Declaration) (before : ℕ) (prefix uri : List ℕ) (tail : List Declaration)

@@ -1,14 +1,12 @@
 -- Lists of items that close what they open, and nothing else.
-use Rattle.std.proofs.Common.{◌≡◌, ◌+◌, ℕ, Bool, true, false, List, [], ◌∷◌, ◌++◌, ap, arith}
-use Rattle.std.proofs.Common.{length, refl, suc, sym, zero, ◌∙◌, Option, Some, None}
+use Rattle.std.proofs.Common.{◌≡◌, ℕ, zero, suc, ◌+◌, Bool, true, false, List, [], ◌∷◌, ◌++◌}
+use Rattle.std.proofs.Common.{length, Some, None, Option, sym, refl, ap, ◌∙◌, arith}
 use Rattle.std.proofs.Math.Dec.{eqb-suc-zero}
-use Rattle.nbfx_values.specs.Items.{is_valid_item}
-use Rattle.nbfx_values.specs.Positions.{position_from}
-use Rattle.nbfx_values.specs.declared.content.Item.{Item}
-use Rattle.nbfx_values.specs.declared.content.Item.TheVariants.{Start, Xmlns, Attr, Text, Comment}
-use Rattle.nbfx_values.specs.declared.content.Item.TheVariants.{Array, Close}
-use Rattle.nbfx_values.specs.declared.position.Position.TheVariants.{Within, After}
 use Rattle.nbfx_values.proofs.Positions.{passed, position_from-none}
+use Rattle.nbfx_values.specs.declared.content.Item.{Item, TheVariants.Text, TheVariants.Xmlns}
+use Rattle.nbfx_values.specs.declared.content.Item.TheVariants.{Array, Attr, Close, Comment, Start}
+use Rattle.nbfx_values.specs.declared.position.Position.TheVariants.{After, Within}
+use Rattle.nbfx_values.specs.{Items.is_valid_item, Positions.position_from}
 use Rattle.soap_envelope.specs.Body.{self_standing, standing_items}
 use Rattle.soap_envelope.specs.Children.{children_from, close_from, open_behind}
 use Rattle.soap_envelope.specs.Scopes.{declaration, declared}

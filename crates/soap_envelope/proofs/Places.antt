@@ -1,20 +1,14 @@
 -- Where the items of replies and faults lead in a document.
-use Rattle.std.proofs.Common.{◌≡◌, ◌∙◌, ℕ, zero, suc, Bool, true, false, List, [], ◌∷◌, ◌++◌}
-use Rattle.std.proofs.Common.{append_assoc, Option, None, Some, refl, sym, ap}
-use Rattle.std.specs.Str.{is_utf8}
-use Rattle.std.specs.List.{list_all}
-use Rattle.std.proofs.lemmas.Bool.{and_parts}
-use Rattle.nbfx_values.specs.declared.content.Item.{Item}
-use Rattle.nbfx_values.specs.declared.content.Item.TheVariants.{Start, Xmlns, Attr, Text, Comment}
-use Rattle.nbfx_values.specs.declared.content.Item.TheVariants.{Array, Close}
-use Rattle.nbfx_values.specs.declared.position.Position.{Position}
-use Rattle.nbfx_values.specs.declared.position.Position.TheVariants.{Before, Within, After}
-use Rattle.nbfx_values.specs.Documents.{IsDocument}
-use Rattle.nbfx_values.specs.Items.{is_valid_item}
-use Rattle.nbfx_values.specs.Positions.{position_from}
-use Rattle.nbfx_values.specs.Scalars.{is_valid_value}
+use Rattle.std.proofs.Common.{◌≡◌, ℕ, zero, suc, Bool, true, false, List, [], ◌∷◌, ◌++◌, Some, None}
+use Rattle.std.proofs.Common.{Option, sym, refl, ap, ◌∙◌, append_assoc}
+use Rattle.std.{proofs.lemmas.Bool.and_parts, specs.List.list_all, specs.Str.is_utf8}
 use Rattle.nbfx_values.proofs.Positions.{passed, position_from-append, position_from-none, stepped}
 use Rattle.nbfx_values.proofs.Walks.{position_of-document}
+use Rattle.nbfx_values.specs.declared.content.Item.{Item, TheVariants.Text, TheVariants.Xmlns}
+use Rattle.nbfx_values.specs.declared.content.Item.TheVariants.{Array, Attr, Close, Comment, Start}
+use Rattle.nbfx_values.specs.{declared.position.Position.Position, Items.is_valid_item}
+use Rattle.nbfx_values.specs.declared.position.Position.TheVariants.{After, Before, Within}
+use Rattle.nbfx_values.specs.{Documents.IsDocument, Positions.position_from, Scalars.is_valid_value}
 use Rattle.soap_envelope.specs.Making.{action_block, ending, envelope_items, is_valid_text, middle}
 use Rattle.soap_envelope.specs.Making.{opening, relates_block, words}
 use Rattle.soap_envelope.proofs.OnLiterals.{envelopes_on_literals}

@@ -1,13 +1,9 @@
 -- Sorted declarations, as a map holds them.
-use Rattle.std.proofs.Common.{◌≡◌, ◌∙◌, ◌∷◌, [], ℕ, List, Bor, ap, map, refl, sym}
-use Rattle.std.specs.BTreeMap.{insert_entry}
-use Rattle.std.specs.Cmp.Lexicographic.{slice_cmp}
-use Rattle.std.specs.Ordering.{match_ordering, nat_cmp}
-use Rattle.std.specs.declared.cmp.Ordering.{Ordering}
-use Rattle.std.specs.declared.cmp.Ordering.TheVariants.{Less, Equal, Greater}
+use Rattle.std.proofs.Common.{◌≡◌, ℕ, List, [], ◌∷◌, map, nat_cmp, Ordering, Less, Equal, Greater}
+use Rattle.std.proofs.Common.{sym, refl, ap, ◌∙◌, Bor}
 use Rattle.std.proofs.lemmas.Map.Lookups.{exact_bytes}
-use Rattle.soap_envelope.specs.Body.{placed, put}
-use Rattle.soap_envelope.specs.Scopes.{Declaration, declaration}
+use Rattle.std.specs.{BTreeMap.insert_entry, Cmp.Lexicographic.slice_cmp, Ordering.match_ordering}
+use Rattle.soap_envelope.specs.{Body.placed, Body.put, Scopes.Declaration, Scopes.declaration}
 
 abbrev pub Text : Type 0
 Text = Bor (List ℕ)

@@ -1,31 +1,22 @@
 -- What other prefixes for the same namespaces leave as it is.
-use Rattle.std.proofs.Common.{◌≡◌, ◌+◌, ℕ, Bool, true, false, List, [], ◌∷◌, ◌++◌, ap, length}
-use Rattle.std.proofs.Common.{map, refl, sym, ◌∙◌, Some, None, codes}
-use Rattle.std.proofs.Common.{if◌then◌else◌}
-use Rattle.std.specs.Prelude.{◌==◌, not, ◌&&◌}
-use Rattle.std.specs.Option.{is_some, option_or}
-use Rattle.std.specs.Option.{unwrap_or}
-use Rattle.std.specs.Str.{bytes_eq}
-use Rattle.std.proofs.Math.Dec.{eqb-suc-zero}
-use Rattle.std.proofs.lemmas.List.{map-append}
-use Rattle.std.proofs.lemmas.Slice.Eq.{bytes_eq-Decides}
+use Rattle.std.proofs.Common.{◌≡◌, ℕ, ◌+◌, Bool, true, false, not, ◌&&◌, List, [], ◌∷◌, ◌++◌, map}
+use Rattle.std.proofs.Common.{length, is_some, if◌then◌else◌, ◌==◌, Some, None, codes, bytes_eq}
+use Rattle.std.proofs.Common.{unwrap_or, sym, refl, ap, ◌∙◌}
+use Rattle.std.{proofs.Math.Dec.eqb-suc-zero, specs.Option.option_or}
+use Rattle.std.proofs.lemmas.{List.map-append, Slice.Eq.bytes_eq-Decides}
 use Rattle.nbfx_values.specs.declared.content.ArrayItem.{ArrayItem}
-use Rattle.nbfx_values.specs.declared.content.AttrItem.{AttrItem}
+use Rattle.nbfx_values.specs.declared.content.AttrItem.{AttrItem, TheVariants.Attr as AttrOn}
 use Rattle.nbfx_values.specs.declared.content.AttrItem.TheVariants.{Xmlns as DeclaresOn}
-use Rattle.nbfx_values.specs.declared.content.AttrItem.TheVariants.{Attr as AttrOn}
-use Rattle.nbfx_values.specs.declared.content.Item.{Item}
-use Rattle.nbfx_values.specs.declared.content.Item.TheVariants.{Start, Xmlns, Attr, Text, Comment}
-use Rattle.nbfx_values.specs.declared.content.Item.TheVariants.{Array, Close}
-use Rattle.soap_envelope.specs.BadNames.{are_good, bad_attribute, bad_in_head}
-use Rattle.soap_envelope.specs.BadNames.{first_bad_name, is_good_array}
-use Rattle.soap_envelope.specs.Laws.{PrefixesAreFree}
+use Rattle.nbfx_values.specs.declared.content.Item.{Item, TheVariants.Text, TheVariants.Xmlns}
+use Rattle.nbfx_values.specs.declared.content.Item.TheVariants.{Array, Attr, Close, Comment, Start}
+use Rattle.soap_envelope.specs.BadNames.{are_good, bad_attribute, bad_in_head, first_bad_name}
+use Rattle.soap_envelope.specs.{BadNames.is_good_array, Laws.PrefixesAreFree, Renaming.renamed_part}
 use Rattle.soap_envelope.specs.Names.{qualified_name, xml_namespace}
-use Rattle.soap_envelope.specs.Renaming.{IsRenaming, renamed, renamed_array}
-use Rattle.soap_envelope.specs.Renaming.{renamed_item, renamed_part}
-use Rattle.soap_envelope.specs.Resolved.{Arrays, Attribute, Element, attributes_on, resolved_from}
+use Rattle.soap_envelope.specs.Renaming.{IsRenaming, renamed, renamed_array, renamed_item}
+use Rattle.soap_envelope.specs.Resolved.{Arrays, Attribute, attributes_on, Element, resolved_from}
 use Rattle.soap_envelope.specs.Resolved.{resolved_item, scope_behind}
-use Rattle.soap_envelope.specs.Scopes.{Declaration, Scope, around, attribute_uri, declaration}
-use Rattle.soap_envelope.specs.Scopes.{declared, declared_on, element_uri, is_bound, undeclared_uri}
+use Rattle.soap_envelope.specs.Scopes.{around, attribute_uri, Declaration, declaration, declared}
+use Rattle.soap_envelope.specs.Scopes.{declared_on, element_uri, is_bound, Scope, undeclared_uri}
 use Rattle.soap_envelope.specs.Scopes.{uri_in, uri_of}
 use Rattle.soap_envelope.proofs.ResolvedViews.{names_are_all}
 

@@ -1,35 +1,24 @@
 -- What stands at a place of a document whose prefixes are resolved, and around it.
-use Rattle.std.proofs.Common.{◌≡◌, ◌∙◌, ◌+◌, ℕ, zero, suc, true, List, [], ◌∷◌}
-use Rattle.std.proofs.Common.{add-one, ap, arith, drop, refl, sym, inl, inr, Option, Some, None}
-use Rattle.std.proofs.Common.{if◌then◌else◌}
-use Rattle.std.specs.Prelude.{◌==◌, ◌&&◌, slice_get}
-use Rattle.std.specs.Str.{bytes_eq}
-use Rattle.std.proofs.lemmas.Bool.{and_parts, cases_Bool, eqb-true}
-use Rattle.nbfx_values.specs.declared.content.Item.{Item}
-use Rattle.nbfx_values.specs.declared.content.Item.TheVariants.{Start, Xmlns, Attr, Text, Comment}
-use Rattle.nbfx_values.specs.declared.content.Item.TheVariants.{Array, Close}
-use Rattle.soap_envelope.specs.declared.attributes.Found.{Found}
+use Rattle.std.proofs.Common.{◌≡◌, ℕ, zero, suc, ◌+◌, true, ◌&&◌, List, [], ◌∷◌, drop}
+use Rattle.std.proofs.Common.{if◌then◌else◌, ◌==◌, slice_get, Some, None, Option, bytes_eq, sym}
+use Rattle.std.proofs.Common.{refl, ap, ◌∙◌, inl, inr, add-one, arith, eqb-true}
+use Rattle.std.proofs.lemmas.Bool.{and_parts, cases_Bool}
+use Rattle.nbfx_values.specs.declared.content.Item.{Item, TheVariants.Text, TheVariants.Xmlns}
+use Rattle.nbfx_values.specs.declared.content.Item.TheVariants.{Array, Attr, Close, Comment, Start}
+use Rattle.soap_envelope.specs.{declared.attributes.Found.Found, Children.open_behind, Names.soap}
+use Rattle.soap_envelope.specs.{Bindings.scope_to, Qualified.Name}
 use Rattle.soap_envelope.specs.Blocks.{found, is_soap_attribute, soap_attribute, soap_attribute_of}
 use Rattle.soap_envelope.specs.Children.{children_from, children_of, is_child, is_start}
-use Rattle.soap_envelope.specs.Children.{open_behind}
-use Rattle.soap_envelope.specs.Names.{soap}
 use Rattle.soap_envelope.specs.Parts.{element_name, name_by}
-use Rattle.soap_envelope.specs.Qualified.{Name}
-use Rattle.soap_envelope.specs.Scopes.{Scope, around, declared, within}
-use Rattle.soap_envelope.specs.Resolved.{Resolved, Element, Declares, Attribute}
-use Rattle.soap_envelope.specs.Resolved.{resolved_from, resolved, scope_behind}
-
--- the declarations around so many items more
-abbrev pub scope_to : Scope → ℕ → List Item → Scope
-scope_to scope zero items = scope
-scope_to scope (suc k) [] = scope
-scope_to scope (suc k) (item ∷ more) = scope_to (scope_behind scope item more) k more
+use Rattle.soap_envelope.specs.Resolved.{Attribute, Declares, Element, Resolved, resolved}
+use Rattle.soap_envelope.specs.Resolved.{resolved_from, scope_behind}
+use Rattle.soap_envelope.specs.Scopes.{around, declared, Scope, within}
 
 to-nil : (scope : Scope) (k : ℕ) → scope_to scope k [] ≡ scope
 to-nil scope zero = refl
 to-nil scope (suc k) = refl
 
-further : (scope : Scope) (m k : ℕ) (xs : List Item)
+pub further : (scope : Scope) (m k : ℕ) (xs : List Item)
     → scope_to scope (m + k) xs ≡ scope_to (scope_to scope m xs) k (drop m xs)
 further scope zero k xs =
     let e : zero + k ≡ k = omega arith in ap (λ n. scope_to scope n xs) e

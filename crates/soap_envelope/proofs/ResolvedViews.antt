@@ -1,44 +1,33 @@
 -- Documents that are resolved to the same names, item by item, have the same view but for Body.
-use Rattle.std.proofs.Common.{◌≡◌, ◌∙◌, ◌+◌, ℕ, Bool, true, List, [], ◌∷◌, ap, drop}
-use Rattle.std.proofs.Common.{inl}
-use Rattle.std.proofs.Common.{inr, map, refl, subst, sym, Option, Some, None, Result, Ok}
-use Rattle.std.proofs.Common.{codes}
-use Rattle.std.specs.Prelude.{flat_map, slice_get, not, ◌&&◌}
-use Rattle.std.specs.List.{filter, list_all}
-use Rattle.std.specs.Option.{option_and_then, option_map, option_or, option_to_list}
-use Rattle.std.proofs.Math.Path.{fun_ext}
-use Rattle.std.proofs.lemmas.Bool.{cases_Bool}
-use Rattle.std.proofs.lemmas.Option.{slice_get-map}
-use Rattle.nbfx_values.specs.declared.content.Item.{Item}
-use Rattle.nbfx_values.specs.declared.content.Item.TheVariants.{Start, Xmlns, Attr, Text, Comment}
-use Rattle.nbfx_values.specs.declared.content.Item.TheVariants.{Array, Close}
-use Rattle.soap_envelope.specs.declared.blocks.Block.{Block}
-use Rattle.soap_envelope.specs.declared.parts.Parts.{Parts}
-use Rattle.soap_envelope.specs.declared.refusals.SoapFault.{SoapFault}
+use Rattle.std.proofs.Common.{◌≡◌, ℕ, ◌+◌, Bool, true, not, ◌&&◌, List, [], ◌∷◌, map, drop}
+use Rattle.std.proofs.Common.{slice_get, Some, None, Ok, codes, filter, Option, Result, option_map}
+use Rattle.std.proofs.Common.{option_to_list, flat_map, option_and_then, sym, refl, ap, ◌∙◌, subst}
+use Rattle.std.proofs.{Common.inl, Common.inr, Math.Path.fun_ext}
+use Rattle.std.proofs.lemmas.{Bool.cases_Bool, Option.slice_get-map}
+use Rattle.std.specs.{List.list_all, Option.option_or}
+use Rattle.nbfx_values.specs.declared.content.Item.{Item, TheVariants.Text, TheVariants.Xmlns}
+use Rattle.nbfx_values.specs.declared.content.Item.TheVariants.{Array, Attr, Close, Comment, Start}
+use Rattle.soap_envelope.specs.declared.{blocks.Block.Block, parts.Parts.Parts}
+use Rattle.soap_envelope.specs.declared.refusals.SoapFault.{SoapFault, TheVariants.RepeatedHeader}
 use Rattle.soap_envelope.specs.declared.refusals.SoapFault.TheVariants.{BadHeader, BadNames}
-use Rattle.soap_envelope.specs.declared.refusals.SoapFault.TheVariants.{RepeatedHeader}
-use Rattle.soap_envelope.specs.BadNames.{bad_name}
+use Rattle.soap_envelope.specs.{BadNames.bad_name, Laws.NamesAreAll, Resolved.resolved}
+use Rattle.soap_envelope.specs.{Bindings.scope_to, Characters.text_of, Scopes.Scope, Scopes.within}
 use Rattle.soap_envelope.specs.Blocks.{block_of, blocks_among, soap_attribute_of}
 use Rattle.soap_envelope.specs.Characters.{characters_of, has_plain_content, is_passed, is_plain}
-use Rattle.soap_envelope.specs.Characters.{text_of}
 use Rattle.soap_envelope.specs.Children.{children_of, close_of, is_start}
 use Rattle.soap_envelope.specs.Headers.{addresses, bad_child, bad_header, bad_in_block, counted_at}
 use Rattle.soap_envelope.specs.Headers.{counts_as, is_address, is_bad_content, only, repeated}
-use Rattle.soap_envelope.specs.Laws.{NamesAreAll}
-use Rattle.soap_envelope.specs.Names.{addressing, soap}
+use Rattle.soap_envelope.specs.{Names.addressing, Names.soap, Parts.wrong_name, Parts.wrong_root}
 use Rattle.soap_envelope.specs.Parts.{element_name, is_element, is_some_name, kept_children}
 use Rattle.soap_envelope.specs.Parts.{name_by, parts_among, parts_behind, parts_of, root_scope}
-use Rattle.soap_envelope.specs.Parts.{wrong_name, wrong_root}
 use Rattle.soap_envelope.specs.Renaming.{headed, headed_by}
-use Rattle.soap_envelope.specs.Resolved.{resolved}
-use Rattle.soap_envelope.specs.Scopes.{Scope, within}
-use Rattle.soap_envelope.specs.View.{View, address_in, blocks_of, header_children, header_fault}
+use Rattle.soap_envelope.specs.View.{address_in, blocks_of, header_children, header_fault}
 use Rattle.soap_envelope.specs.View.{header_scope, reply_address_at, text_item, texts_at, texts_of}
-use Rattle.soap_envelope.specs.View.{unless, viewed, viewed_by}
+use Rattle.soap_envelope.specs.View.{unless, View, viewed, viewed_by}
 use Rattle.soap_envelope.proofs.Bare.{all-bare, bare, bare_of, characters-by, children-bare}
 use Rattle.soap_envelope.proofs.Bare.{closes-bare, passed-by, plain-by, start-by, text-by}
-use Rattle.soap_envelope.proofs.ResolvedPlaces.{Each, attribute-known, attribute_in, children-stand}
-use Rattle.soap_envelope.proofs.ResolvedPlaces.{each-map, element-known, named, scope_to}
+use Rattle.soap_envelope.proofs.ResolvedPlaces.{attribute-known, attribute_in, children-stand, Each}
+use Rattle.soap_envelope.proofs.ResolvedPlaces.{each-map, element-known, named}
 
 -- what holds of each of places, by two facts, in a filter, and of filters by tests that agree
 each-both : (P Q : ℕ → Type 0) (cs : List ℕ) → Each P cs → Each Q cs → Each (λ c. P c × Q c) cs

@@ -1,28 +1,21 @@
 -- The content of a view's Body has good names in any reply.
-use Rattle.std.proofs.Common.{◌≡◌, ◌∙◌, ◌∷◌, ◌++◌, ◌⊎◌, [], ℕ, zero, suc, List, Bool, true, false}
-use Rattle.std.proofs.Common.{Option, None, Some, ◌&&◌, ◌||◌, not, add-one, ap, append_assoc, arith}
-use Rattle.std.proofs.Common.{codes, inl, inr, map, refl, sym}
-use Rattle.std.specs.Option.{is_some, option_or}
-use Rattle.std.specs.Prelude.{◌==◌, is_none}
-use Rattle.std.specs.Str.{bytes_eq}
-use Rattle.std.proofs.lemmas.Bool.{and_parts, cases_Bool, eqb-true, or_cases}
-use Rattle.std.proofs.lemmas.List.{append-nil}
-use Rattle.std.proofs.lemmas.Slice.Eq.{bytes_eq-Decides}
+use Rattle.std.proofs.Common.{◌≡◌, ℕ, zero, suc, Bool, true, false, not, ◌&&◌, ◌||◌, ◌⊎◌, List, []}
+use Rattle.std.proofs.Common.{◌∷◌, ◌++◌, map, is_some, is_none, ◌==◌, Some, None, codes, Option}
+use Rattle.std.proofs.Common.{bytes_eq, sym, refl, ap, ◌∙◌, inl, inr, append_assoc, append-nil}
+use Rattle.std.proofs.Common.{add-one, arith, eqb-true}
+use Rattle.std.proofs.lemmas.Bool.{and_parts, cases_Bool, or_cases}
+use Rattle.std.{proofs.lemmas.Slice.Eq.bytes_eq-Decides, specs.Option.option_or}
 use Rattle.nbfx_values.specs.declared.content.ArrayItem.{ArrayItem}
-use Rattle.nbfx_values.specs.declared.content.AttrItem.{AttrItem}
+use Rattle.nbfx_values.specs.declared.content.AttrItem.{AttrItem, TheVariants.Attr as AttrOn}
 use Rattle.nbfx_values.specs.declared.content.AttrItem.TheVariants.{Xmlns as DeclaresOn}
-use Rattle.nbfx_values.specs.declared.content.AttrItem.TheVariants.{Attr as AttrOn}
-use Rattle.nbfx_values.specs.declared.content.Item.{Item}
-use Rattle.nbfx_values.specs.declared.content.Item.TheVariants.{Start, Xmlns, Attr, Text, Comment}
-use Rattle.nbfx_values.specs.declared.content.Item.TheVariants.{Array, Close}
+use Rattle.nbfx_values.specs.declared.content.Item.{Item, TheVariants.Text, TheVariants.Xmlns}
+use Rattle.nbfx_values.specs.declared.content.Item.TheVariants.{Array, Attr, Close, Comment, Start}
 use Rattle.soap_envelope.specs.BadNames.{are_good, is_good_array}
 use Rattle.soap_envelope.specs.Body.{array_with, attribute_of, in_scope, is_missing, is_usual}
 use Rattle.soap_envelope.specs.Body.{missing, needed, self_standing, standing_items, unusual}
-use Rattle.soap_envelope.specs.Body.{xmlns_of}
-use Rattle.soap_envelope.specs.Made.{reply_scope}
-use Rattle.soap_envelope.specs.Names.{addressing, soap}
-use Rattle.soap_envelope.specs.Scopes.{Declaration, Scope, around, declaration, declared}
-use Rattle.soap_envelope.specs.Scopes.{declared_on, is_bound, undeclared_uri, uri_in, uri_of}
+use Rattle.soap_envelope.specs.{Body.xmlns_of, Made.reply_scope, Names.addressing, Names.soap}
+use Rattle.soap_envelope.specs.Scopes.{around, Declaration, declaration, declared, declared_on}
+use Rattle.soap_envelope.specs.Scopes.{is_bound, Scope, undeclared_uri, uri_in, uri_of}
 use Rattle.soap_envelope.proofs.Apart.{apart-filter, apart-parts, are_apart, has, has-append}
 use Rattle.soap_envelope.proofs.Apart.{has-cons, has-in_scope, in_scope-apart}
 use Rattle.soap_envelope.proofs.GoodNames.{good_attributes, good_head, good_names, refuted}

@@ -1,11 +1,8 @@
 -- Where the content of an element begins among the items of its document.
-use Rattle.std.proofs.Common.{◌≡◌, ◌∙◌, ◌≤◌, ◌+◌, ◌-◌, ℕ, zero, suc, List, [], ◌∷◌, ap, arith, drop}
-use Rattle.std.proofs.Common.{length, refl, sym}
-use Rattle.std.proofs.Math.Seq.{drop-nil}
-use Rattle.std.proofs.lemmas.List.{length-drop}
-use Rattle.nbfx_values.specs.declared.content.Item.{Item}
-use Rattle.nbfx_values.specs.declared.content.Item.TheVariants.{Xmlns, Attr}
-use Rattle.soap_envelope.specs.Body.{behind_head}
+use Rattle.std.proofs.Common.{◌≡◌, ℕ, zero, suc, ◌+◌, ◌-◌, ◌≤◌, List, [], ◌∷◌, length, drop, sym}
+use Rattle.std.proofs.Common.{refl, ap, ◌∙◌, arith, length-drop}
+use Rattle.{std.proofs.Math.Seq.drop-nil, soap_envelope.specs.Body.behind_head}
+use Rattle.nbfx_values.specs.declared.content.Item.{Item, TheVariants.Attr, TheVariants.Xmlns}
 
 -- behind the attributes at the head of items
 past_head : (xs : List Item) → (k : ℕ) × (behind_head xs ≡ drop k xs)

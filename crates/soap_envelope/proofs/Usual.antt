@@ -1,11 +1,7 @@
 -- Where the root and Body declare nothing but what every reply does, children need no declaration.
-use Rattle.std.proofs.Common.{◌≡◌, [], ◌∷◌, List, Bool, true, not, refl}
-use Rattle.std.specs.Cmp.Lexicographic.{slice_cmp}
-use Rattle.std.specs.List.{filter, list_all}
-use Rattle.std.specs.Ordering.{nat_cmp}
-use Rattle.std.specs.declared.cmp.Ordering.{Ordering}
-use Rattle.std.specs.declared.cmp.Ordering.TheVariants.{Less, Equal, Greater}
-use Rattle.std.proofs.lemmas.Bool.{and_parts}
+use Rattle.std.proofs.Common.{◌≡◌, Bool, true, not, List, [], ◌∷◌, filter, nat_cmp, Ordering, Less}
+use Rattle.std.proofs.{Common.Equal, Common.Greater, Common.refl, lemmas.Bool.and_parts}
+use Rattle.std.specs.{Cmp.Lexicographic.slice_cmp, List.list_all}
 use Rattle.soap_envelope.specs.Body.{is_usual, needed, placed, put, put_all}
 use Rattle.soap_envelope.specs.Scopes.{Declaration}
 

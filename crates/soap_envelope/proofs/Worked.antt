@@ -1,20 +1,15 @@
 -- Worked cases: the view of literal documents.
-use Rattle.std.proofs.Common.{◌≡◌, ℕ, List, [], ◌∷◌, ◌++◌, codes, refl, pos, map, Some, None}
-use Rattle.std.proofs.Common.{Option, Result, Ok, Err, Bool, true, false}
+use Rattle.std.proofs.Common.{◌≡◌, ℕ, Bool, true, false, List, [], ◌∷◌, ◌++◌, map, pos, Some, None}
+use Rattle.std.proofs.Common.{Ok, Err, codes, Option, Result, refl}
 use Rattle.nbfx_values.specs.declared.content.AttrItem.TheVariants.{Xmlns as DeclaresOn}
-use Rattle.nbfx_values.specs.declared.content.Item.{Item}
-use Rattle.nbfx_values.specs.declared.content.Item.TheVariants.{Start, Xmlns, Attr, Text, Comment}
-use Rattle.nbfx_values.specs.declared.content.Item.TheVariants.{Close}
-use Rattle.nbfx_values.specs.declared.scalars.Scalar.TheVariants.{Number, Truth, Float, UniqueId}
-use Rattle.nbfx_values.specs.declared.scalars.Scalar.TheVariants.{QName}
-use Rattle.nbfx_values.specs.declared.scalars.Value.TheVariants.{One}
-use Rattle.soap_envelope.specs.declared.blocks.Block.{Block}
-use Rattle.soap_envelope.specs.declared.refusals.SoapFault.{SoapFault}
-use Rattle.soap_envelope.specs.Fitting.{fits}
+use Rattle.nbfx_values.specs.declared.content.Item.{Item, TheVariants.Xmlns}
+use Rattle.nbfx_values.specs.declared.content.Item.TheVariants.{Attr, Close, Comment, Start, Text}
+use Rattle.nbfx_values.specs.declared.scalars.Scalar.TheVariants.{Float, Number, QName, Truth}
+use Rattle.nbfx_values.specs.declared.scalars.{Scalar.TheVariants.UniqueId, Value.TheVariants.One}
+use Rattle.soap_envelope.specs.declared.{blocks.Block.Block, refusals.SoapFault.SoapFault}
+use Rattle.soap_envelope.specs.{Fitting.fits, Qualified.Name, View.View, View.view}
 use Rattle.soap_envelope.specs.Names.{addressing, qualified_name, role_next, role_ultimate_receiver}
 use Rattle.soap_envelope.specs.Names.{soap, xml_namespace}
-use Rattle.soap_envelope.specs.Qualified.{Name}
-use Rattle.soap_envelope.specs.View.{View, view}
 use Rattle.soap_envelope.proofs.Documents.{a, action, array, attribute, echo, enveloped, identified}
 use Rattle.soap_envelope.proofs.Documents.{identifier, message, must, role, s, with_blocks}
 use Rattle.soap_envelope.proofs.Documents.{with_body, words, x}

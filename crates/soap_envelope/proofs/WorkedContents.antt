@@ -1,19 +1,14 @@
 -- The content of Body said again by places: what each child declares by the prefixes that are
 -- declared around it, the least first. Compared on literal documents.
-use Rattle.std.proofs.Common.{◌≡◌, ◌+◌, ℕ, zero, suc, List, [], ◌∷◌, ◌++◌, Bool, true, false, not}
-use Rattle.std.proofs.Common.{codes, cond, drop, length, map, refl, Option, Some, None}
-use Rattle.std.specs.Prelude.{◌==◌, ◌&&◌, ◌||◌, nat_lt, slice_get}
-use Rattle.std.specs.List.{filter, flat_map}
-use Rattle.std.specs.Option.{option_to_list, unwrap_or}
-use Rattle.std.specs.Str.{bytes_eq}
-use Rattle.nbfx_values.specs.declared.content.AttrItem.{AttrItem}
-use Rattle.nbfx_values.specs.declared.content.AttrItem.TheVariants.{Xmlns as DeclaresOn}
-use Rattle.nbfx_values.specs.declared.content.AttrItem.TheVariants.{Attr as AttrOn}
-use Rattle.nbfx_values.specs.declared.content.Item.{Item}
-use Rattle.nbfx_values.specs.declared.content.Item.TheVariants.{Start, Xmlns, Array}
-use Rattle.soap_envelope.specs.Names.{addressing, soap}
-use Rattle.soap_envelope.specs.Scopes.{Declaration, Scope, declaration, uri_of}
-use Rattle.soap_envelope.specs.View.{view}
+use Rattle.std.proofs.Common.{◌≡◌, ℕ, zero, suc, ◌+◌, Bool, true, false, cond, not, ◌&&◌, ◌||◌}
+use Rattle.std.proofs.Common.{List, [], ◌∷◌, ◌++◌, map, length, drop, nat_lt, ◌==◌, slice_get, Some}
+use Rattle.std.proofs.Common.{None, codes, filter, Option, option_to_list, flat_map, bytes_eq}
+use Rattle.std.proofs.Common.{unwrap_or, refl}
+use Rattle.nbfx_values.specs.declared.content.AttrItem.{AttrItem, TheVariants.Attr as AttrOn}
+use Rattle.nbfx_values.specs.declared.content.{AttrItem.TheVariants.Xmlns as DeclaresOn, Item.Item}
+use Rattle.nbfx_values.specs.declared.content.Item.TheVariants.{Array, Start, Xmlns}
+use Rattle.soap_envelope.specs.{Names.addressing, Names.soap, View.view}
+use Rattle.soap_envelope.specs.Scopes.{Declaration, declaration, Scope, uri_of}
 use Rattle.soap_envelope.proofs.Documents.{array, echo, with_body, words, x}
 use Rattle.soap_envelope.proofs.OnLiterals.{envelopes_on_literals}
 use Rattle.soap_envelope.proofs.Worked.{contents, declaring, told}

@@ -1,28 +1,21 @@
 -- What is wrong in a Header said again by places: by how many elements are open before an item, and
 -- what is declared around it. Compared on literal documents.
-use Rattle.std.proofs.Common.{◌≡◌, ◌+◌, ℕ, List, [], ◌∷◌, ◌++◌, Bool, true, false, not, codes, cond}
-use Rattle.std.proofs.Common.{length, map, refl, Option, Some, None}
-use Rattle.std.specs.Prelude.{◌==◌, ◌&&◌, ◌||◌, is_none, nat_lt, slice_get}
-use Rattle.std.specs.List.{filter, list_all, list_any}
-use Rattle.std.specs.Option.{option_or, unwrap_or}
-use Rattle.std.specs.Str.{bytes_eq}
-use Rattle.nbfx_values.specs.declared.content.Item.{Item}
-use Rattle.nbfx_values.specs.declared.content.Item.TheVariants.{Start, Xmlns, Attr, Text, Comment}
-use Rattle.nbfx_values.specs.declared.content.Item.TheVariants.{Array, Close}
-use Rattle.nbfx_values.specs.declared.scalars.Scalar.TheVariants.{Float}
-use Rattle.nbfx_values.specs.declared.scalars.Value.TheVariants.{One}
+use Rattle.std.proofs.Common.{◌≡◌, ℕ, ◌+◌, Bool, true, false, cond, not, ◌&&◌, ◌||◌, List, [], ◌∷◌}
+use Rattle.std.proofs.Common.{◌++◌, map, length, is_none, nat_lt, ◌==◌, slice_get, Some, None}
+use Rattle.std.proofs.Common.{codes, filter, Option, bytes_eq, unwrap_or, refl}
+use Rattle.std.specs.{List.list_all, List.list_any, Option.option_or}
+use Rattle.nbfx_values.specs.declared.content.Item.{Item, TheVariants.Text, TheVariants.Xmlns}
+use Rattle.nbfx_values.specs.declared.content.Item.TheVariants.{Array, Attr, Close, Comment, Start}
+use Rattle.nbfx_values.specs.declared.scalars.{Scalar.TheVariants.Float, Value.TheVariants.One}
 use Rattle.nbfx_values.specs.Characters.{value_characters}
 use Rattle.soap_envelope.specs.Characters.{is_passed, is_plain}
-use Rattle.soap_envelope.specs.Headers.{bad_header}
+use Rattle.soap_envelope.specs.{Headers.bad_header, View.header_children, View.header_scope}
 use Rattle.soap_envelope.specs.Names.{addressing, is_named, role_next, role_ultimate_receiver, soap}
-use Rattle.soap_envelope.specs.Scopes.{Scope, uri_of}
-use Rattle.soap_envelope.specs.View.{header_children, header_scope}
+use Rattle.soap_envelope.{specs.Scopes.Scope, specs.Scopes.uri_of, proofs.WorkedPlaces.scope_at}
 use Rattle.soap_envelope.proofs.Documents.{a, action, array, attribute, echo, message, must, role}
 use Rattle.soap_envelope.proofs.Documents.{secured, with_blocks, words, x}
-use Rattle.soap_envelope.proofs.OnLiterals.{envelopes_on_literals}
-use Rattle.soap_envelope.proofs.Worked.{flagged}
-use Rattle.soap_envelope.proofs.WorkedPlaces.{scope_at}
-use Rattle.soap_envelope.proofs.WorkedRefusals.{Row, address, bad_headers, repetitions}
+use Rattle.soap_envelope.proofs.{OnLiterals.envelopes_on_literals, Worked.flagged}
+use Rattle.soap_envelope.proofs.WorkedRefusals.{address, bad_headers, repetitions, Row}
 use Rattle.soap_envelope.proofs.WorkedStructure.{behind_start, children_by_level, close_by_level}
 use Rattle.soap_envelope.proofs.WorkedStructure.{level, name_at, places}
 

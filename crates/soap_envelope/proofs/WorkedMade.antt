@@ -1,25 +1,19 @@
 -- Worked cases: replies and faults, item by item, and which names a fault reports.
-use Rattle.std.proofs.Common.{◌≡◌, ℕ, List, [], ◌∷◌, ◌++◌, codes, map, refl, Result, Ok, Err, true}
-use Rattle.std.proofs.Common.{false}
-use Rattle.nbfx_values.specs.declared.content.Item.{Item}
-use Rattle.nbfx_values.specs.declared.content.Item.TheVariants.{Start, Xmlns, Close}
-use Rattle.soap_envelope.specs.declared.report.Code.TheVariants.{VersionMismatch, MustUnderstand}
-use Rattle.soap_envelope.specs.declared.report.Code.TheVariants.{Sender, Receiver}
-use Rattle.soap_envelope.specs.declared.report.FaultReport.{FaultReport}
-use Rattle.soap_envelope.specs.declared.report.Sub.TheVariants as sub
-use Rattle.soap_envelope.specs.declared.refusals.SoapFault.{SoapFault}
-use Rattle.soap_envelope.specs.Faults.{fault_items}
-use Rattle.soap_envelope.specs.Fitting.{names_fit}
-use Rattle.soap_envelope.specs.Making.{reply_items}
-use Rattle.soap_envelope.specs.Names.{addressing, qualified_name}
-use Rattle.soap_envelope.specs.Qualified.{Name}
-use Rattle.soap_envelope.specs.Understanding.{not_understood}
-use Rattle.soap_envelope.specs.View.{View, view}
+use Rattle.std.proofs.Common.{◌≡◌, ℕ, true, false, List, [], ◌∷◌, ◌++◌, map, Ok, Err, codes, Result}
+use Rattle.{std.proofs.Common.refl, nbfx_values.specs.declared.content.Item.Item}
+use Rattle.nbfx_values.specs.declared.content.Item.TheVariants.{Close, Start, Xmlns}
+use Rattle.soap_envelope.specs.{declared.refusals.SoapFault.SoapFault, Qualified.Name}
+use Rattle.soap_envelope.specs.declared.report.Code.TheVariants.{MustUnderstand, Receiver, Sender}
+use Rattle.soap_envelope.specs.{declared.report.Code.TheVariants.VersionMismatch, Fitting.names_fit}
+use Rattle.soap_envelope.specs.{declared.report.FaultReport.FaultReport, Faults.fault_items}
+use Rattle.soap_envelope.specs.{Making.reply_items, Understanding.not_understood}
+use Rattle.soap_envelope.specs.{Names.addressing, Names.qualified_name, View.View, View.view}
 use Rattle.soap_envelope.proofs.Documents.{a, acting, action, addressing_action, attribute, echo}
 use Rattle.soap_envelope.proofs.Documents.{enveloped, fault, hi, identified, message, must, related}
 use Rattle.soap_envelope.proofs.Documents.{reply, role, s, secured, soap_action, subcode}
 use Rattle.soap_envelope.proofs.Documents.{with_blocks, words}
 use Rattle.soap_envelope.proofs.OnLiterals.{envelopes_on_literals}
+use Rattle.soap_envelope.specs.declared.report.Sub.TheVariants as sub
 
 -- the action of a request, the texts of its identifier, a content of Body, and the reply
 abbrev Row : Type 0

@@ -2,8 +2,7 @@
 use Rattle.std.proofs.Common.{◌≡◌, [], ◌∷◌, codes, refl}
 use Rattle.soap_envelope.specs.Names.{addressing, addressing_fault, anonymous_address, no_address}
 use Rattle.soap_envelope.specs.Names.{role_next, role_ultimate_receiver, soap, soap_fault}
-use Rattle.soap_envelope.specs.Names.{xml_namespace}
-use Rattle.soap_envelope.proofs.OnLiterals.{envelopes_on_literals}
+use Rattle.soap_envelope.{specs.Names.xml_namespace, proofs.OnLiterals.envelopes_on_literals}
 
 names : soap ∷ role_next ∷ role_ultimate_receiver ∷ xml_namespace ∷ addressing ∷ no_address
     ∷ anonymous_address ∷ addressing_fault ∷ soap_fault ∷ []

@@ -1,18 +1,15 @@
 -- The first bad name said again by places, from the items before a place and those at the head
 -- behind it, and
 -- compared on literal documents.
-use Rattle.std.proofs.Common.{◌≡◌, ◌+◌, ℕ, zero, suc, List, [], ◌∷◌, ◌++◌, Bool, true, false, not}
-use Rattle.std.proofs.Common.{codes, refl, map, drop, take, length, slice_get, Option, Some, None}
-use Rattle.std.proofs.Common.{cond}
-use Rattle.std.specs.Option.{is_some}
+use Rattle.std.proofs.Common.{◌≡◌, ℕ, zero, suc, ◌+◌, Bool, true, false, cond, not, List, [], ◌∷◌}
+use Rattle.std.proofs.Common.{◌++◌, map, length, take, drop, is_some, slice_get, Some, None, codes}
+use Rattle.std.proofs.Common.{Option, refl}
+use Rattle.nbfx_values.specs.declared.content.{AttrItem.TheVariants.Attr as AttrOn, Item.Item}
 use Rattle.nbfx_values.specs.declared.content.AttrItem.TheVariants.{Xmlns as DeclaresOn}
-use Rattle.nbfx_values.specs.declared.content.AttrItem.TheVariants.{Attr as AttrOn}
-use Rattle.nbfx_values.specs.declared.content.Item.{Item}
-use Rattle.nbfx_values.specs.declared.content.Item.TheVariants.{Start, Xmlns, Attr, Array, Close}
-use Rattle.nbfx_values.specs.declared.scalars.Scalar.TheVariants.{Truth}
-use Rattle.nbfx_values.specs.declared.scalars.Value.TheVariants.{One}
+use Rattle.nbfx_values.specs.declared.content.Item.TheVariants.{Array, Attr, Close, Start, Xmlns}
+use Rattle.nbfx_values.specs.declared.scalars.{Scalar.TheVariants.Truth, Value.TheVariants.One}
 use Rattle.soap_envelope.specs.BadNames.{bad_name, is_good_array}
-use Rattle.soap_envelope.specs.Scopes.{Declaration, Scope, around, declaration, is_bound, uri_in}
+use Rattle.soap_envelope.specs.Scopes.{around, Declaration, declaration, is_bound, Scope, uri_in}
 use Rattle.soap_envelope.proofs.Documents.{a, array, attribute, echo, with_body, x}
 use Rattle.soap_envelope.proofs.OnLiterals.{envelopes_on_literals}
 

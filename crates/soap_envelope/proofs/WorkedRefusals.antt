@@ -1,21 +1,17 @@
 -- Worked cases: documents without a view, and why they have none.
-use Rattle.std.proofs.Common.{◌≡◌, ℕ, List, [], ◌∷◌, ◌++◌, codes, refl, map, pos, true, Result}
-use Rattle.std.proofs.Common.{Err}
-use Rattle.nbfx_values.specs.declared.content.AttrItem.TheVariants.{Xmlns as DeclaresOn}
+use Rattle.std.proofs.Common.{◌≡◌, ℕ, true, List, [], ◌∷◌, ◌++◌, map, pos, Err, codes, Result, refl}
 use Rattle.nbfx_values.specs.declared.content.AttrItem.TheVariants.{Attr as AttrOn}
-use Rattle.nbfx_values.specs.declared.content.Item.{Item}
-use Rattle.nbfx_values.specs.declared.content.Item.TheVariants.{Start, Xmlns, Attr, Text, Comment}
-use Rattle.nbfx_values.specs.declared.content.Item.TheVariants.{Close}
-use Rattle.nbfx_values.specs.declared.scalars.Scalar.TheVariants.{Truth, Float, Number}
-use Rattle.nbfx_values.specs.declared.scalars.Scalar.TheVariants.{QName}
+use Rattle.nbfx_values.specs.declared.content.AttrItem.TheVariants.{Xmlns as DeclaresOn}
+use Rattle.nbfx_values.specs.declared.content.Item.{Item, TheVariants.Xmlns}
+use Rattle.nbfx_values.specs.declared.content.Item.TheVariants.{Attr, Close, Comment, Start, Text}
+use Rattle.nbfx_values.specs.declared.scalars.Scalar.TheVariants.{Float, Number, QName, Truth}
 use Rattle.nbfx_values.specs.declared.scalars.Value.TheVariants.{One}
-use Rattle.soap_envelope.specs.declared.refusals.SoapFault.{SoapFault}
-use Rattle.soap_envelope.specs.declared.refusals.SoapFault.TheVariants.{BadNames, NotAnEnvelope}
-use Rattle.soap_envelope.specs.declared.refusals.SoapFault.TheVariants.{VersionMismatch, Misplaced}
-use Rattle.soap_envelope.specs.declared.refusals.SoapFault.TheVariants.{NoBody, RepeatedHeader}
-use Rattle.soap_envelope.specs.declared.refusals.SoapFault.TheVariants.{BadHeader}
-use Rattle.soap_envelope.specs.Names.{addressing, soap}
-use Rattle.soap_envelope.specs.View.{View, view}
+use Rattle.soap_envelope.specs.declared.refusals.SoapFault.{SoapFault, TheVariants.NotAnEnvelope}
+use Rattle.soap_envelope.specs.declared.refusals.SoapFault.TheVariants.{BadHeader, BadNames}
+use Rattle.soap_envelope.specs.declared.refusals.SoapFault.TheVariants.{Misplaced, NoBody}
+use Rattle.soap_envelope.specs.declared.refusals.SoapFault.TheVariants.{RepeatedHeader}
+use Rattle.soap_envelope.specs.declared.refusals.SoapFault.TheVariants.{VersionMismatch}
+use Rattle.soap_envelope.specs.{Names.addressing, Names.soap, View.View, View.view}
 use Rattle.soap_envelope.proofs.Documents.{a, action, array, attribute, enveloped, must, role, s}
 use Rattle.soap_envelope.proofs.Documents.{with_blocks, with_body, words, x}
 use Rattle.soap_envelope.proofs.OnLiterals.{envelopes_on_literals}

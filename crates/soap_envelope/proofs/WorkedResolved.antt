@@ -1,17 +1,14 @@
 -- Worked cases: documents with other prefixes that are resolved to the same names.
-use Rattle.std.proofs.Common.{◌≡◌, ℕ, List, [], ◌∷◌, ◌++◌, codes, map, pos, refl}
-use Rattle.nbfx_values.specs.declared.content.ArrayKind.TheVariants.{Int32}
-use Rattle.nbfx_values.specs.declared.content.AttrItem.TheVariants.{Xmlns as DeclaresOn}
+use Rattle.std.proofs.Common.{◌≡◌, ℕ, List, [], ◌∷◌, ◌++◌, map, pos, codes, refl}
+use Rattle.nbfx_values.specs.declared.content.{ArrayKind.TheVariants.Int32, Item.Item}
 use Rattle.nbfx_values.specs.declared.content.AttrItem.TheVariants.{Attr as AttrOn}
-use Rattle.nbfx_values.specs.declared.content.Item.{Item}
-use Rattle.nbfx_values.specs.declared.content.Item.TheVariants.{Start, Xmlns, Comment, Close}
+use Rattle.nbfx_values.specs.declared.content.AttrItem.TheVariants.{Xmlns as DeclaresOn}
+use Rattle.nbfx_values.specs.declared.content.Item.TheVariants.{Close, Comment, Start, Xmlns}
 use Rattle.nbfx_values.specs.declared.scalars.Scalar.TheVariants.{Number, Text as TextOf}
-use Rattle.nbfx_values.specs.declared.scalars.Value.{Value}
-use Rattle.nbfx_values.specs.declared.scalars.Value.TheVariants.{One}
+use Rattle.nbfx_values.specs.declared.scalars.Value.{Value, TheVariants.One}
 use Rattle.soap_envelope.specs.Names.{qualified_name, soap, xml_namespace}
-use Rattle.soap_envelope.specs.Resolved.{Resolved, Element, Declares, Attribute, Texts, Comments}
-use Rattle.soap_envelope.specs.Resolved.{Arrays, Ends}
-use Rattle.soap_envelope.specs.Resolved.{content_within, resolved}
+use Rattle.soap_envelope.specs.Resolved.{Arrays, Attribute, Comments, content_within, Declares}
+use Rattle.soap_envelope.specs.Resolved.{Element, Ends, Resolved, resolved, Texts}
 use Rattle.soap_envelope.proofs.Documents.{array, attribute, enveloped, s, with_body, words, x}
 use Rattle.soap_envelope.proofs.OnLiterals.{envelopes_on_literals}
 

@@ -1,22 +1,16 @@
 -- Where elements end, their children and their names said again by places: by how many elements are
 -- open before a place, and what is declared around it. Compared on literal documents.
-use Rattle.std.proofs.Common.{◌≡◌, ◌+◌, ◌-◌, ℕ, zero, suc, Bool, false, List, [], ◌∷◌, ◌++◌, codes}
-use Rattle.std.proofs.Common.{cond, drop, length, map, refl, take, Option, Some, None}
-use Rattle.std.specs.Prelude.{◌==◌, ◌&&◌, nat_lt, slice_get}
-use Rattle.std.specs.List.{filter}
-use Rattle.std.specs.Option.{unwrap_or}
+use Rattle.std.proofs.Common.{◌≡◌, ℕ, zero, suc, ◌+◌, ◌-◌, Bool, false, cond, ◌&&◌, List, [], ◌∷◌}
+use Rattle.std.proofs.Common.{◌++◌, map, length, take, drop, nat_lt, ◌==◌, slice_get, Some, None}
+use Rattle.std.proofs.Common.{codes, filter, Option, unwrap_or, refl}
 use Rattle.nbfx_values.specs.declared.content.Item.{Item}
-use Rattle.nbfx_values.specs.declared.content.Item.TheVariants.{Start, Xmlns, Comment, Close}
-use Rattle.soap_envelope.specs.declared.blocks.Block.{Block}
-use Rattle.soap_envelope.specs.Qualified.{Name}
+use Rattle.nbfx_values.specs.declared.content.Item.TheVariants.{Close, Comment, Start, Xmlns}
+use Rattle.soap_envelope.specs.{declared.blocks.Block.Block, Parts.name_by, View.blocks_of}
 use Rattle.soap_envelope.specs.Children.{children_of, close_of, is_child, is_start}
-use Rattle.soap_envelope.specs.Names.{qualified_name}
-use Rattle.soap_envelope.specs.Parts.{name_by}
-use Rattle.soap_envelope.specs.View.{blocks_of}
+use Rattle.soap_envelope.specs.{Names.qualified_name, Qualified.Name}
 use Rattle.soap_envelope.proofs.Documents.{a, action, array, echo, enveloped, message, s}
 use Rattle.soap_envelope.proofs.Documents.{with_blocks, with_body, words, x}
-use Rattle.soap_envelope.proofs.OnLiterals.{envelopes_on_literals}
-use Rattle.soap_envelope.proofs.WorkedPlaces.{scope_at}
+use Rattle.soap_envelope.proofs.{OnLiterals.envelopes_on_literals, WorkedPlaces.scope_at}
 
 -- how many elements are open after items
 abbrev pub opened : ℕ → List Item → ℕ

@@ -1,38 +1,31 @@
 -- The whole view said again by places: what the item at each place is, how many elements are open
 -- before it, and what is declared around it. Compared on literal documents.
-use Rattle.std.proofs.Common.{◌≡◌, ℕ, Bool, List, [], ◌∷◌, ◌++◌, codes, cond, length, map, not}
-use Rattle.std.proofs.Common.{refl, false, Option, Some, None, Result, Ok, Err}
-use Rattle.std.specs.Prelude.{◌==◌, ◌&&◌, ◌||◌, flat_map, nat_lt, slice_get}
-use Rattle.std.specs.List.{filter, list_all, list_any}
-use Rattle.std.specs.Option.{option_and_then, option_map}
-use Rattle.std.specs.Str.{bytes_eq}
+use Rattle.std.proofs.Common.{◌≡◌, ℕ, Bool, false, cond, not, ◌&&◌, ◌||◌, List, [], ◌∷◌, ◌++◌, map}
+use Rattle.std.proofs.Common.{length, nat_lt, ◌==◌, slice_get, Some, None, Ok, Err, codes, filter}
+use Rattle.std.proofs.Common.{Option, Result, option_map, flat_map, option_and_then, bytes_eq, refl}
+use Rattle.std.specs.List.{list_all, list_any}
 use Rattle.nbfx_values.specs.declared.content.Item.{Item}
-use Rattle.nbfx_values.specs.declared.content.Item.TheVariants.{Start, Xmlns, Comment, Close}
-use Rattle.soap_envelope.specs.declared.blocks.Block.{Block}
-use Rattle.soap_envelope.specs.declared.parts.Parts.{Parts}
-use Rattle.soap_envelope.specs.declared.refusals.SoapFault.{SoapFault}
-use Rattle.soap_envelope.specs.declared.refusals.SoapFault.TheVariants.{BadNames, NotAnEnvelope}
-use Rattle.soap_envelope.specs.declared.refusals.SoapFault.TheVariants.{VersionMismatch, Misplaced}
-use Rattle.soap_envelope.specs.declared.refusals.SoapFault.TheVariants.{NoBody, RepeatedHeader}
-use Rattle.soap_envelope.specs.declared.refusals.SoapFault.TheVariants.{BadHeader}
+use Rattle.nbfx_values.specs.declared.content.Item.TheVariants.{Close, Comment, Start, Xmlns}
+use Rattle.soap_envelope.specs.declared.{blocks.Block.Block, parts.Parts.Parts}
+use Rattle.soap_envelope.specs.declared.refusals.SoapFault.{SoapFault, TheVariants.NotAnEnvelope}
+use Rattle.soap_envelope.specs.declared.refusals.SoapFault.TheVariants.{BadHeader, BadNames}
+use Rattle.soap_envelope.specs.declared.refusals.SoapFault.TheVariants.{Misplaced, NoBody}
+use Rattle.soap_envelope.specs.declared.refusals.SoapFault.TheVariants.{RepeatedHeader}
+use Rattle.soap_envelope.specs.declared.refusals.SoapFault.TheVariants.{VersionMismatch}
 use Rattle.soap_envelope.specs.Characters.{characters_of, is_passed}
-use Rattle.soap_envelope.specs.Children.{is_start}
+use Rattle.soap_envelope.specs.{Children.is_start, Parts.parts_of, Parts.wrong_root}
 use Rattle.soap_envelope.specs.Headers.{counted_at, repeated}
 use Rattle.soap_envelope.specs.Names.{addressing, is_named, soap}
-use Rattle.soap_envelope.specs.Parts.{parts_of, wrong_root}
-use Rattle.soap_envelope.specs.View.{View, blocks_of, texts_in, unless, view}
+use Rattle.soap_envelope.specs.View.{blocks_of, texts_in, unless, View, view}
 use Rattle.soap_envelope.proofs.Documents.{a, action, array, attribute, echo, enveloped, message}
 use Rattle.soap_envelope.proofs.Documents.{role, s, with_blocks, words, x}
-use Rattle.soap_envelope.proofs.OnLiterals.{envelopes_on_literals}
+use Rattle.soap_envelope.proofs.{OnLiterals.envelopes_on_literals, WorkedPlaces.first_place}
 use Rattle.soap_envelope.proofs.Worked.{about, acted, contents, flagged, identifying, named}
-use Rattle.soap_envelope.proofs.Worked.{replied}
-use Rattle.soap_envelope.proofs.Worked.{single}
-use Rattle.soap_envelope.proofs.WorkedContents.{content_at}
+use Rattle.soap_envelope.proofs.{Worked.replied, Worked.single, WorkedContents.content_at}
 use Rattle.soap_envelope.proofs.WorkedHeaders.{addresses_at, bad_among, counts, first_of, is_among}
 use Rattle.soap_envelope.proofs.WorkedHeaders.{is_ours, said_at, soap_at}
-use Rattle.soap_envelope.proofs.WorkedPlaces.{first_place}
-use Rattle.soap_envelope.proofs.WorkedRefusals.{Row, bad_children, bad_headers, bad_names}
-use Rattle.soap_envelope.proofs.WorkedRefusals.{bad_names_around, bad_roots, repetitions, several}
+use Rattle.soap_envelope.proofs.WorkedRefusals.{bad_children, bad_headers, bad_names, several}
+use Rattle.soap_envelope.proofs.WorkedRefusals.{bad_names_around, bad_roots, repetitions, Row}
 use Rattle.soap_envelope.proofs.WorkedStructure.{children_by_level, close_by_level, name_at}
 
 -- the root is the element at place 0

@@ -1,15 +1,13 @@
 -- The first item whose prefix isn't declared, or that declares a prefix again in its element.
-use Rattle.std.specs.Prelude.{ℕ, ◌+◌, List, [], ◌∷◌, ◌++◌, Option, None, Some, Bool, true, not}
-use Rattle.std.specs.Prelude.{◌&&◌, if◌then◌else◌, is_some}
+use Rattle.std.specs.Prelude.{ℕ, ◌+◌, Bool, true, not, ◌&&◌, List, [], ◌∷◌, ◌++◌, is_some}
+use Rattle.std.specs.Prelude.{if◌then◌else◌, Some, None, Option}
 use Rattle.std.specs.Option.{option_or}
-use Rattle.nbfx_values.specs.declared.content.ArrayItem.{ArrayItem}
-use Rattle.nbfx_values.specs.declared.content.AttrItem.{AttrItem}
+use Rattle.nbfx_values.specs.declared.content.{ArrayItem.ArrayItem, Item.Item}
+use Rattle.nbfx_values.specs.declared.content.AttrItem.{AttrItem, TheVariants.Attr as AttrOn}
 use Rattle.nbfx_values.specs.declared.content.AttrItem.TheVariants.{Xmlns as DeclaresOn}
-use Rattle.nbfx_values.specs.declared.content.AttrItem.TheVariants.{Attr as AttrOn}
-use Rattle.nbfx_values.specs.declared.content.Item.{Item}
-use Rattle.nbfx_values.specs.declared.content.Item.TheVariants.{Start, Xmlns, Attr, Array, Close}
-use Rattle.soap_envelope.specs.Scopes.{Declaration, Scope, around, declaration, declared}
-use Rattle.soap_envelope.specs.Scopes.{declared_on, is_bound, uri_in}
+use Rattle.nbfx_values.specs.declared.content.Item.TheVariants.{Array, Attr, Close, Start, Xmlns}
+use Rattle.soap_envelope.specs.Scopes.{around, Declaration, declaration, declared, declared_on}
+use Rattle.soap_envelope.specs.Scopes.{is_bound, Scope, uri_in}
 
 -- the first of an element's declarations and attributes, behind these declarations of it
 abbrev pub bad_attribute : Scope → List Declaration → ℕ → List Item → Option ℕ

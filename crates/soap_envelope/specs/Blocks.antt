@@ -1,19 +1,14 @@
 -- The header blocks: their names, and what their SOAP attributes say.
-use Rattle.std.specs.Prelude.{ℕ, ◌+◌, List, [], ◌∷◌, Option, None, Some, Bool, true, false, ◌&&◌}
-use Rattle.std.specs.Prelude.{◌||◌, if◌then◌else◌, codes, drop, map, slice_get, unwrap_or}
-use Rattle.std.specs.List.{filter}
-use Rattle.std.specs.Str.{bytes_eq}
-use Rattle.nbfx_values.specs.declared.content.Item.{Item}
-use Rattle.nbfx_values.specs.declared.content.Item.TheVariants.{Xmlns, Attr}
-use Rattle.nbfx_values.specs.declared.scalars.Value.{Value}
-use Rattle.nbfx_values.specs.Characters.{value_characters}
-use Rattle.soap_envelope.specs.declared.attributes.Found.{Found}
-use Rattle.soap_envelope.specs.declared.blocks.Block.{Block}
-use Rattle.soap_envelope.specs.Qualified.{Name}
+use Rattle.std.specs.Prelude.{ℕ, ◌+◌, Bool, true, false, ◌&&◌, ◌||◌, List, [], ◌∷◌, map, drop}
+use Rattle.std.specs.Prelude.{if◌then◌else◌, slice_get, Some, None, codes, filter, Option, bytes_eq}
+use Rattle.std.specs.Prelude.{unwrap_or}
+use Rattle.nbfx_values.specs.declared.content.Item.{Item, TheVariants.Attr, TheVariants.Xmlns}
+use Rattle.nbfx_values.specs.{declared.scalars.Value.Value, Characters.value_characters}
+use Rattle.soap_envelope.specs.declared.{attributes.Found.Found, blocks.Block.Block}
 use Rattle.soap_envelope.specs.Children.{close_of, is_start}
 use Rattle.soap_envelope.specs.Names.{qualified_name, role_next, role_ultimate_receiver, soap}
-use Rattle.soap_envelope.specs.Parts.{element_name}
-use Rattle.soap_envelope.specs.Scopes.{Scope, attribute_uri, within}
+use Rattle.soap_envelope.specs.{Parts.element_name, Qualified.Name}
+use Rattle.soap_envelope.specs.Scopes.{attribute_uri, Scope, within}
 
 abbrev pub found : ℕ → Value → Found
 found at value = record { at = at; characters = value_characters value }

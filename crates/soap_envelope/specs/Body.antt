@@ -1,21 +1,15 @@
 -- The content of Body, so that it means the same in any other place: each child element declares
 -- what was in scope at Body.
-use Rattle.std.specs.Prelude.{ℕ, ◌+◌, ◌==◌, if◌then◌else◌, List, [], ◌∷◌, ◌++◌, Option, None, Some}
-use Rattle.std.specs.Prelude.{Bool, not, ◌&&◌, ◌||◌, codes, drop, is_none, map}
-use Rattle.std.specs.Cmp.Lexicographic.{slice_cmp}
-use Rattle.std.specs.Ordering.{nat_cmp}
-use Rattle.std.specs.declared.cmp.Ordering.{Ordering}
-use Rattle.std.specs.declared.cmp.Ordering.TheVariants.{Less, Equal, Greater}
-use Rattle.std.specs.List.{filter}
-use Rattle.std.specs.Str.{bytes_eq}
-use Rattle.nbfx_values.specs.declared.content.ArrayItem.{ArrayItem}
-use Rattle.nbfx_values.specs.declared.content.AttrItem.{AttrItem}
-use Rattle.nbfx_values.specs.declared.content.AttrItem.TheVariants.{Xmlns as DeclaresOn}
-use Rattle.nbfx_values.specs.declared.content.Item.{Item}
-use Rattle.nbfx_values.specs.declared.content.Item.TheVariants.{Start, Xmlns, Attr, Array}
-use Rattle.soap_envelope.specs.Children.{open_behind}
-use Rattle.soap_envelope.specs.Names.{addressing, soap}
-use Rattle.soap_envelope.specs.Scopes.{Declaration, Scope, declared, declared_on, uri_in, within}
+use Rattle.std.specs.Prelude.{ℕ, ◌+◌, Bool, not, ◌&&◌, ◌||◌, List, [], ◌∷◌, ◌++◌, map, drop}
+use Rattle.std.specs.Prelude.{is_none, if◌then◌else◌, ◌==◌, Some, None, codes, filter, Option}
+use Rattle.std.specs.{Prelude.bytes_eq, Cmp.Lexicographic.slice_cmp}
+use Rattle.std.specs.{Ordering.nat_cmp, declared.cmp.Ordering.Ordering}
+use Rattle.std.specs.declared.cmp.Ordering.TheVariants.{Equal, Greater, Less}
+use Rattle.nbfx_values.specs.declared.content.{ArrayItem.ArrayItem, Item.Item}
+use Rattle.nbfx_values.specs.declared.content.AttrItem.{AttrItem, TheVariants.Xmlns as DeclaresOn}
+use Rattle.nbfx_values.specs.declared.content.Item.TheVariants.{Array, Attr, Start, Xmlns}
+use Rattle.soap_envelope.specs.{Children.open_behind, Names.addressing, Names.soap}
+use Rattle.soap_envelope.specs.Scopes.{Declaration, declared, declared_on, Scope, uri_in, within}
 
 -- one declaration and another with those behind it, by the order of the two; and those behind it
 -- with

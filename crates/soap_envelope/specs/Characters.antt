@@ -1,11 +1,8 @@
 -- The characters of texts and elements.
-use Rattle.std.specs.Prelude.{ℕ, List, [], Option, None, Some, Bool, true, false, ◌||◌, ◌==◌}
-use Rattle.std.specs.Prelude.{is_some, slice_get}
-use Rattle.std.specs.List.{flat_map, list_all}
-use Rattle.nbfx_values.specs.declared.content.Item.{Item}
-use Rattle.nbfx_values.specs.declared.content.Item.TheVariants.{Text, Comment}
-use Rattle.nbfx_values.specs.Characters.{value_characters}
-use Rattle.soap_envelope.specs.Children.{children_of}
+use Rattle.std.specs.Prelude.{ℕ, Bool, true, false, ◌||◌, List, [], is_some, ◌==◌, slice_get, Some}
+use Rattle.std.specs.{Prelude.None, Prelude.Option, Prelude.flat_map, List.list_all}
+use Rattle.nbfx_values.specs.declared.content.Item.{Item, TheVariants.Comment, TheVariants.Text}
+use Rattle.{nbfx_values.specs.Characters.value_characters, soap_envelope.specs.Children.children_of}
 
 -- space, tab, line feed and carriage return
 abbrev pub is_white : ℕ → Bool

@@ -1,20 +1,14 @@
 -- Faults, item by item.
-use Rattle.std.specs.Prelude.{ℕ, List, [], ◌∷◌, ◌++◌, Bool, ◌&&◌, codes}
-use Rattle.std.specs.List.{flat_map}
-use Rattle.std.specs.Str.{is_utf8}
-use Rattle.nbfx_values.specs.declared.content.Item.{Item}
-use Rattle.nbfx_values.specs.declared.content.Item.TheVariants.{Xmlns, Attr, Close}
-use Rattle.nbfx_values.specs.declared.scalars.Scalar.TheVariants.{Text as TextOf}
-use Rattle.nbfx_values.specs.declared.scalars.Value.TheVariants.{One}
-use Rattle.soap_envelope.specs.Qualified.{Name}
-use Rattle.soap_envelope.specs.declared.report.Code.{Code}
-use Rattle.soap_envelope.specs.declared.report.Code.TheVariants.{VersionMismatch, MustUnderstand}
-use Rattle.soap_envelope.specs.declared.report.Code.TheVariants.{Sender, Receiver}
-use Rattle.soap_envelope.specs.declared.report.FaultReport.{FaultReport}
-use Rattle.soap_envelope.specs.declared.report.Sub.{Sub}
-use Rattle.soap_envelope.specs.declared.report.Sub.TheVariants as sub
+use Rattle.std.specs.Prelude.{ℕ, Bool, ◌&&◌, List, [], ◌∷◌, ◌++◌, codes, flat_map}
+use Rattle.{std.specs.Str.is_utf8, nbfx_values.specs.declared.scalars.Value.TheVariants.One}
+use Rattle.nbfx_values.specs.declared.{content.Item.Item, scalars.Scalar.TheVariants.Text as TextOf}
+use Rattle.nbfx_values.specs.declared.content.Item.TheVariants.{Attr, Close, Xmlns}
+use Rattle.soap_envelope.specs.declared.report.Code.{Code, TheVariants.VersionMismatch}
+use Rattle.soap_envelope.specs.declared.report.Code.TheVariants.{MustUnderstand, Receiver, Sender}
+use Rattle.soap_envelope.specs.declared.report.{FaultReport.FaultReport, Sub.Sub}
 use Rattle.soap_envelope.specs.Making.{envelope_items, soap_start, words}
-use Rattle.soap_envelope.specs.Names.{addressing_fault, soap_fault}
+use Rattle.soap_envelope.specs.{Names.addressing_fault, Names.soap_fault, Qualified.Name}
+use Rattle.soap_envelope.specs.declared.report.Sub.TheVariants as sub
 
 -- the name of each code, with the prefix that every fault declares
 abbrev pub code_text : Code → List ℕ

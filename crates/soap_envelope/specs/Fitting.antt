@@ -1,9 +1,7 @@
 -- Which items and which names fit a quota on content.
-use Rattle.std.specs.Prelude.{ℕ, ◌+◌, ◌-◌, List, Option, None, Some, Bool, if◌then◌else◌, length}
-use Rattle.std.specs.Prelude.{nat_le, sum_by}
-use Rattle.nbfx_values.specs.declared.content.Item.{Item}
-use Rattle.nbfx_values.specs.Measures.{content_of}
-use Rattle.soap_envelope.specs.Qualified.{Name}
+use Rattle.std.specs.Prelude.{ℕ, ◌+◌, ◌-◌, Bool, List, length, if◌then◌else◌, nat_le, Some, None}
+use Rattle.{std.specs.Prelude.sum_by, std.specs.Prelude.Option, soap_envelope.specs.Qualified.Name}
+use Rattle.nbfx_values.specs.{declared.content.Item.Item, Measures.content_of}
 
 -- the greatest quota on content that is good
 abbrev pub greatest_quota : ℕ

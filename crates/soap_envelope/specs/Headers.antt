@@ -1,20 +1,16 @@
 -- The blocks of addressing that count, the first that is repeated, and the first item of Header
 -- that
 -- isn't as the standards have it.
-use Rattle.std.specs.Prelude.{ℕ, List, [], ◌∷◌, ◌++◌, Option, None, Some, Bool, true, false, not}
-use Rattle.std.specs.Prelude.{◌&&◌, ◌||◌, if◌then◌else◌, codes, find, is_some, min, option_map}
-use Rattle.std.specs.Prelude.{slice_get}
-use Rattle.std.specs.List.{filter, list_any}
-use Rattle.std.specs.Option.{option_or}
-use Rattle.std.specs.Str.{bytes_eq}
+use Rattle.std.specs.Prelude.{ℕ, min, Bool, true, false, not, ◌&&◌, ◌||◌, List, [], ◌∷◌, ◌++◌}
+use Rattle.std.specs.Prelude.{is_some, if◌then◌else◌, slice_get, Some, None, codes, filter, Option}
+use Rattle.std.specs.Prelude.{option_map, find, bytes_eq}
+use Rattle.std.specs.{List.list_any, Option.option_or}
 use Rattle.nbfx_values.specs.declared.content.Item.{Item}
-use Rattle.soap_envelope.specs.declared.attributes.Found.{Found}
-use Rattle.soap_envelope.specs.declared.blocks.Block.{Block}
+use Rattle.soap_envelope.specs.declared.{attributes.Found.Found, blocks.Block.Block}
 use Rattle.soap_envelope.specs.Blocks.{block_of, is_no, is_yes, must_understand_of, role_of}
-use Rattle.soap_envelope.specs.Characters.{has_plain_content}
+use Rattle.soap_envelope.specs.{Characters.has_plain_content, Parts.is_element}
 use Rattle.soap_envelope.specs.Children.{children_of, is_start}
 use Rattle.soap_envelope.specs.Names.{addressing, is_named, is_same_name}
-use Rattle.soap_envelope.specs.Parts.{is_element}
 use Rattle.soap_envelope.specs.Scopes.{Scope, within}
 
 -- whether a block counts as addressing's of a local name: it does where it is targeted

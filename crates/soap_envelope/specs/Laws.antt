@@ -1,19 +1,15 @@
 -- What holds of views by the definitions alone.
-use Rattle.std.specs.Prelude.{◌≡◌, ℕ, List, [], IsTrue, Ok, false}
+use Rattle.std.specs.Prelude.{◌≡◌, ℕ, false, List, [], IsTrue, Ok, codes}
 use Rattle.std.specs.Str.{is_utf8}
-use Rattle.std.specs.Prelude.{codes}
-use Rattle.nbfx_values.specs.Documents.{IsDocument}
-use Rattle.nbfx_values.specs.declared.content.Item.{Item}
-use Rattle.soap_envelope.specs.declared.report.FaultReport.{FaultReport}
-use Rattle.soap_envelope.specs.BadNames.{bad_name}
+use Rattle.nbfx_values.specs.{declared.content.Item.Item, Documents.IsDocument}
+use Rattle.soap_envelope.specs.{declared.report.FaultReport.FaultReport, BadNames.bad_name}
 use Rattle.soap_envelope.specs.Faults.{fault_action, fault_body, fault_items}
-use Rattle.soap_envelope.specs.Fitting.{fits, names_fit}
-use Rattle.soap_envelope.specs.Headers.{counted_at}
-use Rattle.soap_envelope.specs.Made.{StandsInReplies, made_view, reply_scope}
+use Rattle.soap_envelope.specs.{Fitting.fits, Fitting.names_fit, Headers.counted_at}
+use Rattle.soap_envelope.specs.Made.{made_view, reply_scope, StandsInReplies}
 use Rattle.soap_envelope.specs.Making.{AreTexts, IsContent, reply_items, response_action}
+use Rattle.soap_envelope.specs.Renaming.{headed_by, IsRenaming, renamed}
 use Rattle.soap_envelope.specs.Resolved.{content_from, content_within, resolved, resolved_from}
-use Rattle.soap_envelope.specs.Renaming.{IsRenaming, headed_by, renamed}
-use Rattle.soap_envelope.specs.View.{View, texts_at, view}
+use Rattle.soap_envelope.specs.View.{texts_at, View, view}
 
 abbrev pub reply_view : List ℕ → (relates body : List Item) → View
 reply_view action relates body = made_view (response_action action) relates [] body

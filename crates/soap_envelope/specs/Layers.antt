@@ -1,16 +1,11 @@
--- Declarations as they are kept: that of the innermost element last, and where the first of a
--- prefix
--- stands.
-use Rattle.std.specs.Prelude.{◌≡◌, ◌+◌, ◌<◌, ℕ, List, [], ◌∷◌, Option, None, Some, if◌then◌else◌}
-use Rattle.std.specs.Prelude.{length, map, reverse}
-use denote.Ref.{Bor}
+-- The declarations of an element as they are kept, and where the first of a prefix stands.
+use Rattle.std.specs.Prelude.{◌≡◌, ℕ, ◌+◌, ◌<◌, List, [], ◌∷◌, map, length, if◌then◌else◌, Some}
+use Rattle.std.specs.Prelude.{None, Option, bytes_eq}
 use Rattle.std.specs.BTreeMap.{BTreeMap, get_by}
-use Rattle.std.specs.Cmp.Lexicographic.{slice_cmp}
-use Rattle.std.specs.Global.{Vec}
-use Rattle.std.specs.Ordering.{nat_cmp}
-use Rattle.std.specs.Str.{bytes_eq}
+use Rattle.std.specs.{Cmp.Lexicographic.slice_cmp, Global.Vec, Ordering.nat_cmp}
+use denote.Ref.{Bor}
 use Rattle.soap_envelope.specs.declared.layers.Declared.{Declared}
-use Rattle.soap_envelope.specs.Scopes.{Declaration, Scope, declaration}
+use Rattle.soap_envelope.specs.Scopes.{Declaration, declaration}
 
 abbrev pub kept : Declared → Declaration
 kept d = declaration d.prefix.now d.uri.now
@@ -21,9 +16,6 @@ layer_of v = map kept v.items
 -- the entries of a map from prefixes to namespaces
 abbrev pub shown : BTreeMap (Bor (List ℕ)) (Bor (List ℕ)) → List Declaration
 shown sorted = map (λ entry. declaration entry.0.now entry.1.now) sorted.entries
-
-abbrev pub scope_of : List (List Declaration) → Scope
-scope_of layers = reverse layers
 
 -- the place of the first declaration of a prefix, where the first of these has this place
 abbrev pub place_from : ℕ → List ℕ → List Declaration → Option ℕ

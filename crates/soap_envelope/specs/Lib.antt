@@ -21,4 +21,5 @@ pub mod Resolved
 pub mod Renaming
 pub mod Laws
 -- for private calls
+pub mod Bindings
 pub mod Spelled

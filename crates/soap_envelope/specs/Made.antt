@@ -1,13 +1,10 @@
 -- What is seen of the replies and faults that are made.
-use Rattle.std.specs.Prelude.{◌≡◌, ℕ, ◌+◌, List, [], ◌∷◌, ◌++◌, codes, length, None, Some, true}
-use Rattle.std.specs.Prelude.{false}
-use Rattle.nbfx_values.specs.declared.content.Item.{Item}
-use Rattle.soap_envelope.specs.declared.blocks.Block.{Block}
-use Rattle.soap_envelope.specs.Qualified.{Name}
-use Rattle.soap_envelope.specs.BadNames.{first_bad_name}
+use Rattle.std.specs.Prelude.{◌≡◌, ℕ, ◌+◌, true, false, List, [], ◌∷◌, ◌++◌, length, Some, None}
+use Rattle.{std.specs.Prelude.codes, nbfx_values.specs.declared.content.Item.Item}
+use Rattle.soap_envelope.specs.{declared.blocks.Block.Block, View.View}
+use Rattle.soap_envelope.specs.{BadNames.first_bad_name, Qualified.Name}
 use Rattle.soap_envelope.specs.Names.{addressing, qualified_name, soap}
-use Rattle.soap_envelope.specs.Scopes.{Scope, declaration}
-use Rattle.soap_envelope.specs.View.{View}
+use Rattle.soap_envelope.specs.Scopes.{declaration, Scope}
 
 -- the declarations within the root of a reply, and within its Header and its Body
 abbrev pub reply_root : Scope

@@ -1,13 +1,10 @@
 -- Replies, item by item.
-use Rattle.std.specs.Prelude.{◌≡◌, ℕ, List, [], ◌∷◌, ◌++◌, Some, IsTrue, Bool, false, codes, pos}
-use Rattle.std.specs.List.{list_all}
-use Rattle.nbfx_values.specs.declared.content.Item.{Item}
-use Rattle.nbfx_values.specs.declared.content.Item.TheVariants.{Start, Xmlns, Attr, Text, Close}
-use Rattle.nbfx_values.specs.declared.position.Position.TheVariants.{Within}
+use Rattle.std.specs.Prelude.{◌≡◌, ℕ, Bool, false, List, [], ◌∷◌, ◌++◌, pos, IsTrue, Some, codes}
+use Rattle.{std.specs.List.list_all, nbfx_values.specs.Positions.position_from}
+use Rattle.nbfx_values.specs.declared.{content.Item.Item, position.Position.TheVariants.Within}
+use Rattle.nbfx_values.specs.declared.content.Item.TheVariants.{Attr, Close, Start, Text, Xmlns}
 use Rattle.nbfx_values.specs.declared.scalars.Scalar.TheVariants.{Number, Text as TextOf}
-use Rattle.nbfx_values.specs.declared.scalars.Value.TheVariants.{One}
-use Rattle.nbfx_values.specs.Positions.{position_from}
-use Rattle.nbfx_values.specs.Scalars.{is_valid_value}
+use Rattle.nbfx_values.specs.{declared.scalars.Value.TheVariants.One, Scalars.is_valid_value}
 use Rattle.soap_envelope.specs.Names.{addressing, soap}
 
 -- a valid text

@@ -1,8 +1,7 @@
 -- The names to which SOAP 1.2, WS-Addressing 1.0 and XML Namespaces 1.0 give a meaning. The
 -- namespace
 -- of addressing stands here alone.
-use Rattle.std.specs.Prelude.{ℕ, List, Bool, ◌&&◌, codes}
-use Rattle.std.specs.Str.{bytes_eq}
+use Rattle.std.specs.Prelude.{ℕ, Bool, ◌&&◌, List, codes, bytes_eq}
 use Rattle.soap_envelope.specs.Qualified.{Name}
 
 -- the namespaces of envelopes, of addressing, and of the prefix `xml`

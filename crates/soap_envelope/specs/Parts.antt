@@ -1,20 +1,14 @@
 -- The root of an envelope, and which of the root's children are its Header and its Body.
-use Rattle.std.specs.Prelude.{ℕ, List, [], ◌∷◌, Option, None, Some, Result, Ok, Err, Bool, false}
-use Rattle.std.specs.Prelude.{not, if◌then◌else◌, codes, slice_get}
-use Rattle.std.specs.List.{filter}
-use Rattle.std.specs.Str.{bytes_eq}
-use Rattle.nbfx_values.specs.declared.content.Item.{Item}
-use Rattle.nbfx_values.specs.declared.content.Item.TheVariants.{Start}
-use Rattle.soap_envelope.specs.Qualified.{Name}
-use Rattle.soap_envelope.specs.declared.parts.Parts.{Parts}
-use Rattle.soap_envelope.specs.declared.refusals.SoapFault.{SoapFault}
-use Rattle.soap_envelope.specs.declared.refusals.SoapFault.TheVariants.{NotAnEnvelope}
-use Rattle.soap_envelope.specs.declared.refusals.SoapFault.TheVariants.{VersionMismatch, Misplaced}
-use Rattle.soap_envelope.specs.declared.refusals.SoapFault.TheVariants.{NoBody}
-use Rattle.soap_envelope.specs.Characters.{is_passed}
-use Rattle.soap_envelope.specs.Children.{children_of}
+use Rattle.std.specs.Prelude.{ℕ, Bool, false, not, List, [], ◌∷◌, if◌then◌else◌, slice_get, Some}
+use Rattle.std.specs.Prelude.{None, Ok, Err, codes, filter, Option, Result, bytes_eq}
+use Rattle.nbfx_values.specs.declared.content.Item.{Item, TheVariants.Start}
+use Rattle.soap_envelope.specs.{declared.parts.Parts.Parts, Qualified.Name}
+use Rattle.soap_envelope.specs.declared.refusals.SoapFault.{SoapFault, TheVariants.NotAnEnvelope}
+use Rattle.soap_envelope.specs.declared.refusals.SoapFault.TheVariants.{Misplaced, NoBody}
+use Rattle.soap_envelope.specs.declared.refusals.SoapFault.TheVariants.{VersionMismatch}
+use Rattle.soap_envelope.specs.{Characters.is_passed, Children.children_of}
 use Rattle.soap_envelope.specs.Names.{is_named, qualified_name, soap}
-use Rattle.soap_envelope.specs.Scopes.{Scope, element_uri, within}
+use Rattle.soap_envelope.specs.Scopes.{element_uri, Scope, within}
 
 -- the name of the element that an item begins, by the declarations within the element
 abbrev pub name_by : Scope → Option Item → Option Name

@@ -1,14 +1,11 @@
 -- Documents whose prefixes are others.
-use Rattle.std.specs.Prelude.{◌≡◌, ℕ, List, [], map, codes, Result, Ok, Err}
+use Rattle.std.specs.Prelude.{◌≡◌, ℕ, List, [], map, Ok, Err, codes, Result}
 use Rattle.nbfx_values.specs.declared.content.ArrayItem.{ArrayItem}
-use Rattle.nbfx_values.specs.declared.content.AttrItem.{AttrItem}
+use Rattle.nbfx_values.specs.declared.content.AttrItem.{AttrItem, TheVariants.Attr as AttrOn}
 use Rattle.nbfx_values.specs.declared.content.AttrItem.TheVariants.{Xmlns as DeclaresOn}
-use Rattle.nbfx_values.specs.declared.content.AttrItem.TheVariants.{Attr as AttrOn}
-use Rattle.nbfx_values.specs.declared.content.Item.{Item}
-use Rattle.nbfx_values.specs.declared.content.Item.TheVariants.{Start, Xmlns, Attr, Text, Comment}
-use Rattle.nbfx_values.specs.declared.content.Item.TheVariants.{Array, Close}
-use Rattle.soap_envelope.specs.declared.refusals.SoapFault.{SoapFault}
-use Rattle.soap_envelope.specs.View.{View}
+use Rattle.nbfx_values.specs.declared.content.Item.{Item, TheVariants.Text, TheVariants.Xmlns}
+use Rattle.nbfx_values.specs.declared.content.Item.TheVariants.{Array, Attr, Close, Comment, Start}
+use Rattle.soap_envelope.specs.{declared.refusals.SoapFault.SoapFault, View.View}
 
 -- No two prefixes become one. That of no characters and `xml`, which mean something undeclared,
 -- stay.

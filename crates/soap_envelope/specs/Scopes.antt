@@ -1,14 +1,10 @@
 -- Which namespace a prefix stands for, by the declarations in scope.
-use Rattle.std.specs.Prelude.{ℕ, ◌+◌, List, [], ◌∷◌, Option, None, Some, Bool, if◌then◌else◌, codes}
-use Rattle.std.specs.Prelude.{is_some, drop, length, unwrap_or, ◌==◌}
-use Rattle.std.specs.Option.{option_or}
-use Rattle.std.specs.Str.{bytes_eq}
-use Rattle.nbfx_values.specs.declared.content.AttrItem.{AttrItem}
+use Rattle.std.specs.Prelude.{ℕ, ◌+◌, Bool, List, [], ◌∷◌, length, drop, is_some, if◌then◌else◌}
+use Rattle.std.specs.Prelude.{◌==◌, Some, None, codes, Option, bytes_eq, unwrap_or}
+use Rattle.{std.specs.Option.option_or, soap_envelope.specs.Names.xml_namespace}
+use Rattle.nbfx_values.specs.declared.content.AttrItem.{AttrItem, TheVariants.Attr as AttrOn}
 use Rattle.nbfx_values.specs.declared.content.AttrItem.TheVariants.{Xmlns as DeclaresOn}
-use Rattle.nbfx_values.specs.declared.content.AttrItem.TheVariants.{Attr as AttrOn}
-use Rattle.nbfx_values.specs.declared.content.Item.{Item}
-use Rattle.nbfx_values.specs.declared.content.Item.TheVariants.{Xmlns, Attr}
-use Rattle.soap_envelope.specs.Names.{xml_namespace}
+use Rattle.nbfx_values.specs.declared.content.Item.{Item, TheVariants.Attr, TheVariants.Xmlns}
 
 -- a prefix, which is empty for the default one, and the namespace that it is declared to stand for
 pub record Declaration : Type 0 where

@@ -1,12 +1,8 @@
 -- The view that an envelope's fields hold, and what they keep.
-use Rattle.std.specs.Prelude.{◌≡◌, ℕ, List, Option, IsTrue, slice_get}
-use Rattle.nbfx_values.specs.declared.content.Item.{Item}
-use Rattle.nbfx_values.specs.Documents.{IsDocument}
-use Rattle.soap_envelope.specs.declared.blocks.Block.{Block}
-use Rattle.soap_envelope.specs.Body.{body_items}
-use Rattle.soap_envelope.specs.Children.{is_start}
-use Rattle.soap_envelope.specs.Parts.{root_scope}
-use Rattle.soap_envelope.specs.View.{View, texts_at}
+use Rattle.std.specs.Prelude.{◌≡◌, ℕ, List, IsTrue, slice_get, Option}
+use Rattle.nbfx_values.specs.{declared.content.Item.Item, Documents.IsDocument}
+use Rattle.soap_envelope.specs.{declared.blocks.Block.Block, Body.body_items}
+use Rattle.soap_envelope.specs.{Children.is_start, Parts.root_scope, View.texts_at, View.View}
 
 -- the MessageID, if there is one, and Body stand at their places
 abbrev pub seen : List Item → List Block → (action reply_address : Option (List ℕ)) → Option ℕ

@@ -1,9 +1,7 @@
 -- The blocks that must be understood and aren't.
-use Rattle.std.specs.Prelude.{List, Bool, ◌&&◌, not, map}
-use Rattle.std.specs.List.{filter, list_any}
-use Rattle.soap_envelope.specs.declared.blocks.Block.{Block}
-use Rattle.soap_envelope.specs.Qualified.{Name}
-use Rattle.soap_envelope.specs.Names.{is_same_name}
+use Rattle.std.specs.Prelude.{Bool, not, ◌&&◌, List, map, filter}
+use Rattle.std.specs.List.{list_any}
+use Rattle.soap_envelope.specs.{declared.blocks.Block.Block, Names.is_same_name, Qualified.Name}
 
 -- whether a block is targeted and must be understood, and its name isn't among those known
 abbrev pub is_foreign : List Name → Block → Bool

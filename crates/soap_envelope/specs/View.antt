@@ -1,20 +1,13 @@
 -- The view of a document as an envelope of SOAP 1.2 with WS-Addressing 1.0.
-use Rattle.std.specs.Prelude.{ℕ, List, [], Option, None, Some, Result, Ok, Err, codes}
-use Rattle.std.specs.Prelude.{option_and_then, option_map, slice_get}
-use Rattle.std.specs.List.{flat_map}
-use Rattle.std.specs.Option.{option_or, option_to_list}
-use Rattle.nbfx_values.specs.declared.content.Item.{Item}
-use Rattle.nbfx_values.specs.declared.content.Item.TheVariants.{Text}
-use Rattle.soap_envelope.specs.declared.blocks.Block.{Block}
-use Rattle.soap_envelope.specs.declared.parts.Parts.{Parts}
-use Rattle.soap_envelope.specs.declared.refusals.SoapFault.{SoapFault}
-use Rattle.soap_envelope.specs.declared.refusals.SoapFault.TheVariants.{BadNames, RepeatedHeader}
-use Rattle.soap_envelope.specs.declared.refusals.SoapFault.TheVariants.{BadHeader}
-use Rattle.soap_envelope.specs.BadNames.{bad_name}
-use Rattle.soap_envelope.specs.Blocks.{blocks_among}
-use Rattle.soap_envelope.specs.Body.{body_items}
-use Rattle.soap_envelope.specs.Characters.{text_of}
-use Rattle.soap_envelope.specs.Children.{children_of}
+use Rattle.std.specs.Prelude.{ℕ, List, [], slice_get, Some, None, Ok, Err, codes, Option, Result}
+use Rattle.std.specs.Prelude.{option_map, option_to_list, flat_map, option_and_then}
+use Rattle.std.specs.Option.{option_or}
+use Rattle.nbfx_values.specs.declared.content.Item.{Item, TheVariants.Text}
+use Rattle.soap_envelope.specs.declared.{blocks.Block.Block, parts.Parts.Parts}
+use Rattle.soap_envelope.specs.declared.refusals.SoapFault.{SoapFault, TheVariants.RepeatedHeader}
+use Rattle.soap_envelope.specs.declared.refusals.SoapFault.TheVariants.{BadHeader, BadNames}
+use Rattle.soap_envelope.specs.{BadNames.bad_name, Body.body_items, Children.children_of}
+use Rattle.soap_envelope.specs.{Blocks.blocks_among, Characters.text_of}
 use Rattle.soap_envelope.specs.Headers.{addresses, bad_header, counted_at, only, repeated}
 use Rattle.soap_envelope.specs.Parts.{kept_children, parts_of, root_scope, wrong_root}
 use Rattle.soap_envelope.specs.Scopes.{Scope, within}

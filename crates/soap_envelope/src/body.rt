@@ -11,7 +11,7 @@ use crate::children::{behind, open_behind};
 use crate::fitting::content_fits;
 use crate::layers::{Declared, Layer};
 use crate::namespaces::{ADDRESSING, SOAP};
-use crate::scopes::{declared_in, declared_on};
+use crate::scopes::{declarations_in, declared_in, declared_on};
 use nbfx_values::{ArrayItem, AttrItem, Attrs, Copied, Item, Items, Quotas, Txt};
 use std::alloc::Global;
 use std::collections::BTreeMap;
@@ -73,8 +73,8 @@ pub(crate) fn needed_at<'d>(
     ensures { IfOk result
         (λ needs. layer_of needs ≡ spec.needed (within items.now at (root_scope items.now))) }
 {
-    let root = declared_in(alloc, behind(items, 0))?;
-    let body = declared_in(alloc, behind(items, at))?;
+    let root = declarations_in(alloc, behind(items, 0))?;
+    let body = declarations_in(alloc, behind(items, at))?;
     let mut sorted = BTreeMap::new(alloc);
     put_all(&mut sorted, root.as_slice())?;
     put_all(&mut sorted, body.as_slice())?;

@@ -1,6 +1,6 @@
 //! The view of a document as an envelope.
 
-ghost use Rattle.std.specs.Prelude.{◌≡◌, ◌≢◌, ◌++◌, [], ◌∷◌, Err, IfOk, IfSome, IsTrue, MatchResult, Ok, OnOk, slice_get};
+ghost use Rattle.std.specs.Prelude.{◌≡◌, ◌≢◌, ◌++◌, Err, IfOk, IfSome, IsTrue, MatchResult, Ok, OnOk, slice_get};
 ghost use Rattle.std.specs.List.{list_all};
 ghost use Rattle.std.specs.Option.{option_copied, option_map, option_or};
 ghost use Rattle.nbfx_values.specs.Documents.{IsDocument};
@@ -20,11 +20,10 @@ use crate::blocks::{Block, Blocks, Names, QualifiedName};
 use crate::body::body_items;
 use crate::children::{Children, behind};
 use crate::headers::{Header, counted_at, first_repeated, foreign_names, header_of, only_address};
-use crate::layers::Layer;
 use crate::names::bad_name;
 use crate::parts::{Parts, kept_children, parts_of, wrong_root};
 use crate::refusals::SoapFault;
-use crate::scopes::{Scopes, declared_in};
+use crate::scopes::Scopes;
 use crate::texts::text_of;
 use nbfx_values::{Copied, Doc, Item, Items, Quotas, Txt};
 use std::alloc::Global;
@@ -54,18 +53,8 @@ impl<'d> Model for Envelope<'d> {
     ghost invariant = { λ e. HasBody e.items.now e.body };
 }
 
-// Into the root, which has these declarations.
-fn in_root<'d>(alloc: Global, layer: Layer<'d>) -> Result<Scopes<'d>, Memory>
-    ensures { IfOk result (λ scopes. scopes ≡ layer.entry ∷ []) }
-{
-    let mut scopes = Scopes::new(alloc);
-    scopes.enter(layer)?;
-    Ok(scopes)
-}
-
 // Into Header, if there is one.
 fn enter_header<'d>(
-    alloc: Global,
     items: &'d [Item],
     scopes: &mut Scopes<'d>,
     header: Option<usize>,
@@ -74,9 +63,7 @@ fn enter_header<'d>(
     ensures { OnOk result (scopes.new ≡ header_scope items.now header) }
 {
     if let Some(at) = header {
-        let layer = declared_in(alloc, behind(items, at))?;
-        scopes.enter(layer)?;
-        return Ok(());
+        scopes.enter(behind(items, at))?;
     }
     Ok(())
 }
@@ -179,7 +166,7 @@ fn viewed<'d>(
     requires scope { scopes ≡ root_scope items.now }
     ensures { IfOk result (λ seen. seen ≡ spec.viewed_by items.now (Ok parts)) }
 {
-    enter_header(alloc, items, &mut scopes, parts.header)?;
+    enter_header(items, &mut scopes, parts.header)?;
     let children = children_in_header(alloc, items, parts.header)?;
     let header = header_of(alloc, items, &mut scopes, children.as_slice())?;
     if let Some(fault) = fault_in(&header) {
@@ -194,14 +181,13 @@ fn view_of<'d>(alloc: Global, items: &'d [Item]) -> Result<Result<Envelope<'d>, 
     requires { IsDocument items.now }
     ensures { IfOk result (λ seen. seen ≡ view items.now) }
 {
-    if let Some(item) = bad_name(alloc, items)? {
+    let mut root = Scopes::new(alloc);
+    if let Some(item) = bad_name(&mut root, items)? {
         return Ok(Err(SoapFault::BadNames { item }));
     }
-    let layer = declared_in(alloc, behind(items, 0))?;
-    if let Some(fault) = wrong_root(alloc, items, &layer) {
+    if let Some(fault) = wrong_root(items, &root) {
         return Ok(Err(fault));
     }
-    let root = in_root(alloc, layer)?;
     match parts_of(alloc, items, &root)? {
         Ok(parts) => viewed(alloc, items, root, parts),
         Err(fault) => Ok(Err(fault)),

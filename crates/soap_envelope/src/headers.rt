@@ -188,8 +188,7 @@ pub(crate) fn only_address<'d>(
         (λ found. found ≡ spec.only (spec.addresses items.now scopes.old at)) }
     ensures unchanged { OnOk result (scopes.new ≡ scopes.old) }
 {
-    let layer = declared_in(alloc, behind(items, at))?;
-    scopes.enter(layer)?;
+    scopes.enter(behind(items, at))?;
     let found = only_address_in(alloc, items, scopes, at)?;
     scopes.close();
     Ok(found)

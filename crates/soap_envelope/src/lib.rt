@@ -15,6 +15,7 @@
 #![tactic(auto)]
 
 mod attributes;
+mod bindings;
 mod blocks;
 mod body;
 mod characters;

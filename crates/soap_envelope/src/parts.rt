@@ -1,11 +1,10 @@
 // The root of an envelope, and which of the root's children are its Header and its Body.
-ghost use Rattle.std.specs.Prelude.{◌≡◌, ◌∷◌, IfOk, IsTrue, Some, drop};
+ghost use Rattle.std.specs.Prelude.{◌≡◌, ◌∷◌, IfOk, IsTrue, Some};
 ghost use Rattle.std.specs.List.{list_all};
 ghost use Rattle.nbfx_values.specs.Items.{is_valid_item};
 ghost use Rattle.soap_envelope.specs.Names.{qualified_name};
 ghost use Rattle.soap_envelope.specs.Parts as spec;
 ghost use Rattle.soap_envelope.specs.Scopes as scope;
-ghost use Rattle.soap_envelope.specs.Scopes.{declared};
 
 use crate::children::{Children, behind};
 use crate::layers::Layer;
@@ -93,15 +92,14 @@ fn wrong_name(uri: &str, local: &str) -> Option<SoapFault>
     }
 }
 
-// What is wrong with the root, which has these declarations.
-pub(crate) fn wrong_root<'d>(alloc: Global, items: &'d [Item], own: &Layer<'d>) -> Option<SoapFault>
-    requires { own.now ≡ declared (drop 1 items.now) }
+// What is wrong with the root, by the declarations within it.
+pub(crate) fn wrong_root(items: &[Item], root: &Scopes<'_>) -> Option<SoapFault>
+    requires { root.now ≡ spec.root_scope items.now }
     ensures { result ≡ spec.wrong_root items.now }
 {
     match items.get(0) {
         Some(Item::Start { prefix, local }) => {
-            let outer = Scopes::new(alloc);
-            wrong_name(element_uri(&outer, own, prefix), local.as_str())
+            wrong_name(root.element_uri(prefix), local.as_str())
         }
         _ => Some(SoapFault::NotAnEnvelope),
     }

@@ -1,24 +1,19 @@
 -- What the rows that were read so far say of the file.
-use Rattle.std.proofs.Common.{◌≡◌, ℕ, ◌+◌, Bool, true, false, List, [], ◌∷◌, ◌++◌, Option, Some}
-use Rattle.std.proofs.Common.{None, Result, Ok, Err, String, BTreeMap, HashMap, refl, sym, ap, ◌∙◌}
-use Rattle.std.proofs.Common.{append_assoc, inl, inr, drop}
-use Rattle.std.specs.Prelude.{is_some}
-use Rattle.std.specs.Result.{result_ok}
-use Rattle.std.proofs.lemmas.Bool.{cases_Bool}
-use Rattle.std.proofs.lemmas.List.{append-nil}
-use Rattle.std.proofs.lemmas.List.Elements.{filter_map-append}
-use Rattle.std.proofs.lemmas.List.Sums.{fold-append}
-use Rattle.csv_rows.specs.Rows.{Advanced}
+use Rattle.std.proofs.Common.{◌≡◌, ℕ, ◌+◌, Bool, true, false, List, [], ◌∷◌, ◌++◌, drop, is_some}
+use Rattle.std.proofs.Common.{Some, None, Ok, Err, Option, Result, String, BTreeMap, sym, refl, ap}
+use Rattle.std.proofs.Common.{◌∙◌, inl, inr, append_assoc, append-nil}
+use Rattle.std.{proofs.lemmas.Bool.cases_Bool, specs.Result.result_ok}
+use Rattle.std.proofs.lemmas.List.{Elements.filter_map-append, Sums.fold-append}
+use Rattle.{string_tables.proofs.EntryFacts.same-with, csv_rows.specs.Rows.Advanced}
 use Rattle.string_tables.specs.StaticStrings.{Entry, in_order, static_text, with_entry}
+use Rattle.static_dictionary.specs.declared.fault.{TableFault.TableFault, TableKind.TableKind}
+use Rattle.static_dictionary.specs.declared.fault.TableFault.TheVariants.{Bad, Memory}
+use Rattle.static_dictionary.specs.{declared.names.Names.Names, Names.identifier_in}
 use Rattle.static_dictionary.specs.Faults.{AddsEntryOf, Tells}
 use Rattle.static_dictionary.specs.Inside.{AreMapsOfTable, entries_in}
-use Rattle.static_dictionary.specs.Rows.{Fault, Row, entries_of, entry_of, fault_from, fault_of}
-use Rattle.static_dictionary.specs.Rows.{fault_or, is_header, rows_of, table_of}
-use Rattle.static_dictionary.specs.declared.fault.TableFault.{TableFault}
-use Rattle.static_dictionary.specs.declared.fault.TableFault.TheVariants.{Bad, Memory}
-use Rattle.static_dictionary.specs.declared.fault.TableKind.{TableKind}
+use Rattle.static_dictionary.specs.Rows.{entries_of, entry_of, Fault, fault_from, fault_of}
+use Rattle.static_dictionary.specs.Rows.{fault_or, is_header, Row, rows_of, table_of}
 use Rattle.static_dictionary.specs.declared.fault.TableKind.TheVariants as kind
-use Rattle.string_tables.proofs.EntryFacts.{same-with}
 
 -- one more row with an entry
 entries_of-push : (rows : List Row) (row : Row) (entry : Entry) → entry_of row ≡ Ok entry
@@ -50,13 +45,13 @@ fault_or-passed : (later : ℕ → List Entry → Option Fault) (n : ℕ) (liste
 fault_or-passed later n listed entry fresh = rw fresh refl
 
 -- the rows after the first up to a number were read, none of them fails, and these are to come
-pub record ReadSoFar {A S : Type 0} (bytes : List ℕ) (number : ℕ) (coming : List Row)
-    (by_id : BTreeMap ℕ (String A)) (by_text : HashMap (String A) ℕ S) : Type 0 where
+pub record ReadSoFar {A : Type 0} (bytes : List ℕ) (number : ℕ) (coming : List Row)
+    (by_id : BTreeMap ℕ (String A)) (names : Names) : Type 0 where
   pub header : Row
   pub rows : List Row
   pub all : rows_of bytes ≡ header ∷ (rows ++ coming)
   pub headed : is_header header ≡ true
-  pub maps : AreMapsOfTable by_id by_text
+  pub maps : AreMapsOfTable by_id names
   pub sorted : entries_in by_id ≡ in_order (entries_of rows)
   pub same : (id : ℕ) → static_text (entries_in by_id) id ≡ static_text (entries_of rows) id
   pub faultless : (more : List Row)
@@ -67,9 +62,9 @@ fault_of-headed : (header : Row) (rows : List Row) → is_header header ≡ true
     → fault_of (header ∷ rows) ≡ fault_from rows 1 []
 fault_of-headed header rows headed = rw headed refl
 
-module _ {A S : Type 0} (bytes : List ℕ) (number : ℕ) (coming : List Row)
-    (by_id : BTreeMap ℕ (String A)) (by_text : HashMap (String A) ℕ S)
-    (so_far : ReadSoFar bytes number coming by_id by_text) where
+module _ {A : Type 0} (bytes : List ℕ) (number : ℕ) (coming : List Row)
+    (by_id : BTreeMap ℕ (String A)) (names : Names)
+    (so_far : ReadSoFar bytes number coming by_id names) where
   -- the rows of the file where these are to come
   leaves : (more : List Row) → coming ≡ more
       → rows_of bytes ≡ so_far.header ∷ (so_far.rows ++ more)
@@ -77,10 +72,10 @@ module _ {A S : Type 0} (bytes : List ℕ) (number : ℕ) (coming : List Row)
 
   -- one more row was read, and added
   pub read_more : (row : Row) (left : List Row) (by_id2 : BTreeMap ℕ (String A))
-      (by_text2 : HashMap (String A) ℕ S) → coming ≡ row ∷ left
-      → AddsEntryOf row (entries_in by_id) (entries_in by_id2) → AreMapsOfTable by_id2 by_text2
-      → ReadSoFar bytes (number + 1) left by_id2 by_text2
-  read_more row left by_id2 by_text2 is adds maps =
+      (names2 : Names) → coming ≡ row ∷ left
+      → AddsEntryOf row (entries_in by_id) (entries_in by_id2) → AreMapsOfTable by_id2 names2
+      → ReadSoFar bytes (number + 1) left by_id2 names2
+  read_more row left by_id2 names2 is adds maps =
       let entry = adds.entry in
       let before = entries_of so_far.rows in
       let pushed = entries_of-push so_far.rows row entry adds.written in
@@ -144,16 +139,16 @@ other_header coming left row true next other = ap fault_of next ∙ rw other ref
 other_header coming left row false next other = ap fault_of next
 
 -- the first row was read
-pub read_first : {A S : Type 0} (bytes : List ℕ) (header : Row) (coming : List Row)
-    (by_id : BTreeMap ℕ (String A)) (by_text : HashMap (String A) ℕ S)
+pub read_first : {A : Type 0} (bytes : List ℕ) (header : Row) (coming : List Row)
+    (by_id : BTreeMap ℕ (String A)) (names : Names)
     → rows_of bytes ≡ header ∷ coming → is_header header ≡ true → by_id.entries ≡ []
-    → by_text.entries ≡ [] → ReadSoFar bytes 1 coming by_id by_text
-read_first bytes header coming by_id by_text all headed no_ids no_texts = record {
+    → ((text : List ℕ) → identifier_in names text ≡ None) → ReadSoFar bytes 1 coming by_id names
+read_first bytes header coming by_id names all headed no_ids no_texts = record {
   header = header;
   rows = [];
   all = all;
   headed = headed;
-  maps = record { rises = rw no_ids tt; least = λ text. rw (no_ids, no_texts) refl };
+  maps = record { rises = rw no_ids tt; least = λ text. no_texts text ∙ sym (rw no_ids refl) };
   sorted = rw no_ids refl;
   same = λ id. rw no_ids refl;
   faultless = λ more. refl;

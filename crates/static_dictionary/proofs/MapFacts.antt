@@ -1,28 +1,19 @@
 -- Facts about a table's two maps.
-use Rattle.std.proofs.Common.{◌≡◌, ℕ, zero, suc, ◌*◌, ◌/◌, ◌%◌, ◌++◌, ◌⊎◌, length, arith, true}
-use Rattle.std.proofs.Common.{false, cond, List, [], ◌∷◌, Option, Some, None, String, Ordering}
-use Rattle.std.proofs.Common.{refl, sym, ap, ◌∙◌, subst, map, option_map, string_bytes, inl, inr}
-use Rattle.std.specs.Prelude.{◌==◌, Result, Ok, Err, IfOk, IfErr, OnOk, is_some}
-use Rattle.std.specs.BTreeMap.{BTreeMap, insert_entry, is_at}
-use Rattle.std.specs.List.{slice_get}
-use Rattle.std.specs.Cmp.{unsigned_tied}
-use Rattle.std.specs.Cmp.Lexicographic.{bytes_decides}
-use Rattle.std.specs.Map.{lookup}
-use Rattle.std.specs.Ordering.{match_ordering, nat_cmp}
-use Rattle.std.specs.Str.{bytes_eq}
-use Rattle.std.specs.declared.cmp.Ordering.TheVariants.{Less, Equal, Greater}
-use Rattle.std.proofs.lemmas.Bool.{cases_Bool}
+use Rattle.std.proofs.Common.{◌≡◌, ℕ, zero, suc, ◌*◌, ◌/◌, ◌%◌, true, false, cond, ◌⊎◌, List, []}
+use Rattle.std.proofs.Common.{◌∷◌, ◌++◌, map, length, is_some, IfSome, IfOk, IfErr, OnOk, ◌==◌}
+use Rattle.std.proofs.Common.{slice_get, Some, None, Ok, Err, string_bytes, Option, Result, String}
+use Rattle.std.proofs.Common.{option_map, bytes_eq, nat_cmp, Ordering, Less, Equal, Greater}
+use Rattle.std.proofs.Common.{BTreeMap, sym, refl, ap, ◌∙◌, subst, inl, inr, arith}
+use Rattle.{std.proofs.lemmas.Bool.cases_Bool, string_tables.proofs.EntryFacts.least_static_id-with}
+use Rattle.std.specs.{BTreeMap.insert_entry, BTreeMap.is_at, Map.lookup, Ordering.match_ordering}
+use Rattle.std.specs.Cmp.{unsigned_tied, Lexicographic.bytes_decides}
+use Rattle.string_tables.proofs.StaticFacts.{least_static_id-named, static_text-stands}
 use Rattle.string_tables.specs.StaticStrings.{Entry, IsStaticId, IsStaticMap, least_static_id}
 use Rattle.string_tables.specs.StaticStrings.{least_with, static_text, with_entry}
-use Rattle.static_dictionary.specs.Faults.{Tells}
-use Rattle.static_dictionary.specs.declared.fault.TableFault.{TableFault}
-use Rattle.static_dictionary.specs.declared.fault.TableFault.TheVariants.{Memory}
+use Rattle.static_dictionary.specs.declared.fault.TableFault.{TableFault, TheVariants.Memory}
+use Rattle.static_dictionary.specs.{Faults.Tells, Rows.Fault, Rows.fault_or}
 use Rattle.static_dictionary.specs.Inside.{ArePlaced, entries_in}
-use Rattle.static_dictionary.specs.Rows.{Fault, fault_or}
 use Rattle.static_dictionary.specs.declared.fault.TableKind.TheVariants as kind
-use Rattle.string_tables.proofs.EntryFacts.{least_static_id-with}
-use Rattle.string_tables.proofs.StaticFacts.{least_static_id-named, static_text-stands}
-use Rattle.std.specs.Option.{IfSome}
 
 module _ {A : Type 0} where
   -- the entries of a map, as `entries_in` shows them

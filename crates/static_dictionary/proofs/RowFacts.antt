@@ -1,18 +1,13 @@
 -- Facts about one row.
-use Rattle.std.proofs.Common.{◌≡◌, ◌≢◌, ℕ, ◌<◌, ◌≤◌, ◌%◌, Bool, true, false, List, [], ◌∷◌, length}
-use Rattle.std.proofs.Common.{get_or, Option, Some, None, Result, Ok, Err, refl, ap, ◌∙◌, arith}
-use Rattle.std.proofs.Common.{eq-eqb, ne_eqb}
-use Rattle.std.specs.Prelude.{nat_le, ◌&&◌, if◌then◌else◌}
-use Rattle.std.specs.Result.{result_ok}
-use Rattle.std.specs.Str.{all_ascii_digits}
-use Rattle.std.specs.Str.Parse.{ParsesUnsigned, digits_value}
-use Rattle.std.proofs.lemmas.Bool.{false_from_ne_true, le-leb, leb-true}
+use Rattle.std.proofs.Common.{◌≡◌, ℕ, ◌%◌, ◌<◌, ◌≤◌, Bool, true, false, ◌&&◌, ◌≢◌, List, [], ◌∷◌}
+use Rattle.std.proofs.Common.{length, get_or, if◌then◌else◌, nat_le, Some, None, Ok, Err, Option}
+use Rattle.std.proofs.Common.{Result, refl, ap, ◌∙◌, arith, eq-eqb, ne_eqb, le-leb, leb-true}
+use Rattle.std.proofs.lemmas.{Bool.false_from_ne_true, Str.Parse.tells_all_ascii_digits}
 use Rattle.std.proofs.lemmas.Str.Parse.{IsNumeralModel, numerals_by_value, parse_plain}
-use Rattle.std.proofs.lemmas.Str.Parse.{tells_all_ascii_digits}
-use Rattle.csv_rows.specs.Rows.{text_of}
-use Rattle.csv_rows.proofs.FieldFacts.{text_of-is}
-use Rattle.static_dictionary.specs.Rows.{Row, entry_of, even_entry, id_of, is_plain_number, most_id}
-use Rattle.static_dictionary.specs.Rows.{two_of}
+use Rattle.{std.specs.Result.result_ok, static_dictionary.specs.Rows.two_of}
+use Rattle.std.specs.Str.{all_ascii_digits, Parse.ParsesUnsigned, Parse.digits_value}
+use Rattle.csv_rows.{proofs.FieldFacts.text_of-is, specs.Rows.text_of}
+use Rattle.static_dictionary.specs.Rows.{entry_of, even_entry, id_of, is_plain_number, most_id, Row}
 use Rattle.static_dictionary.specs.declared.fault.TableKind.TheVariants as kind
 
 -- an identifier that a parse read, or did not

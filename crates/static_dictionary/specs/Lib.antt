@@ -2,4 +2,5 @@
 pub mod Rows
 pub mod Faults
 -- inside tables
+pub mod Names
 pub mod Inside

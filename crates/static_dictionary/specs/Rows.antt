@@ -1,17 +1,13 @@
 -- What the rows of a static table's file say. A row is the list of its fields, and a field the list
 -- of its bytes.
-use Rattle.std.specs.Prelude.{ℕ, ◌+◌, ◌-◌, ◌%◌, ◌^◌, ◌==◌, ◌&&◌, nat_lt, nat_le, if◌then◌else◌}
-use Rattle.std.specs.Prelude.{Bool, false, List, [], ◌∷◌, ◌++◌, drop, Option, Some, None, Result}
-use Rattle.std.specs.Prelude.{Ok, Err, is_some, codes}
-use Rattle.std.specs.Char.{is_ascii_digit}
-use Rattle.std.specs.List.{filter_map}
-use Rattle.std.specs.Option.{option_map_or}
-use Rattle.std.specs.Result.{result_ok}
-use Rattle.std.specs.Str.{all_ascii_digits, bytes_eq, is_utf8}
-use Rattle.std.specs.Str.Parse.{digits_value}
-pub use Rattle.csv_rows.specs.Rows.{Row, rows_of, two_of}
+use Rattle.std.specs.Prelude.{ℕ, ◌+◌, ◌-◌, ◌%◌, ◌^◌, Bool, false, ◌&&◌, List, [], ◌∷◌, ◌++◌, drop}
+use Rattle.std.specs.Prelude.{is_some, if◌then◌else◌, nat_lt, nat_le, ◌==◌, Some, None, Ok, Err}
+use Rattle.std.specs.Prelude.{codes, Option, Result, filter_map, bytes_eq}
+use Rattle.std.specs.{Char.is_ascii_digit, Option.option_map_or, Result.result_ok}
+use Rattle.std.specs.Str.{all_ascii_digits, is_utf8, Parse.digits_value}
 use Rattle.string_tables.specs.StaticStrings.{Entry, in_order, static_text}
 use Rattle.static_dictionary.specs.declared.fault.TableKind.{TableKind}
+pub use Rattle.csv_rows.specs.Rows.{Row, rows_of, two_of}
 use Rattle.static_dictionary.specs.declared.fault.TableKind.TheVariants as kind
 
 -- decimal digits without a leading zero, or the zero alone

@@ -12,6 +12,7 @@
 mod entry;
 mod fault;
 mod header;
+mod names;
 mod table;
 
 pub use fault::{TableFault, TableKind};

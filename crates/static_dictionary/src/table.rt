@@ -10,10 +10,11 @@ ghost use Rattle.static_dictionary.specs.Rows.{entries_of, entry_of, fault_of, f
 use crate::entry::entry_of;
 use crate::fault::{TableFault, TableKind};
 use crate::header::take_header;
+use crate::names::Names;
 use csv_rows::RowReader;
 use nbfx_values::{Memory, Txt};
 use std::alloc::Global;
-use std::collections::{BTreeMap, HashMap};
+use std::collections::BTreeMap;
 use std::marker::Model;
 
 /// Of so many identifiers, the least even ones, the texts have places of their own.
@@ -23,7 +24,7 @@ const PLACES: u32 = 512;
 #[derive(Drop)]
 pub struct StaticTable {
     by_id: BTreeMap<u32, String>,
-    by_text: HashMap<String, u32>,
+    names: Names,
     /// The text of identifier 2k once more, at place k.
     placed: Vec<Option<Txt>>,
 }
@@ -37,7 +38,7 @@ impl Model for StaticTable {
 
     ghost view = { λ t. entries_in t.by_id };
 
-    ghost invariant = { λ t. IsTable t.by_id t.by_text t.placed.items };
+    ghost invariant = { λ t. IsTable t.by_id t.names t.placed.items };
 }
 
 impl StaticTable {
@@ -53,12 +54,12 @@ impl StaticTable {
         let mut rows = RowReader::new(alloc, bytes);
         take_header(&mut rows)?;
         let mut by_id = BTreeMap::new(alloc);
-        let mut by_text = HashMap::new(alloc);
+        let mut names = Names::new(alloc, bytes)?;
         for number in 1..u64::MAX {
             if !rows.advance()? {
-                return with_places(alloc, by_id, by_text);
+                return with_places(alloc, by_id, names);
             }
-            add_row(alloc, &mut by_id, &mut by_text, number, &rows)?;
+            add_row(alloc, &mut by_id, &mut names, number, &rows)?;
         }
 
         // No memory holds a file of so many rows.
@@ -121,7 +122,7 @@ impl StaticTable {
         ensures static_id { IfSome result (λ id. IsStaticId id) }
         ensures map { IsStaticMap self.now }
     {
-        self.by_text.get(text).copied()
+        self.names.id(text)
     }
 }
 
@@ -166,13 +167,13 @@ fn placed_of(alloc: Global, by_id: &BTreeMap<u32, String>) -> Result<Vec<Option<
     Ok(placed)
 }
 
-// The table of two maps.
+// The table of a map and its names.
 fn with_places(
     alloc: Global,
     by_id: BTreeMap<u32, String>,
-    by_text: HashMap<String, u32>,
+    names: Names,
 ) -> Result<StaticTable, TableFault>
-    requires { AreMapsOfTable by_id by_text }
+    requires { AreMapsOfTable by_id names }
     ensures table { IfOk result (λ table. table ≡ entries_in by_id) }
     ensures map { IfOk result IsStaticMap }
     ensures memory { IfErr result (λ fault. fault ≡ TableFault.Memory) }
@@ -180,7 +181,7 @@ fn with_places(
     let placed = placed_of(alloc, &by_id)?;
     Ok(StaticTable {
         by_id,
-        by_text,
+        names,
         placed,
     })
 }
@@ -195,37 +196,37 @@ fn least_with(id: u32, other: Option<u32>) -> u32
     }
 }
 
-// Puts one more entry into the two maps.
+// Puts one more entry into the map, and its text into the names.
 fn put_entry(
     alloc: Global,
     by_id: &mut BTreeMap<u32, String>,
-    by_text: &mut HashMap<String, u32>,
+    names: &mut Names,
     id: u32,
     text: &str,
 ) -> Result<(), Memory>
-    requires maps { AreMapsOfTable by_id.old by_text.old }
+    requires maps { AreMapsOfTable by_id.old names.old }
     requires static_id { IsStaticId id }
     requires fresh { static_text (entries_in by_id.old) id ≡ None }
-    ensures maps { OnOk result (AreMapsOfTable by_id.new by_text.new) }
+    ensures maps { OnOk result (AreMapsOfTable by_id.new names.new) }
     ensures entries { OnOk result
         (entries_in by_id.new ≡ with_entry (entries_in by_id.old) (id, text.now)) }
 {
-    let least = least_with(id, by_text.get(text).copied());
-    by_text.insert(String::from_str(alloc, text)?, least)?;
+    let least = least_with(id, names.id(text));
+    names.put(alloc, text, least)?;
     by_id.insert(id, String::from_str(alloc, text)?)?;
     Ok(())
 }
 
-// Adds the entry of the row read last to the two maps.
+// Adds the entry of the row read last to both.
 fn add_row(
     alloc: Global,
     by_id: &mut BTreeMap<u32, String>,
-    by_text: &mut HashMap<String, u32>,
+    names: &mut Names,
     number: u64,
     rows: &RowReader<'_>,
 ) -> Result<(), TableFault>
-    requires { AreMapsOfTable by_id.old by_text.old }
-    ensures maps { OnOk result (AreMapsOfTable by_id.new by_text.new) }
+    requires { AreMapsOfTable by_id.old names.old }
+    ensures maps { OnOk result (AreMapsOfTable by_id.new names.new) }
     ensures added { OnOk result
         (AddsEntryOf rows.now.row (entries_in by_id.old) (entries_in by_id.new)) }
     ensures bad { IfErr result (Tells (fault_or (λ _ _. None) number (entries_in by_id.old)
@@ -241,6 +242,6 @@ fn add_row(
             kind: TableKind::Repeated,
         });
     }
-    put_entry(alloc, by_id, by_text, id, text)?;
+    put_entry(alloc, by_id, names, id, text)?;
     Ok(())
 }

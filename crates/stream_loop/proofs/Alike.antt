@@ -1,6 +1,5 @@
 -- Two ways to say what is written of a stream are one where they write and remember the same.
-use Rattle.std.proofs.Common.{◌≡◌, Option, ap, ◌∙◌}
-use Rattle.std.proofs.Math.Path.{fun_ext}
+use Rattle.std.proofs.{Common.◌≡◌, Common.Option, Common.ap, Common.◌∙◌, Math.Path.fun_ext}
 use Rattle.unit_streams.specs.Tellers.{Teller}
 
 pub alike : {S E R : Type 0} (t u : Teller S E R) → t.start ≡ u.start

@@ -1,9 +1,8 @@
 -- For callers: bytes that may go on aren't too many.
-use Rattle.std.proofs.Common.{◌≡◌, ℕ, List, length, None, refl, sym, ◌∙◌}
-use Rattle.unit_streams.specs.Grammar.{Grammar, IsReadable, standing}
-use Rattle.unit_streams.specs.Going.{IsPending}
+use Rattle.std.proofs.Common.{◌≡◌, ℕ, List, length, None, sym, refl, ◌∙◌}
 use Rattle.unit_streams.proofs.Passing.{going_at, going_refusal, refusal_from}
-use Rattle.unit_streams.proofs.Pending.{pending_unrefused}
+use Rattle.unit_streams.{proofs.Pending.pending_unrefused, specs.Going.IsPending}
+use Rattle.unit_streams.specs.Grammar.{Grammar, IsReadable, standing}
 
 pub pending_length : {Z U E R : Type 0} (g : Grammar Z U E R) → IsReadable g → (p : List ℕ)
     → IsPending g p

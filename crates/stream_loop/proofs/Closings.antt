@@ -1,19 +1,16 @@
 -- The state that a stream leaves after its events, where it is ended by its end, by an event or by
 -- a refusal.
-use Rattle.std.proofs.Common.{◌≡◌, ℕ, List, [], ◌∷◌, ◌++◌, length, take, drop, Bool, true, Option}
-use Rattle.std.proofs.Common.{Some, None, sym, ap, ◌∙◌}
-use Rattle.std.proofs.lemmas.List.{append-nil}
-use Rattle.unit_streams.specs.Grammar.{Grammar}
-use Rattle.unit_streams.specs.Judging.{History, only, led_by, history, events, events_of, ending_at}
-use Rattle.unit_streams.specs.Judging.{Answer, completes, offends, answer}
-use Rattle.unit_streams.specs.Going.{IsPending, IsOpenAt, history_by}
-use Rattle.unit_streams.specs.Laws.{raised, unless_decided}
-use Rattle.unit_streams.specs.Tellers.{Teller, Closes, state_behind, state_at}
-use Rattle.unit_streams.proofs.Answers.{answers_are_first}
-use Rattle.unit_streams.proofs.Cuts.{cuts_change_nothing}
+use Rattle.std.proofs.Common.{◌≡◌, ℕ, Bool, true, List, [], ◌∷◌, ◌++◌, length, take, drop, Some}
+use Rattle.std.proofs.Common.{None, Option, sym, ap, ◌∙◌, append-nil}
+use Rattle.unit_streams.proofs.{Answers.answers_are_first, Cuts.cuts_change_nothing}
 use Rattle.unit_streams.proofs.Histories.{history_is_answers, led_by_append}
-use Rattle.unit_streams.proofs.Pending.{open_history, pending_history, over_behind}
+use Rattle.unit_streams.proofs.Pending.{open_history, over_behind, pending_history}
 use Rattle.unit_streams.proofs.Telling.{closed_behind, state_append, state_one}
+use Rattle.unit_streams.specs.Going.{history_by, IsOpenAt, IsPending}
+use Rattle.unit_streams.specs.{Grammar.Grammar, Laws.raised, Laws.unless_decided}
+use Rattle.unit_streams.specs.Judging.{Answer, answer, completes, ending_at, events, events_of}
+use Rattle.unit_streams.specs.Judging.{History, history, led_by, offends, only}
+use Rattle.unit_streams.specs.Tellers.{Closes, state_at, state_behind, Teller}
 use Rattle.stream_loop.specs.Reported.{last_state}
 
 module _ {Z U E R S : Type 0} (g : Grammar Z U E R) (t : Teller S E R) where

@@ -1,30 +1,23 @@
 -- How the reporting of a stream ended, by what was put for the bytes that were read, and what was
 -- then written.
-use Rattle.std.proofs.Common.{IsErrOf, Bool, ◌≡◌, ℕ, ◌-◌, ◌+◌, ◌⊎◌, inl, inr, List, [], ◌++◌}
-use Rattle.std.proofs.Common.{length, take, Option, Some, None, Result, Ok, Err, IfOk, IfErr, OnOk}
-use Rattle.std.proofs.Common.{OnErr, ◌↔◌, refl, sym, ap, ◌∙◌, subst, arith, append_assoc}
-use Rattle.std.specs.Prelude.{⊤}
-use Rattle.std.proofs.Math.Seq.{take-append-add}
-use Rattle.std.proofs.lemmas.Bool.{cases_lt}
-use Rattle.std.proofs.lemmas.List.{append-nil, take-append-le}
-use Rattle.io_edges.specs.Faults.{CountsFaults}
-use Rattle.io_edges.specs.Flow.{Told, GrowsByPrefix, Passes}
-use Rattle.io_edges.specs.Puts.{PutsAll}
-use Rattle.io_edges.proofs.Putting.{PutsAll-then}
-use Rattle.io_edges.specs.declared.SinkFault.{SinkFault}
-use Rattle.io_edges.specs.declared.SinkFault.TheVariants as faults
-use Rattle.unit_streams.specs.Grammar.{Grammar}
-use Rattle.unit_streams.specs.Tellers.{Teller, AreDue, report, told_so_far}
-use Rattle.unit_streams.proofs.Telling.{told_nothing}
-use Rattle.stream_loop.specs.Edges.{Input, Output}
+use Rattle.std.proofs.Common.{◌≡◌, ℕ, ◌+◌, ◌-◌, Bool, ◌⊎◌, ◌↔◌, List, [], ◌++◌, length, take, IfOk}
+use Rattle.std.proofs.Common.{IfErr, OnOk, OnErr, Some, None, Ok, Err, Option, Result, IsErrOf, sym}
+use Rattle.std.proofs.Common.{refl, ap, ◌∙◌, subst, inl, inr, append_assoc, append-nil, arith}
+use Rattle.{std.specs.Prelude.⊤, io_edges.proofs.Putting.PutsAll-then}
+use Rattle.std.proofs.{Math.Seq.take-append-add, lemmas.Bool.cases_lt, lemmas.List.take-append-le}
+use Rattle.io_edges.specs.{declared.SinkFault.SinkFault, Faults.CountsFaults, Puts.PutsAll}
+use Rattle.io_edges.specs.Flow.{GrowsByPrefix, Passes, Told}
+use Rattle.unit_streams.{proofs.Telling.told_nothing, specs.Grammar.Grammar}
+use Rattle.unit_streams.specs.Tellers.{AreDue, report, Teller, told_so_far}
+use Rattle.stream_loop.specs.{declared.reporting.Ending.Ending, Edges.Input, Edges.Output}
+use Rattle.stream_loop.specs.LoopParts.{done, ended_by, HasReported, IsAllRead, ReportsAs}
 use Rattle.stream_loop.specs.Reported.{AsksOnce, Breaks, Decides, EndsAs, Grows, IsJudged, Judges}
 use Rattle.stream_loop.specs.Reported.{Reaches, Reports, Writes}
-use Rattle.stream_loop.specs.LoopParts.{HasReported, IsAllRead, ReportsAs, done, ended_by}
-use Rattle.stream_loop.specs.declared.reporting.Ending.{Ending}
-use Rattle.stream_loop.specs.declared.reporting.Ending.TheVariants as endings
-use Rattle.stream_loop.proofs.Writing.{told_some, known_told, told_as, grown_within, put_either}
-use Rattle.stream_loop.proofs.Writing.{counted_with, puts_grow}
 use Rattle.stream_loop.proofs.LoopSteps.{lines_due}
+use Rattle.stream_loop.proofs.Writing.{counted_with, grown_within, known_told, put_either}
+use Rattle.stream_loop.proofs.Writing.{puts_grow, told_as, told_some}
+use Rattle.io_edges.specs.declared.SinkFault.TheVariants as faults
+use Rattle.stream_loop.specs.declared.reporting.Ending.TheVariants as endings
 
 -- what was put and then written, of what was reported so, and how that ends
 pub record Finished (R : Type 0) (r : Result (Ending R) SinkFault) (lines : List ℕ)

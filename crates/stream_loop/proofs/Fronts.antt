@@ -1,13 +1,9 @@
 -- What holds of reports that end in any way, for any grammar and whatever is written.
-use Rattle.std.proofs.Common.{ℕ, List, ◌++◌, length, sym, ap, ◌∙◌, arith, append_assoc}
-use Rattle.std.proofs.lemmas.List.{take_all}
+use Rattle.std.proofs.Common.{ℕ, List, ◌++◌, length, sym, ap, ◌∙◌, append_assoc, arith, take_all}
 use Rattle.io_edges.specs.Flow.{GrowsByPrefix}
-use Rattle.unit_streams.specs.Grammar.{Grammar}
-use Rattle.unit_streams.specs.Tellers.{Teller, report}
-use Rattle.stream_loop.specs.Edges.{Input, Output}
-use Rattle.stream_loop.specs.Reported.{Reports}
-use Rattle.stream_loop.specs.Laws.{FrontsAreWritten, JudgedByBytes}
-use Rattle.stream_loop.specs.declared.reporting.Ending.{Ending}
+use Rattle.unit_streams.specs.{Grammar.Grammar, Tellers.report, Tellers.Teller}
+use Rattle.stream_loop.specs.{declared.reporting.Ending.Ending, Reported.Reports}
+use Rattle.stream_loop.specs.{Edges.Input, Edges.Output, Laws.FrontsAreWritten, Laws.JudgedByBytes}
 use Rattle.stream_loop.specs.declared.reporting.Ending.TheVariants as endings
 
 module _ {Z U E R S : Type 0} (g : Grammar Z U E R) (t : Teller S E R) where

@@ -1,26 +1,20 @@
 -- What is known between two pieces of a stream that is reported.
-use Rattle.std.proofs.Common.{◌≡◌, ℕ, ◌-◌, ◌≤◌, ◌<◌, ◌⊎◌, inl, inr, List, [], ◌++◌, length, take}
-use Rattle.std.proofs.Common.{drop, Bool, Option, Some, None, Result, ◌↔◌, refl, sym, ap, ◌∙◌}
-use Rattle.std.proofs.Common.{subst, arith, append_assoc, length-append}
-use Rattle.std.proofs.Math.Seq.{take-nil}
-use Rattle.std.proofs.lemmas.List.{append-nil, length-take-le, take-append-le, take-append-drop}
-use Rattle.std.proofs.lemmas.List.{take_all}
-use Rattle.io_edges.specs.Flow.{Told, Moves, GrowsByPrefix, Passes}
+use Rattle.std.proofs.Common.{◌≡◌, ℕ, ◌-◌, ◌<◌, ◌≤◌, Bool, ◌⊎◌, ◌↔◌, List, [], ◌++◌, length, take}
+use Rattle.std.proofs.Common.{drop, Some, None, Option, Result, sym, refl, ap, ◌∙◌, subst, inl, inr}
+use Rattle.std.proofs.Common.{append_assoc, append-nil, arith, length-append, take-append-drop}
+use Rattle.std.proofs.Common.{length-take-le, take_all}
+use Rattle.std.proofs.{Math.Seq.take-nil, lemmas.List.take-append-le}
 use Rattle.io_edges.specs.declared.SinkFault.{SinkFault}
-use Rattle.unit_streams.specs.Grammar.{Grammar}
-use Rattle.unit_streams.specs.Judging.{refusal_at}
-use Rattle.unit_streams.specs.Going.{IsPending}
-use Rattle.unit_streams.specs.Tellers.{Teller, AreDue, told_so_far}
-use Rattle.unit_streams.proofs.Pending.{pending_open, open_first}
-use Rattle.unit_streams.proofs.Pieces.{told_due}
-use Rattle.unit_streams.proofs.Telling.{state_first}
-use Rattle.stream_loop.specs.Answers.{EndsWithin}
-use Rattle.stream_loop.specs.Edges.{Input, Output}
+use Rattle.io_edges.specs.Flow.{GrowsByPrefix, Moves, Passes, Told}
+use Rattle.unit_streams.proofs.Pending.{open_first, pending_open}
+use Rattle.unit_streams.proofs.{Pieces.told_due, Telling.state_first}
+use Rattle.unit_streams.specs.{Going.IsPending, Grammar.Grammar, Judging.refusal_at}
+use Rattle.unit_streams.specs.Tellers.{AreDue, Teller, told_so_far}
+use Rattle.stream_loop.specs.declared.{pieces.Progress.Progress, reporting.Ending.Ending}
+use Rattle.stream_loop.specs.{Answers.EndsWithin, Edges.Input, Edges.Output}
+use Rattle.stream_loop.specs.LoopParts.{EndsOf, HasRead, HasReported, ReadsOf, ReportsAs}
 use Rattle.stream_loop.specs.Reported.{Grows, Writes}
-use Rattle.stream_loop.specs.LoopParts.{HasRead, HasReported, ReadsOf, EndsOf, ReportsAs}
-use Rattle.stream_loop.specs.declared.pieces.Progress.{Progress}
-use Rattle.stream_loop.specs.declared.reporting.Ending.{Ending}
-use Rattle.stream_loop.proofs.Writing.{told_some, known_told, told_as, prefix_grows}
+use Rattle.stream_loop.proofs.Writing.{known_told, prefix_grows, told_as, told_some}
 
 -- what a full room holds after new bytes of its length were put in it
 pub room_is : (items new : List ℕ) (len : ℕ) → len ≡ length items → length new ≡ length items

@@ -1,30 +1,23 @@
 -- What a piece of a stream that is read and reported brings: an event, the end, a refusal, or
 -- nothing yet; and what the end of the input does.
-use Rattle.std.proofs.Common.{◌≡◌, ℕ, List, ◌++◌, length, take, Bool, true, false, Option, Some}
-use Rattle.std.proofs.Common.{None, Result, Ok, Err, IfOk, refl, sym, ap, ◌∙◌, subst, arith}
-use Rattle.std.proofs.Common.{append_assoc}
-use Rattle.std.specs.Prelude.{⊤}
-use Rattle.std.specs.Result.{result_err}
-use Rattle.std.proofs.lemmas.List.{take_rest, take-append-drop, take_all}
-use Rattle.io_edges.specs.Puts.{PutsAll}
-use Rattle.io_edges.specs.declared.SinkFault.{SinkFault}
-use Rattle.unit_streams.specs.Grammar.{Grammar}
-use Rattle.unit_streams.specs.Judging.{Answer, goes_on, completes, offends, answer, ending_at}
-use Rattle.unit_streams.specs.Judging.{is_over_at}
-use Rattle.unit_streams.specs.Going.{IsPending, IsOpenAt}
-use Rattle.unit_streams.specs.Tellers.{Teller, Closes, report, told_so_far, state_at}
-use Rattle.unit_streams.proofs.Pending.{pending_open, open_going_on}
-use Rattle.unit_streams.proofs.Pieces.{TellsEvent, rest_of, event_told, none_told, refusal_told}
-use Rattle.unit_streams.proofs.Pieces.{joined, last_due}
-use Rattle.unit_streams.proofs.Telling.{ends_add}
-use Rattle.stream_loop.specs.Answers.{said, Says, said_at_end}
-use Rattle.stream_loop.specs.Reported.{IsJudged, last_state}
-use Rattle.stream_loop.specs.LoopParts.{HasRead, ReadsOf, EndsOf}
+use Rattle.std.proofs.Common.{◌≡◌, ℕ, Bool, true, false, List, ◌++◌, length, take, IfOk, Some, None}
+use Rattle.std.proofs.Common.{Ok, Err, Option, Result, sym, refl, ap, ◌∙◌, subst, append_assoc}
+use Rattle.std.proofs.Common.{arith, take-append-drop, take_all}
+use Rattle.std.{specs.Prelude.⊤, proofs.lemmas.List.take_rest, specs.Result.result_err}
+use Rattle.io_edges.specs.{declared.SinkFault.SinkFault, Puts.PutsAll}
+use Rattle.unit_streams.proofs.Pending.{open_going_on, pending_open}
+use Rattle.unit_streams.proofs.Pieces.{event_told, joined, last_due, none_told, refusal_told}
+use Rattle.unit_streams.proofs.{Pieces.rest_of, Pieces.TellsEvent, Telling.ends_add}
+use Rattle.unit_streams.specs.{Going.IsOpenAt, Going.IsPending, Grammar.Grammar, Judging.offends}
+use Rattle.unit_streams.specs.Judging.{Answer, answer, completes, ending_at, goes_on, is_over_at}
+use Rattle.unit_streams.specs.Tellers.{Closes, report, state_at, Teller, told_so_far}
+use Rattle.stream_loop.specs.declared.pieces.Progress.{Progress, TheVariants.Judged}
 use Rattle.stream_loop.specs.declared.reading_end.FeedFault.{FeedFault}
-use Rattle.stream_loop.specs.declared.reading_end.FeedFault.TheVariants.{Refused, Memory}
-use Rattle.stream_loop.specs.declared.pieces.Progress.{Progress}
-use Rattle.stream_loop.specs.declared.pieces.Progress.TheVariants.{Judged}
-use Rattle.stream_loop.proofs.Closings.{ended_state, refused_state, closed_state}
+use Rattle.stream_loop.specs.declared.reading_end.FeedFault.TheVariants.{Memory, Refused}
+use Rattle.stream_loop.specs.Answers.{said, said_at_end, Says}
+use Rattle.stream_loop.specs.LoopParts.{EndsOf, HasRead, ReadsOf}
+use Rattle.stream_loop.specs.Reported.{IsJudged, last_state}
+use Rattle.stream_loop.proofs.Closings.{closed_state, ended_state, refused_state}
 
 -- the same bytes
 pub puts_as : {a b : List ℕ} {r : Result ⊤ SinkFault} {w w1 : Option (List ℕ)} {h h1 : List ℕ}

@@ -1,11 +1,10 @@
 -- Small streams (specs/Toy) and their reports, by computation alone.
-use Rattle.std.proofs.Common.{◌≡◌, ℕ, List, [], ◌∷◌, map, Bool, Option, Some, None, refl}
-use Rattle.unit_streams.specs.Grammar.{Grammar, standing, peel, peeled}
-use Rattle.unit_streams.specs.Judging.{events, offence, history, history_from, event_at, refusal_at}
-use Rattle.unit_streams.specs.Judging.{ending_at}
-use Rattle.unit_streams.specs.Tellers.{Teller, report, told_along, state_behind}
-use Rattle.stream_loop.specs.Reported.{last_state}
-use Rattle.stream_loop.specs.Toy.{bytes_to_0, bytes_and_count}
+use Rattle.std.proofs.Common.{◌≡◌, ℕ, Bool, List, [], ◌∷◌, map, Some, None, Option, refl}
+use Rattle.unit_streams.specs.Grammar.{Grammar, peel, peeled, standing}
+use Rattle.unit_streams.specs.Judging.{ending_at, event_at, events, history, history_from, offence}
+use Rattle.unit_streams.specs.Judging.{refusal_at}
+use Rattle.unit_streams.specs.Tellers.{report, state_behind, Teller, told_along}
+use Rattle.stream_loop.specs.{Reported.last_state, Toy.bytes_and_count, Toy.bytes_to_0}
 
 -- a stream, the number of its refusal, its report, and what is remembered after it
 abbrev Row : Type 0

@@ -1,17 +1,13 @@
 -- What is told before and afterwards, what counts say, and what is written after what was.
-use Rattle.std.proofs.Common.{IsErrOf, ◌≡◌, ℕ, inl, inr, List, [], ◌++◌, length, take, Bool, true}
-use Rattle.std.proofs.Common.{Option, Some, None, Result, Ok, Err, OnOk, OnErr, refl, sym, ap, ◌∙◌}
-use Rattle.std.proofs.Common.{subst, arith}
-use Rattle.std.proofs.lemmas.Bool.{cases_lt}
-use Rattle.std.proofs.lemmas.List.{append-nil, take_all, take-append-le}
-use Rattle.std.specs.Prelude.{⊤}
-use Rattle.io_edges.specs.Faults.{CountsFaults}
-use Rattle.io_edges.specs.Flow.{Told, GrowsByPrefix, Passes}
-use Rattle.io_edges.specs.Puts.{PutsAll}
-use Rattle.io_edges.specs.declared.SinkFault.{SinkFault}
-use Rattle.io_edges.specs.declared.SinkFault.TheVariants as faults
-use Rattle.io_edges.proofs.Putting.{PutsAll-then, flush_puts}
+use Rattle.std.proofs.Common.{◌≡◌, ℕ, Bool, true, List, [], ◌++◌, length, take, OnOk, OnErr, Some}
+use Rattle.std.proofs.Common.{None, Ok, Err, Option, Result, IsErrOf, sym, refl, ap, ◌∙◌, subst}
+use Rattle.std.proofs.Common.{inl, inr, append-nil, arith, take_all}
+use Rattle.std.{specs.Prelude.⊤, proofs.lemmas.Bool.cases_lt, proofs.lemmas.List.take-append-le}
+use Rattle.io_edges.proofs.Putting.{flush_puts, PutsAll-then}
+use Rattle.io_edges.specs.{declared.SinkFault.SinkFault, Faults.CountsFaults, Puts.PutsAll}
+use Rattle.io_edges.specs.Flow.{GrowsByPrefix, Passes, Told}
 use Rattle.stream_loop.specs.Reported.{Grows}
+use Rattle.io_edges.specs.declared.SinkFault.TheVariants as faults
 
 -- what was told before, and what it became
 pub told_some : (P : List ℕ → List ℕ → Type 0) (old new : Option (List ℕ)) (w : List ℕ)

@@ -1,13 +1,11 @@
 -- How a reading end says what the grammar of its stream answers, what a reporter writes that sees
 -- events as they are said, and what the loop asks of a grammar.
-use Rattle.std.specs.Prelude.{◌≡◌, ◌≤◌, ⊤, ℕ, List, [], length, Bool, Option, Some, None, Result}
-use Rattle.std.specs.Prelude.{Ok, Err}
-use Rattle.unit_streams.specs.Grammar.{Grammar}
-use Rattle.unit_streams.specs.Judging.{Answer, goes_on, completes, offends, refusal_at}
-use Rattle.unit_streams.specs.Going.{IsPending}
-use Rattle.unit_streams.specs.Tellers.{Teller, Closes}
+use Rattle.std.specs.Prelude.{◌≡◌, ℕ, ◌≤◌, Bool, List, [], length, Some, None, Ok, Err, Option}
+use Rattle.std.specs.Prelude.{Result, ⊤}
+use Rattle.unit_streams.specs.{Going.IsPending, Grammar.Grammar, Tellers.Closes, Tellers.Teller}
+use Rattle.unit_streams.specs.Judging.{Answer, completes, goes_on, offends, refusal_at}
 use Rattle.stream_loop.specs.declared.reading_end.FeedFault.{FeedFault}
-use Rattle.stream_loop.specs.declared.reading_end.FeedFault.TheVariants.{Refused, Memory}
+use Rattle.stream_loop.specs.declared.reading_end.FeedFault.TheVariants.{Memory, Refused}
 
 -- an answer to a piece of so many bytes, by the values that events are said with
 abbrev pub said : {E V R : Type 0} → (E → V) → ℕ → Answer E R → Result (ℕ × Option V) (FeedFault R)

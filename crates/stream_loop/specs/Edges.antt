@@ -1,5 +1,8 @@
 -- What is seen of the ends between which a stream is reported, at one moment.
-use Rattle.std.specs.Prelude.{ℕ, List, Option}
+use Rattle.std.specs.Prelude.{◌≡◌, ℕ, ◌<◌, ◌≤◌, ◌↔◌, List, [], ◌++◌, length, take, IfOk, OnErr}
+use Rattle.std.specs.Prelude.{IsErr, Ok, Option, Result}
+use Rattle.io_edges.specs.{declared.Failed.Failed, Flow.Moves, Flow.Told}
+use Rattle.io_edges.specs.Faults.{CountsFaults, CountsOne}
 
 -- of where a stream comes from: the bytes to come and those handed out, where these are told, how
 -- many calls met a fault, and how many takes gave nothing
@@ -34,3 +37,15 @@ output_at written held faults output = record {
   held = held output;
   faults = faults output;
 }
+
+-- what a take of bytes into a buffer leaves of a source and of the buffer
+pub record Takes (i i' : Input) (room room' : List ℕ) (answer : Result ℕ Failed) : Type 0 where
+  pub within : IfOk answer (λ n. n ≤ length room')
+  pub moved : IfOk answer (λ n. Told i.left i'.left (λ l l'. Moves l l' room' n))
+  pub taken : IfOk answer (λ n. Told i.taken i'.taken (λ t t'. t' ≡ t ++ take n room'))
+  pub ended : IfOk answer (λ n. 0 < length room
+      → Told i.left i'.left (λ l _. (n ≡ 0) ↔ (l ≡ [])))
+  pub counted : CountsFaults i.faults i'.faults (IsErr answer)
+  pub empty : CountsOne i.empty_takes i'.empty_takes (answer ≡ Ok 0)
+  pub failed_left : OnErr answer (Told i.left i'.left (λ l l'. l' ≡ l))
+  pub failed_taken : OnErr answer (Told i.taken i'.taken (λ t t'. t' ≡ t))

@@ -1,12 +1,9 @@
 -- What holds of reports that end in any way.
-use Rattle.std.specs.Prelude.{◌≡◌, ℕ, List, ◌++◌, Option, Some}
+use Rattle.std.specs.Prelude.{◌≡◌, ℕ, List, ◌++◌, Some, Option}
 use Rattle.io_edges.specs.Flow.{GrowsByPrefix}
-use Rattle.unit_streams.specs.Grammar.{Grammar}
-use Rattle.unit_streams.specs.Tellers.{Teller, report}
-use Rattle.stream_loop.specs.Edges.{Input, Output}
-use Rattle.stream_loop.specs.Reported.{EndsAs}
-use Rattle.stream_loop.specs.declared.reporting.Ending.{Ending}
-use Rattle.stream_loop.specs.declared.reporting.Ending.TheVariants.{Judged}
+use Rattle.unit_streams.specs.{Grammar.Grammar, Tellers.report, Tellers.Teller}
+use Rattle.stream_loop.specs.declared.reporting.Ending.{Ending, TheVariants.Judged}
+use Rattle.stream_loop.specs.{Edges.Input, Edges.Output, Reported.EndsAs}
 
 module _ {Z U E R S : Type 0} (g : Grammar Z U E R) (t : Teller S E R) where
   -- a stream of these bytes was reported, which left such a state and ended so

@@ -1,17 +1,12 @@
 -- What the parts of the loop answer.
-use Rattle.std.specs.Prelude.{◌≡◌, ◌⊎◌, ⊤, ℕ, List, [], ◌++◌, Option, Result, Ok, Err}
-use Rattle.io_edges.specs.Faults.{one_more}
-use Rattle.io_edges.specs.Flow.{Told}
-use Rattle.io_edges.specs.declared.SinkFault.{SinkFault}
-use Rattle.io_edges.specs.declared.SinkFault.TheVariants as faults
-use Rattle.unit_streams.specs.Grammar.{Grammar}
-use Rattle.unit_streams.specs.Going.{IsPending, IsOpenAt}
-use Rattle.unit_streams.specs.Tellers.{Teller, AreDue, report, told_so_far, state_at}
-use Rattle.stream_loop.specs.Edges.{Input, Output}
-use Rattle.stream_loop.specs.Reported.{IsJudged, Reaches}
-use Rattle.stream_loop.specs.declared.pieces.Progress.{Progress}
+use Rattle.std.specs.Prelude.{◌≡◌, ℕ, ◌⊎◌, List, [], ◌++◌, Ok, Err, Option, Result, ⊤}
+use Rattle.io_edges.specs.{declared.SinkFault.SinkFault, Faults.one_more, Flow.Told}
+use Rattle.unit_streams.specs.{Going.IsOpenAt, Going.IsPending, Grammar.Grammar}
+use Rattle.unit_streams.specs.Tellers.{AreDue, report, state_at, Teller, told_so_far}
+use Rattle.stream_loop.specs.declared.{pieces.Progress.Progress, reporting.Ending.Ending}
 use Rattle.stream_loop.specs.declared.pieces.Progress.TheVariants.{Going, Judged, Starved}
-use Rattle.stream_loop.specs.declared.reporting.Ending.{Ending}
+use Rattle.stream_loop.specs.{Edges.Input, Edges.Output, Reported.IsJudged, Reported.Reaches}
+use Rattle.io_edges.specs.declared.SinkFault.TheVariants as faults
 use Rattle.stream_loop.specs.declared.reporting.Ending.TheVariants as endings
 
 -- an answer that brings something, as one that brings nothing

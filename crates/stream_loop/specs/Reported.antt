@@ -1,14 +1,10 @@
 -- What was read and written where a stream is reported, however that ends. The output may have held
 -- bytes before, which are written before what is put.
-use Rattle.std.specs.Prelude.{◌≡◌, ℕ, ◌≤◌, ◌⊎◌, List, [], ◌++◌, length, Option, Some}
-use Rattle.io_edges.specs.Faults.{CountsFaults, one_more}
-use Rattle.io_edges.specs.Flow.{Told, GrowsByPrefix}
-use Rattle.unit_streams.specs.Grammar.{Grammar}
-use Rattle.unit_streams.specs.Going.{IsPending}
-use Rattle.unit_streams.specs.Judging.{events, offence}
-use Rattle.unit_streams.specs.Tellers.{Teller, state_behind, report, told_so_far}
-use Rattle.stream_loop.specs.Edges.{Input, Output}
-use Rattle.stream_loop.specs.declared.reporting.Ending.{Ending}
+use Rattle.std.specs.Prelude.{◌≡◌, ℕ, ◌≤◌, ◌⊎◌, List, [], ◌++◌, length, Some, Option}
+use Rattle.io_edges.specs.{Faults.CountsFaults, Faults.one_more, Flow.GrowsByPrefix, Flow.Told}
+use Rattle.unit_streams.specs.{Going.IsPending, Grammar.Grammar, Judging.events, Judging.offence}
+use Rattle.unit_streams.specs.Tellers.{report, state_behind, Teller, told_so_far}
+use Rattle.stream_loop.specs.{declared.reporting.Ending.Ending, Edges.Input, Edges.Output}
 use Rattle.stream_loop.specs.declared.reporting.Ending.TheVariants.{Judged, ReadFault, WriteFault}
 
 -- more is written after what was

@@ -1,10 +1,9 @@
 -- For worked examples: streams of which each byte is an event, up to the byte 0, and what is
 -- written of them.
-use Rattle.std.specs.Prelude.{ℕ, ◌+◌, ◌==◌, nat_le, if◌then◌else◌, min, List, [], ◌∷◌}
-use Rattle.std.specs.Prelude.{Bool, false, Option, Some, None}
-use Rattle.unit_streams.specs.Front.{Front, begun, whole, wrong}
-use Rattle.unit_streams.specs.Grammar.{Grammar}
-use Rattle.unit_streams.specs.Tellers.{Teller}
+use Rattle.std.specs.Prelude.{ℕ, ◌+◌, min, Bool, false, List, [], ◌∷◌, if◌then◌else◌, nat_le, ◌==◌}
+use Rattle.std.specs.Prelude.{Some, None, Option}
+use Rattle.unit_streams.specs.Front.{begun, Front, whole, wrong}
+use Rattle.unit_streams.specs.{Grammar.Grammar, Tellers.Teller}
 
 module _ {R : Type 0} (bad cut too_long : R) where
   -- the byte 255 is none

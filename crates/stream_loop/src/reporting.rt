@@ -1,17 +1,17 @@
-//! The loop over the pieces that an input gives.
+//! The loop over the pieces that an input gives to a reporter.
 
 ghost use Rattle.std.specs.Prelude.{◌≡◌, ⊤, Result, ℕ, ◌≤◌, List, [], ◌++◌, Option, Some, None, Err, IfOk, IfErr, OnOk, OnErr, IsErrOf};
 ghost use Rattle.io_edges.specs.Faults.{CountsFaults};
 ghost use Rattle.io_edges.specs.Puts.{Puts};
 ghost use Rattle.io_edges.specs.declared.SinkFault.{SinkFault as Fault};
 ghost use Rattle.stream_loop.specs.Answers.{EndsWithin, written_by};
-ghost use Rattle.stream_loop.specs.Edges.{input_at, output_at};
+ghost use Rattle.stream_loop.specs.Edges.{Takes, input_at, output_at};
 ghost use Rattle.stream_loop.specs.LoopParts.{HasReported, done, ended_by};
 ghost use Rattle.stream_loop.specs.Reported.{EndsAs};
 
 use crate::pieces::{self, Progress};
 use crate::{ReadingEnd, Reporter};
-use io_edges::{Sink, SinkFault, Source};
+use io_edges::{Failed, Sink, SinkFault, Source};
 use std::alloc::Global;
 
 /// How many bytes are taken at most at a time.
@@ -28,6 +28,19 @@ pub enum Ending<R> {
     WriteFault,
     /// Out of memory.
     Memory,
+}
+
+// Takes the next bytes of the input. They may be long in coming, so the output holds nothing.
+fn take_more<I: Source, O: Sink>(
+    output: &O,
+    input: &mut I,
+    room: &mut [u8],
+) -> Result<usize, Failed>
+    requires written { O.held output.now ≡ [] }
+    ensures { Takes (input_at I.left I.taken I.faults I.empty_takes input.old)
+        (input_at I.left I.taken I.faults I.empty_takes input.new) room.old room.new result }
+{
+    input.take(room)
 }
 
 // Reads the stream that the input gives by an end that has read nothing of it, and puts its report.
@@ -60,7 +73,7 @@ fn put_report<I: Source, O: Sink, E: ReadingEnd, T: Reporter<E::Event, E::Refusa
     };
     loop {
         output.flush()?;
-        let Ok(n) = input.take(&mut room) else {
+        let Ok(n) = take_more(output, input, &mut room) else {
             return Ok(Ending::ReadFault);
         };
         if n == 0 {

@@ -1,52 +1,41 @@
 -- A stream whose units lead to where the input may end begins with a session: unit by unit, from
 -- the last to the first.
-use Rattle.std.proofs.Common.{◌≡◌, ℕ, ◌+◌, ◌-◌, ◌<◌, ◌≤◌, inl, inr, List, [], ◌∷◌, ◌++◌}
-use Rattle.std.proofs.Common.{length, take, Bool, true, false, Some, None, refl, sym, ap, ◌∙◌}
-use Rattle.std.proofs.Common.{subst, arith, append_assoc, length-append}
-use Rattle.std.specs.Prelude.{◌==◌, if◌then◌else◌}
-use Rattle.std.proofs.lemmas.Bool.{cases_lt, eqb-true, eqb-false}
-use Rattle.std.proofs.lemmas.List.{append-nil, nil_from_length}
-use Rattle.unit_streams.specs.Front.{whole}
-use Rattle.unit_streams.specs.Grammar.{standing}
-use Rattle.unit_streams.specs.Judging.{ending_at, refusal_at}
-use Rattle.nbfx_values.specs.Limits.{IsGood}
-use Rattle.nbfx_values.specs.declared.session.Mode.{Mode}
-use Rattle.nbfx_values.specs.declared.session.Mode.TheVariants.{Singleton, Duplex, Simplex}
-use Rattle.nbfx_values.specs.Session.{mode_number, kind_number}
-use Rattle.string_tables.specs.SessionStrings.{used_cost}
-use Rattle.nmf_records.specs.declared.frame.Frame.{Frame}
-use Rattle.nmf_records.specs.declared.frame.Frame.TheVariants as frames
-use Rattle.nmf_records.specs.declared.script.Direction.{Direction}
+use Rattle.std.proofs.Common.{◌≡◌, ℕ, ◌+◌, ◌-◌, ◌<◌, ◌≤◌, Bool, true, false, List, [], ◌∷◌, ◌++◌}
+use Rattle.std.proofs.Common.{length, take, if◌then◌else◌, ◌==◌, Some, None, sym, refl, ap, ◌∙◌}
+use Rattle.std.proofs.Common.{subst, inl, inr, append_assoc, append-nil, arith, length-append}
+use Rattle.{std.proofs.Common.eqb-true, string_tables.specs.SessionStrings.used_cost}
+use Rattle.std.proofs.lemmas.{Bool.cases_lt, Bool.eqb-false, List.nil_from_length}
+use Rattle.unit_streams.specs.{Front.whole, Grammar.standing, Judging.ending_at, Judging.refusal_at}
+use Rattle.nbfx_values.specs.{declared.session.Mode.Mode, Limits.IsGood}
+use Rattle.nbfx_values.specs.declared.session.Mode.TheVariants.{Duplex, Simplex, Singleton}
+use Rattle.nbfx_values.specs.Session.{kind_number, mode_number}
+use Rattle.nmf_records.specs.{declared.frame.Frame.Frame, RecordFronts.MayCome, Records.IsRecordOf}
+use Rattle.nmf_records.specs.declared.script.{Direction.Direction, Due.Due}
 use Rattle.nmf_records.specs.declared.script.Direction.TheVariants.{FromInitiator, FromReceiver}
-use Rattle.nmf_records.specs.declared.script.Due.{Due}
-use Rattle.nmf_records.specs.declared.script.Due.TheVariants as dues
-use Rattle.nmf_records.specs.Records.{IsRecordOf}
-use Rattle.nmf_records.specs.RecordFronts.{MayCome}
-use Rattle.nmf_records.specs.Script.{may_come, behind_preamble}
-use Rattle.stream_reader.specs.Stream.{OpenPayload, sized, chunked, last_chunk, Settings}
-use Rattle.stream_reader.specs.Stream.{direction_of, serves, mode_of, kind_of, Situation, Stage}
-use Rattle.stream_reader.specs.Stream.{record_due, chunk_due, payload_open, StreamUnit}
-use Rattle.stream_reader.specs.Stream.{reason_in, offence_in, on_payload, payload_by}
-use Rattle.stream_reader.specs.Stream.{after, after_bare, after_record, behind_payload}
-use Rattle.stream_reader.specs.Stream.{payload_begun, payload_in, refusal_in, refused_payload}
-use Rattle.stream_reader.specs.Stream.{unit_in, with_byte, with_chunk}
-use Rattle.stream_reader.specs.Sessions.{IsBare, AreChunks, joined, IsUnsized}
-use Rattle.stream_reader.specs.Sessions.{IsEnvelopeIn, Carried, CarriesAll, IsFault}
-use Rattle.stream_reader.proofs.Coming.{unit_of_record, unit_of_chunk, unit_of_payload}
-use Rattle.stream_reader.proofs.DueRecords.{version_due, mode_due, via_due, encoding_due}
-use Rattle.stream_reader.proofs.DueRecords.{envelope_due, chunk_due as size_due}
-use Rattle.stream_reader.proofs.Envelopes.{fronts}
-use Rattle.stream_reader.proofs.Outcomes.{goes_on, wants_chunk, is_whole, is_refused, outcome}
+use Rattle.nmf_records.specs.Script.{behind_preamble, may_come}
+use Rattle.stream_reader.specs.Sessions.{AreChunks, Carried, CarriesAll, IsBare, IsEnvelopeIn}
+use Rattle.stream_reader.specs.Sessions.{IsFault, IsUnsized, joined}
+use Rattle.stream_reader.specs.Stream.{after, after_bare, after_record, behind_payload, chunk_due}
+use Rattle.stream_reader.specs.Stream.{chunked, direction_of, kind_of, last_chunk, mode_of}
+use Rattle.stream_reader.specs.Stream.{offence_in, on_payload, OpenPayload, payload_begun}
+use Rattle.stream_reader.specs.Stream.{payload_by, payload_in, payload_open, reason_in, record_due}
+use Rattle.stream_reader.specs.Stream.{refusal_in, refused_payload, serves, Settings, Situation}
+use Rattle.stream_reader.specs.Stream.{sized, Stage, StreamUnit, unit_in, with_byte, with_chunk}
+use Rattle.stream_reader.proofs.Coming.{unit_of_chunk, unit_of_payload, unit_of_record}
+use Rattle.stream_reader.proofs.DueRecords.{chunk_due as size_due, encoding_due, envelope_due}
+use Rattle.stream_reader.proofs.DueRecords.{mode_due, version_due, via_due}
+use Rattle.stream_reader.proofs.{Envelopes.fronts, RightRecords.right_via, Situations.begun_behind}
+use Rattle.stream_reader.proofs.Outcomes.{goes_on, is_refused, is_whole, outcome, wants_chunk}
+use Rattle.stream_reader.proofs.ProperStages.{ack_due, chunk_form, chunked_in, end_due, fault_side}
+use Rattle.stream_reader.proofs.ProperStages.{form_proper, FormIn, in_parts, InParts}
+use Rattle.stream_reader.proofs.ProperStages.{preamble_end_due, preamble_proper, ProperAt}
+use Rattle.stream_reader.proofs.ProperStages.{ProperDue, unsized_due}
 use Rattle.stream_reader.proofs.RightRecords.{right_encoding, right_mode, right_size, right_version}
-use Rattle.stream_reader.proofs.RightRecords.{right_via}
-use Rattle.stream_reader.proofs.Situations.{begun_behind}
-use Rattle.stream_reader.proofs.ToSession.{Closing, ends, faults, Closes, may_carry, Rest, Chunked}
-use Rattle.stream_reader.proofs.ToSession.{OpenRest, IsFromDue, IsFrom, none_mapped, rest_behind}
-use Rattle.stream_reader.proofs.ToSession.{whole_payload}
-use Rattle.stream_reader.proofs.ProperStages.{InParts, FormIn, ProperDue, ProperAt, preamble_proper}
-use Rattle.stream_reader.proofs.ProperStages.{form_proper, chunked_in, chunk_form, unsized_due}
-use Rattle.stream_reader.proofs.ProperStages.{preamble_end_due, ack_due, end_due, fault_side}
-use Rattle.stream_reader.proofs.ProperStages.{in_parts}
+use Rattle.stream_reader.proofs.ToSession.{Chunked, Closes, Closing, ends, faults, IsFrom}
+use Rattle.stream_reader.proofs.ToSession.{IsFromDue, may_carry, none_mapped, OpenRest, Rest}
+use Rattle.stream_reader.proofs.ToSession.{rest_behind, whole_payload}
+use Rattle.nmf_records.specs.declared.frame.Frame.TheVariants as frames
+use Rattle.nmf_records.specs.declared.script.Due.TheVariants as dues
 
 -- each stage that comes is one of these
 module _ (x : Settings) where

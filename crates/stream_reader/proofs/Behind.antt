@@ -1,53 +1,42 @@
 -- A reader goes on behind a whole record, or the size of a chunk.
-use Rattle.std.proofs.Common.{◌≡◌, ℕ, ◌+◌, ◌<◌, ◌≤◌, ◌^◌, List, [], Bool, true, false, Option, Some}
-use Rattle.std.proofs.Common.{None, Result, Ok, Err, refl, sym, ap, ◌∙◌, subst, arith}
-use Rattle.std.specs.Prelude.{◌==◌, if◌then◌else◌}
-use Rattle.std.specs.Option.{option_map, option_or}
-use Rattle.nbfx_values.specs.QuotasOf.{limits_of}
-use Rattle.nbfx_values.specs.declared.refusals.Reason.{Reason}
-use Rattle.nbfx_values.specs.declared.session.Kind.{Kind}
-use Rattle.nmf_records.specs.declared.frame.Frame.{Frame}
-use Rattle.nmf_records.specs.declared.frame.Frame.TheVariants as frames
-use Rattle.nmf_records.specs.declared.script.Direction.{Direction}
-use Rattle.nmf_records.specs.declared.script.Due.{Due}
-use Rattle.nmf_records.specs.declared.script.Due.TheVariants as dues
-use Rattle.nmf_records.specs.RecordFronts.{MayCome}
+use Rattle.std.proofs.Common.{◌≡◌, ℕ, ◌+◌, ◌^◌, ◌<◌, ◌≤◌, Bool, true, false, List, []}
+use Rattle.std.proofs.Common.{if◌then◌else◌, ◌==◌, Some, None, Ok, Err, Option, Result, option_map}
+use Rattle.std.proofs.Common.{sym, refl, ap, ◌∙◌, subst, arith}
+use Rattle.{std.specs.Option.option_or, nbfx_values.specs.QuotasOf.limits_of}
+use Rattle.nbfx_values.specs.declared.{refusals.Reason.Reason, session.Kind.Kind}
+use Rattle.nmf_records.specs.{declared.frame.Frame.Frame, RecordFronts.MayCome}
+use Rattle.nmf_records.specs.declared.script.{Direction.Direction, Due.Due}
 use Rattle.nmf_records.specs.Script.{leads, may_come}
-use Rattle.nbfx_decoder.specs.Payload.{payload}
-use Rattle.nbfx_decoder.specs.declared.decoder.Decoder.{Decoder}
+use Rattle.nbfx_decoder.specs.{declared.decoder.Decoder.Decoder, Payload.payload}
 use Rattle.nbfx_decoder.specs.DecoderState.{settings_of as decoder_settings}
 use Rattle.nbfx_decoder.specs.DecoderState.{StandsFor as DecoderStandsFor}
-use Rattle.stream_reader.specs.declared.awaited.Awaited.{Awaited}
-use Rattle.stream_reader.specs.declared.awaited.Awaited.TheVariants as awaits
-use Rattle.stream_reader.specs.declared.awaited.Closing.{Closing}
-use Rattle.stream_reader.specs.declared.awaited.Form.TheVariants as forms
-use Rattle.stream_reader.specs.declared.awaited.PayloadLeft.{PayloadLeft}
-use Rattle.stream_reader.specs.declared.reader.ReadRefusal.{ReadRefusal}
+use Rattle.stream_reader.specs.declared.awaited.{Awaited.Awaited, Closing.Closing}
+use Rattle.stream_reader.specs.{declared.awaited.PayloadLeft.PayloadLeft, Sides.side_of}
+use Rattle.stream_reader.specs.declared.reader.{ReadRefusal.ReadRefusal, StreamStep.StreamStep}
 use Rattle.stream_reader.specs.declared.reader.ReadRefusal.TheVariants.{Offence as Refused}
 use Rattle.stream_reader.specs.declared.reader.StreamReader.{StreamReader}
-use Rattle.stream_reader.specs.declared.reader.StreamStep.{StreamStep}
-use Rattle.stream_reader.specs.declared.reader.StreamStep.TheVariants as steps
-use Rattle.stream_reader.specs.Sides.{side_of}
-use Rattle.stream_reader.specs.Stream.{Form, sized, chunked, last_chunk, OpenPayload, Settings}
-use Rattle.stream_reader.specs.Stream.{Side, Situation, Stage, record_due, chunk_due, payload_open}
-use Rattle.stream_reader.specs.Stream.{direction_of, due_in, is_over_in, after_bare, after_record}
-use Rattle.stream_reader.specs.Stream.{behind_payload, completed_bare, completed_payload}
-use Rattle.stream_reader.specs.Stream.{completed_record, kind_of, offence_at, on_payload}
-use Rattle.stream_reader.specs.Stream.{payload_begun, payload_by, payloads, reason_in}
-use Rattle.stream_reader.specs.Stream.{refused_payload, refused_record, strings_at, strings_in}
-use Rattle.stream_reader.specs.Stream.{with_chunk}
-use Rattle.stream_reader.specs.StreamReaderState.{Awaits, HasPart, IsIn, IsOpenSo, ReadsPayload}
-use Rattle.stream_reader.specs.StreamReaderState.{Recalls, ShowsTable, form_of}
-use Rattle.stream_reader.specs.Stepping.{BehindAnswers, DecodesAfter, HasDecoded, IsDue, IsMoved}
-use Rattle.stream_reader.specs.Stepping.{MakesPayload, awaited_after, bare_step, begun_by}
-use Rattle.stream_reader.specs.Stepping.{begun_with, closing_after, due_of, joined_with, mode_after}
-use Rattle.stream_reader.specs.Stepping.{step_of, with_size}
-use Rattle.stream_reader.proofs.Ending.{begun_on, bare_goes_on}
-use Rattle.stream_reader.proofs.Outcomes.{more_behind}
-use Rattle.stream_reader.proofs.Situations.{begun_behind}
-use Rattle.stream_reader.proofs.ReaderFacts.{shows_in}
-use Rattle.stream_reader.proofs.Texts.{ReadsDue, reads_record, reads_size, chunk_made, due_on}
+use Rattle.stream_reader.specs.Stepping.{awaited_after, bare_step, begun_by, begun_with}
+use Rattle.stream_reader.specs.Stepping.{BehindAnswers, closing_after, DecodesAfter, due_of}
+use Rattle.stream_reader.specs.Stepping.{HasDecoded, IsDue, IsMoved, joined_with, MakesPayload}
+use Rattle.stream_reader.specs.Stepping.{mode_after, step_of, with_size}
+use Rattle.stream_reader.specs.Stream.{after_bare, after_record, behind_payload, chunk_due, chunked}
+use Rattle.stream_reader.specs.Stream.{completed_bare, completed_payload, completed_record}
+use Rattle.stream_reader.specs.Stream.{direction_of, due_in, Form, is_over_in, kind_of, last_chunk}
+use Rattle.stream_reader.specs.Stream.{offence_at, on_payload, OpenPayload, payload_begun}
+use Rattle.stream_reader.specs.Stream.{payload_by, payload_open, payloads, reason_in, record_due}
+use Rattle.stream_reader.specs.Stream.{refused_payload, refused_record, Settings, Side, Situation}
+use Rattle.stream_reader.specs.Stream.{sized, Stage, strings_at, strings_in, with_chunk}
+use Rattle.stream_reader.specs.StreamReaderState.{Awaits, form_of, HasPart, IsIn, IsOpenSo}
+use Rattle.stream_reader.specs.StreamReaderState.{ReadsPayload, Recalls, ShowsTable}
+use Rattle.stream_reader.proofs.{Ending.bare_goes_on, Ending.begun_on, Situations.begun_behind}
 use Rattle.stream_reader.proofs.MadePayloads.{only_size, reads_at, size_fits, size_large}
+use Rattle.stream_reader.proofs.{Outcomes.more_behind, ReaderFacts.shows_in}
+use Rattle.stream_reader.proofs.Texts.{chunk_made, due_on, reads_record, reads_size, ReadsDue}
+use Rattle.nmf_records.specs.declared.frame.Frame.TheVariants as frames
+use Rattle.nmf_records.specs.declared.script.Due.TheVariants as dues
+use Rattle.stream_reader.specs.declared.awaited.Awaited.TheVariants as awaits
+use Rattle.stream_reader.specs.declared.awaited.Form.TheVariants as forms
+use Rattle.stream_reader.specs.declared.reader.StreamStep.TheVariants as steps
 
 -- a reader that is as another one, but for where its unit begins
 pub record IsAs (mid r : StreamReader) : Type 0 where

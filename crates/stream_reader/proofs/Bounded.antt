@@ -1,23 +1,16 @@
 -- What bounds a reader in every state (specs/Bounds) stays true.
-use Rattle.std.proofs.Common.{◌≡◌, ℕ, ◌+◌, ◌≤◌, ◌⊎◌, inl, inr, List, [], ◌++◌, length, Some, None}
-use Rattle.std.proofs.Common.{Result, Ok, Err, IfErr, OnOk, take, refl, sym, ap, ◌∙◌, subst, arith}
-use Rattle.std.proofs.Common.{length-append}
-use Rattle.std.proofs.Math.Bridge.{le_prop}
-use Rattle.std.proofs.Math.Logic.{∥∥₁_elim}
-use Rattle.nbfx_values.specs.Limits.{Limits}
-use Rattle.nbfx_values.specs.declared.limits.Quotas.{Quotas}
-use Rattle.nbfx_values.specs.QuotasOf.{limits_of}
-use Rattle.nbfx_decoder.specs.Payload.{Settings}
-use Rattle.nbfx_decoder.specs.declared.decoder.Decoder.{Decoder}
-use Rattle.nbfx_decoder.specs.declared.faults.DecodeFault.{DecodeFault}
-use Rattle.nbfx_decoder.specs.DecoderState.{settings_of, failure_of, taken_of, situation_of}
-use Rattle.nbfx_decoder.specs.DecoderState.{StandsFor, FailedBehind, FailedWithin, WhereItStands}
-use Rattle.nbfx_decoder.specs.DecoderState.{WhereItFailed}
-use Rattle.nbfx_decoder.proofs.Feeding.{may_feed}
+use Rattle.std.proofs.Common.{◌≡◌, ℕ, ◌+◌, ◌≤◌, ◌⊎◌, List, [], ◌++◌, length, take, IfErr, OnOk}
+use Rattle.std.proofs.Common.{Some, None, Ok, Err, Result, sym, refl, ap, ◌∙◌, subst, inl, inr}
+use Rattle.std.proofs.{Common.arith, Common.length-append, Math.Bridge.le_prop, Math.Logic.∥∥₁_elim}
+use Rattle.nbfx_values.specs.{declared.limits.Quotas.Quotas, Limits.Limits, QuotasOf.limits_of}
+use Rattle.{nmf_records.specs.declared.script.Due.Due, nbfx_decoder.proofs.Feeding.may_feed}
+use Rattle.nbfx_decoder.specs.declared.{decoder.Decoder.Decoder, faults.DecodeFault.DecodeFault}
+use Rattle.nbfx_decoder.specs.DecoderState.{FailedBehind, FailedWithin, failure_of, settings_of}
+use Rattle.nbfx_decoder.specs.DecoderState.{situation_of, StandsFor, taken_of, WhereItFailed}
+use Rattle.nbfx_decoder.specs.{DecoderState.WhereItStands, Payload.Settings}
 use Rattle.stream_reader.specs.declared.awaited.Awaited.{Awaited}
-use Rattle.stream_reader.specs.declared.awaited.Awaited.TheVariants as awaits
-use Rattle.nmf_records.specs.declared.script.Due.{Due}
 use Rattle.stream_reader.specs.Bounds.{HasFailed, HasRoom, IsBounded, size_of, to_come}
+use Rattle.stream_reader.specs.declared.awaited.Awaited.TheVariants as awaits
 
 -- what a decoder that has failed answers
 pub failure_behind : (d : Decoder) (fault : DecodeFault) (strings : List (List ℕ)) (p : List ℕ)

@@ -1,42 +1,33 @@
 -- A short chunk in a stream: where it leads, what it completes and why it is refused is said by its
 -- content, by the payload's own grammar.
-use Rattle.std.proofs.Common.{◌≡◌, ℕ, ◌+◌, ◌-◌, ◌*◌, ◌%◌, ◌<◌, ◌≤◌, List, [], ◌∷◌, ◌++◌, length}
-use Rattle.std.proofs.Common.{take, Some, None, false, true, refl, sym, ap, ◌∙◌, subst, arith}
-use Rattle.std.proofs.Common.{append_assoc, length-append}
-use Rattle.std.specs.Prelude.{◌==◌, nat_le, nat_lt, if◌then◌else◌}
-use Rattle.std.specs.Option.{option_map}
-use Rattle.std.proofs.Math.Seq.{take-append_seam}
-use Rattle.std.proofs.lemmas.Bool.{lt-leb, le-ltb, ne_eqb}
-use Rattle.std.proofs.lemmas.List.{append-nil, length-take-le}
-use Rattle.unit_streams.specs.Front.{whole}
-use Rattle.unit_streams.specs.Grammar.{Standing, standing}
-use Rattle.unit_streams.specs.Judging.{event_at, refusal_at}
-use Rattle.unit_streams.specs.Going.{IsGoing, IsQuiet}
-use Rattle.unit_streams.specs.Refusals.{AreUnits}
+use Rattle.std.proofs.Common.{◌≡◌, ℕ, ◌+◌, ◌-◌, ◌*◌, ◌%◌, ◌<◌, ◌≤◌, true, false, List, [], ◌∷◌}
+use Rattle.std.proofs.Common.{◌++◌, length, take, if◌then◌else◌, nat_lt, nat_le, ◌==◌, Some, None}
+use Rattle.std.proofs.Common.{option_map, sym, refl, ap, ◌∙◌, subst, append_assoc, append-nil}
+use Rattle.std.proofs.Common.{arith, length-append, length-take-le, le-ltb, ne_eqb}
+use Rattle.std.proofs.{Math.Seq.take-append_seam, lemmas.Bool.lt-leb}
 use Rattle.unit_streams.proofs.Passing.{event_from, going_refusal, refusal_from}
 use Rattle.unit_streams.proofs.Quiet.{quiet_behind, quiet_joined}
+use Rattle.unit_streams.specs.{Front.whole, Parts.seen, Refusals.AreUnits}
+use Rattle.unit_streams.specs.{Going.IsGoing, Going.IsQuiet, Grammar.Standing, Grammar.standing}
+use Rattle.unit_streams.specs.Judging.{event_at, refusal_at}
 use Rattle.multibyte_ints.specs.Integer.{int_at, int_ending_at, value_of}
-use Rattle.nbfx_values.specs.declared.refusals.Offence.{Offence}
-use Rattle.nbfx_decoder.specs.Payload.{Refusal}
+use Rattle.{nbfx_values.specs.declared.refusals.Offence.Offence, nbfx_decoder.specs.Payload.Refusal}
 use Rattle.nmf_records.specs.declared.frame.Frame.TheVariants.{Chunk}
-use Rattle.nmf_records.specs.declared.script.Due.TheVariants as dues
 use Rattle.nmf_records.specs.RecordFronts.{as_size, bare}
-use Rattle.unit_streams.specs.Parts.{seen}
-use Rattle.stream_reader.specs.Runs.{IsShort}
-use Rattle.stream_reader.specs.Stream.{OpenPayload, Settings, Situation, StreamEvent, chunk_due}
-use Rattle.stream_reader.specs.Stream.{payload_open, chunked, last_chunk, frame, behind_payload}
-use Rattle.stream_reader.specs.Stream.{completed_payload, is_chunked, offence_at, offence_in}
-use Rattle.stream_reader.specs.Stream.{payload_by, payload_in, reason_of, refused_payload}
-use Rattle.stream_reader.specs.Stream.{refused_record, refusal_in, stream, strings_in, unit_in}
-use Rattle.stream_reader.specs.Stream.{with_chunk}
+use Rattle.stream_reader.{specs.Runs.IsShort, proofs.PayloadBytes.refusal_between}
+use Rattle.stream_reader.specs.Stream.{behind_payload, chunk_due, chunked, completed_payload, frame}
+use Rattle.stream_reader.specs.Stream.{is_chunked, last_chunk, offence_at, offence_in, OpenPayload}
+use Rattle.stream_reader.specs.Stream.{payload_by, payload_in, payload_open, reason_of, refusal_in}
+use Rattle.stream_reader.specs.Stream.{refused_payload, refused_record, Settings, Situation, stream}
+use Rattle.stream_reader.specs.Stream.{StreamEvent, strings_in, unit_in, with_chunk}
 use Rattle.stream_reader.proofs.Grammar.{readable, short_enough}
-use Rattle.stream_reader.proofs.Outcomes.{more_behind, more_completed, outcome, goes_on}
-use Rattle.stream_reader.proofs.Outcomes.{wants_chunk, is_whole, is_refused, strings_behind}
-use Rattle.stream_reader.proofs.Outcomes.{text_behind}
-use Rattle.stream_reader.proofs.PayloadBytes.{IsWithin, behind_is, between_situation, bytes_event}
+use Rattle.stream_reader.proofs.Outcomes.{goes_on, is_refused, is_whole, more_behind, wants_chunk}
+use Rattle.stream_reader.proofs.Outcomes.{more_completed, outcome, strings_behind, text_behind}
+use Rattle.stream_reader.proofs.PayloadBytes.{behind_is, between_situation, bytes_event}
 use Rattle.stream_reader.proofs.PayloadBytes.{bytes_going, bytes_refused, bytes_stand, bytes_units}
-use Rattle.stream_reader.proofs.PayloadBytes.{bytes_unrefused, made_stands, payload_behind}
-use Rattle.stream_reader.proofs.PayloadBytes.{payload_quiet, refusal_before, refusal_between}
+use Rattle.stream_reader.proofs.PayloadBytes.{bytes_unrefused, IsWithin, made_stands}
+use Rattle.stream_reader.proofs.PayloadBytes.{payload_behind, payload_quiet, refusal_before}
+use Rattle.nmf_records.specs.declared.script.Due.TheVariants as dues
 
 -- a size of one byte
 size_is : (n : ℕ) → n < 128 → int_at (n ∷ []) ≡ whole n 1

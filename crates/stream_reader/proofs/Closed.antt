@@ -1,52 +1,42 @@
 -- A stream has no offence exactly where a session closes it.
-use Rattle.std.proofs.Common.{◌≡◌, ℕ, ◌+◌, ◌-◌, ◌<◌, ◌≤◌, inl, inr, List, [], ◌∷◌, ◌++◌, length}
-use Rattle.std.proofs.Common.{take, drop, Bool, true, false, Option, Some, None, refl, sym, ap, ◌∙◌}
-use Rattle.std.proofs.Common.{subst, arith, append_assoc, length-append}
-use Rattle.std.specs.Prelude.{◌==◌, if◌then◌else◌}
-use Rattle.std.specs.Option.{option_map}
-use Rattle.std.proofs.lemmas.List.{nil_from_length, take-append-drop}
-use Rattle.unit_streams.specs.Front.{whole}
-use Rattle.unit_streams.specs.Units.{Counted, UnitsLead, AreShort, size_of, IsAccepted}
-use Rattle.unit_streams.proofs.Fronts.{whole_some}
+use Rattle.std.proofs.Common.{◌≡◌, ℕ, ◌+◌, ◌-◌, ◌<◌, ◌≤◌, Bool, true, false, List, [], ◌∷◌, ◌++◌}
+use Rattle.std.proofs.Common.{length, take, drop, if◌then◌else◌, ◌==◌, Some, None, Option}
+use Rattle.std.proofs.Common.{option_map, sym, refl, ap, ◌∙◌, subst, inl, inr, append_assoc, arith}
+use Rattle.std.proofs.{Common.length-append, Common.take-append-drop, lemmas.List.nil_from_length}
 use Rattle.unit_streams.proofs.Accepted.{accepted_or_offended, leads_length}
-use Rattle.nbfx_values.specs.Limits.{IsGood, Limits}
-use Rattle.nbfx_values.specs.declared.session.Mode.{Mode}
-use Rattle.nbfx_values.specs.declared.session.Mode.TheVariants.{Singleton, Duplex, Simplex}
-use Rattle.nbfx_values.specs.declared.session.Kind.{Kind}
-use Rattle.nbfx_values.specs.declared.refusals.Reason.TheVariants as reasons
+use Rattle.unit_streams.{proofs.Fronts.whole_some, specs.Front.whole}
+use Rattle.unit_streams.specs.Units.{AreShort, Counted, IsAccepted, size_of, UnitsLead}
 use Rattle.string_tables.specs.StaticStrings.{Entry}
-use Rattle.nmf_records.specs.declared.frame.Frame.{Frame}
-use Rattle.nmf_records.specs.declared.frame.Frame.TheVariants as frames
+use Rattle.nbfx_values.specs.declared.session.{Kind.Kind, Mode.Mode}
+use Rattle.nbfx_values.specs.declared.session.Mode.TheVariants.{Duplex, Simplex, Singleton}
+use Rattle.nbfx_values.specs.Limits.{IsGood, Limits}
+use Rattle.nmf_records.specs.declared.{frame.Frame.Frame, script.Due.Due}
 use Rattle.nmf_records.specs.declared.script.Direction.TheVariants.{FromInitiator, FromReceiver}
-use Rattle.nmf_records.specs.declared.script.Due.{Due}
-use Rattle.nmf_records.specs.declared.script.Due.TheVariants as dues
-use Rattle.nmf_records.specs.Records.{IsRecordOf}
-use Rattle.nmf_records.specs.RecordFronts.{MayCome}
+use Rattle.nmf_records.specs.{RecordFronts.MayCome, Records.IsRecordOf}
 use Rattle.nmf_records.specs.Script.{behind_preamble, may_come}
-use Rattle.stream_reader.specs.Stream.{OpenPayload, Settings, Side, initiators, receivers}
-use Rattle.stream_reader.specs.Stream.{direction_of, Situation, Stage, beginning, record_due}
-use Rattle.stream_reader.specs.Stream.{chunk_due, payload_open, StreamUnit, reason_in, offence_at}
-use Rattle.stream_reader.specs.Stream.{offence_in, on_open, on_payload, payload_by, after}
-use Rattle.stream_reader.specs.Stream.{after_bare, after_record, behind_payload, refusal_in}
-use Rattle.stream_reader.specs.Stream.{refused, refused_payload, refused_record, unit_in, with_byte}
-use Rattle.stream_reader.specs.Stream.{with_chunk, is_over_in, open_from, may_end_in, cut_off}
-use Rattle.stream_reader.specs.Stream.{stream}
-use Rattle.stream_reader.specs.Sessions.{Carried, CarriesAll, MayCarry, Parts, conversation, answer}
-use Rattle.stream_reader.specs.Sessions.{lone_ack, broken_off, turned_down, IsPreamble, HasParts}
-use Rattle.stream_reader.specs.Sessions.{IsWithin, MayFollow, IsClosed, ClosedOrRefused}
+use Rattle.stream_reader.specs.Sessions.{answer, broken_off, Carried, CarriesAll, ClosedOrRefused}
+use Rattle.stream_reader.specs.Sessions.{conversation, HasParts, IsClosed, IsPreamble, IsWithin}
+use Rattle.stream_reader.specs.Sessions.{lone_ack, MayCarry, MayFollow, Parts, turned_down}
+use Rattle.stream_reader.specs.Stream.{after, after_bare, after_record, beginning, behind_payload}
+use Rattle.stream_reader.specs.Stream.{chunk_due, cut_off, direction_of, initiators, is_over_in}
+use Rattle.stream_reader.specs.Stream.{may_end_in, offence_at, offence_in, on_open, on_payload}
+use Rattle.stream_reader.specs.Stream.{open_from, OpenPayload, payload_by, payload_open, reason_in}
+use Rattle.stream_reader.specs.Stream.{receivers, record_due, refusal_in, refused, refused_payload}
+use Rattle.stream_reader.specs.Stream.{refused_record, Settings, Side, Situation, Stage, stream}
+use Rattle.stream_reader.specs.Stream.{StreamUnit, unit_in, with_byte, with_chunk}
+use Rattle.stream_reader.proofs.Accepted.{chunk_first, IsProper, record_first, resumes, unit_proper}
+use Rattle.stream_reader.proofs.Coming.{unit_of_chunk, unit_of_payload, unit_of_record}
 use Rattle.stream_reader.proofs.Grammar.{readable, within_quota}
-use Rattle.stream_reader.proofs.Coming.{unit_of_record, unit_of_chunk, unit_of_payload}
 use Rattle.stream_reader.proofs.LoneAck.{due_may_end, may_end_of}
-use Rattle.stream_reader.proofs.Situations.{IsOpenAt, IsSound, byte_behind, chunk_behind}
-use Rattle.stream_reader.proofs.Situations.{sound_unit}
-use Rattle.stream_reader.proofs.SessionEnds.{closed_offence}
-use Rattle.stream_reader.proofs.ToSession.{Closing, ends, faults, stops, Closes, may_carry}
-use Rattle.stream_reader.proofs.ToSession.{IsFromDue, IsFrom, none_mapped, none_both, rest_behind}
-use Rattle.stream_reader.proofs.ToSession.{byte_first}
-use Rattle.stream_reader.proofs.Accepted.{IsProper, chunk_first, record_first, resumes}
-use Rattle.stream_reader.proofs.ProperStages.{ProperAt}
-use Rattle.stream_reader.proofs.Accepted.{unit_proper}
-use Rattle.stream_reader.proofs.RightRecords.{right_size}
+use Rattle.stream_reader.proofs.{ProperStages.ProperAt, RightRecords.right_size}
+use Rattle.stream_reader.proofs.{SessionEnds.closed_offence, Situations.sound_unit}
+use Rattle.stream_reader.proofs.Situations.{byte_behind, chunk_behind, IsOpenAt, IsSound}
+use Rattle.stream_reader.proofs.ToSession.{byte_first, Closes, Closing, ends, faults, IsFrom}
+use Rattle.stream_reader.proofs.ToSession.{IsFromDue, may_carry, none_both, none_mapped}
+use Rattle.stream_reader.proofs.ToSession.{rest_behind, stops}
+use Rattle.nbfx_values.specs.declared.refusals.Reason.TheVariants as reasons
+use Rattle.nmf_records.specs.declared.frame.Frame.TheVariants as frames
+use Rattle.nmf_records.specs.declared.script.Due.TheVariants as dues
 
 module _ (x : Settings) (good : IsGood x.limits) (Stop : Type 0) where
   -- of a record that isn't refused

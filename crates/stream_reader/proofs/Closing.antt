@@ -1,18 +1,16 @@
 -- The events that end a stream close it.
-use Rattle.std.proofs.Common.{◌≡◌, ℕ, List, true, Option, Some, None, refl, subst}
-use Rattle.std.specs.Option.{option_map, option_or}
-use Rattle.unit_streams.specs.Tellers.{Closes}
+use Rattle.std.proofs.Common.{◌≡◌, ℕ, true, List, Some, None, Option, option_map, refl, subst}
+use Rattle.{std.specs.Option.option_or, unit_streams.specs.Tellers.Closes}
 use Rattle.nbfx_values.specs.declared.refusals.Offence.{Offence}
 use Rattle.nmf_records.specs.declared.frame.Frame.{Frame}
+use Rattle.stream_reader.specs.Stream.{chunk_due, completed, completed_bare, completed_payload}
+use Rattle.stream_reader.specs.Stream.{ends, Envelope, envelope_in, frame, message, offence_at}
+use Rattle.stream_reader.specs.Stream.{on_open, on_payload, OpenPayload, payload_by, payload_byte}
+use Rattle.stream_reader.specs.Stream.{payload_open, reason_in, record_due, refused}
+use Rattle.stream_reader.specs.Stream.{refused_payload, Settings, Situation, Stage, stream}
+use Rattle.stream_reader.specs.Stream.{StreamEvent, StreamUnit, with_byte}
+use Rattle.stream_reader.proofs.{Ending.tells, Grammar.quiet_over, Grammar.readable}
 use Rattle.nmf_records.specs.declared.frame.Frame.TheVariants as frames
-use Rattle.stream_reader.specs.Stream.{Settings, Situation, Stage, OpenPayload, record_due}
-use Rattle.stream_reader.specs.Stream.{chunk_due, payload_open, StreamUnit, frame, payload_byte}
-use Rattle.stream_reader.specs.Stream.{Envelope, StreamEvent, message, ends, envelope_in, with_byte}
-use Rattle.stream_reader.specs.Stream.{on_open, on_payload, offence_at, payload_by, reason_in}
-use Rattle.stream_reader.specs.Stream.{refused_payload, completed_payload, completed_bare}
-use Rattle.stream_reader.specs.Stream.{completed, refused, stream}
-use Rattle.stream_reader.proofs.Ending.{tells}
-use Rattle.stream_reader.proofs.Grammar.{readable, quiet_over}
 
 -- an event that ends the stream comes without a refusal
 abbrev Unrefused : Option StreamEvent → Option Offence → Type 0

@@ -1,18 +1,14 @@
 -- Which units come: at a payload bytes, elsewhere the records that are due.
-use Rattle.std.proofs.Common.{◌≡◌, ℕ, ◌≤◌, List, [], ◌∷◌, length, take, refl, sym, ap}
-use Rattle.unit_streams.specs.Front.{Front, begun, whole, wrong}
-use Rattle.unit_streams.specs.Parts.{seen}
-use Rattle.nmf_records.specs.declared.frame.FrameFault.{FrameFault}
-use Rattle.nmf_records.specs.declared.script.Due.{Due}
+use Rattle.std.proofs.Common.{◌≡◌, ℕ, ◌≤◌, List, [], ◌∷◌, length, take, sym, refl, ap}
+use Rattle.unit_streams.specs.{Front.begun, Front.Front, Front.whole, Front.wrong, Parts.seen}
+use Rattle.nmf_records.proofs.{Frames.frames_front, Records.read_record}
+use Rattle.nmf_records.specs.declared.{frame.FrameFault.FrameFault, script.Due.Due}
+use Rattle.nmf_records.specs.RecordFronts.{frame_at, MayCome}
+use Rattle.nmf_records.specs.{Records.IsRecord, Records.Read, Script.may_come}
+use Rattle.stream_reader.specs.Stream.{chunk_due, direction_of, due_record_at, frame, offence_at}
+use Rattle.stream_reader.specs.Stream.{OpenPayload, payload_at, payload_byte, payload_open}
+use Rattle.stream_reader.specs.Stream.{reason_of, record_due, Settings, StreamUnit, unit_in}
 use Rattle.nmf_records.specs.declared.script.Due.TheVariants as dues
-use Rattle.nmf_records.specs.Records.{Read, IsRecord}
-use Rattle.nmf_records.specs.RecordFronts.{MayCome, frame_at}
-use Rattle.nmf_records.specs.Script.{may_come}
-use Rattle.nmf_records.proofs.Frames.{frames_front}
-use Rattle.nmf_records.proofs.Records.{read_record}
-use Rattle.stream_reader.specs.Stream.{OpenPayload, Settings, direction_of, record_due, chunk_due}
-use Rattle.stream_reader.specs.Stream.{payload_open, StreamUnit, frame, payload_byte, reason_of}
-use Rattle.stream_reader.specs.Stream.{offence_at, due_record_at, payload_at, unit_in}
 
 -- the record that a unit is
 pub record Comes (x : Settings) (due : Due) (bytes : List ℕ) (read : Read) (n : ℕ) : Type 0 where

@@ -1,20 +1,16 @@
 -- Which record is due where one may come, and what is read where one is.
-use Rattle.std.proofs.Common.{◌≡◌, ℕ, ◌≤◌, List, length, false, refl, ap, ◌∙◌}
-use Rattle.unit_streams.specs.Front.{whole}
-use Rattle.unit_streams.specs.Parts.{seen}
+use Rattle.std.proofs.Common.{◌≡◌, ℕ, ◌≤◌, false, List, length, refl, ap, ◌∙◌}
+use Rattle.unit_streams.specs.{Front.whole, Parts.seen}
 use Rattle.nbfx_values.specs.declared.refusals.Offence.{Offence}
-use Rattle.nmf_records.specs.declared.frame.Frame.TheVariants as frames
-use Rattle.nmf_records.specs.declared.frame.FrameFault.{FrameFault}
-use Rattle.nmf_records.specs.declared.script.Direction.{Direction}
+use Rattle.nmf_records.{proofs.Records.record_read, specs.Records.IsRecord, specs.Records.Read}
+use Rattle.nmf_records.specs.{declared.frame.FrameFault.FrameFault, Script.may_come}
+use Rattle.nmf_records.specs.declared.script.{Direction.Direction, Due.Due}
 use Rattle.nmf_records.specs.declared.script.Direction.TheVariants.{FromInitiator, FromReceiver}
-use Rattle.nmf_records.specs.declared.script.Due.{Due}
+use Rattle.nmf_records.specs.RecordFronts.{frame_at, MayCome}
+use Rattle.stream_reader.specs.Stream.{direction_of, due_record_at, frame, is_over_in, offence_at}
+use Rattle.stream_reader.specs.Stream.{reason_of, record_due, Settings, unit_in}
+use Rattle.nmf_records.specs.declared.frame.Frame.TheVariants as frames
 use Rattle.nmf_records.specs.declared.script.Due.TheVariants as dues
-use Rattle.nmf_records.specs.Records.{Read, IsRecord}
-use Rattle.nmf_records.specs.RecordFronts.{MayCome, frame_at}
-use Rattle.nmf_records.specs.Script.{may_come}
-use Rattle.nmf_records.proofs.Records.{record_read}
-use Rattle.stream_reader.specs.Stream.{Settings, direction_of, record_due, frame, reason_of}
-use Rattle.stream_reader.specs.Stream.{offence_at, due_record_at, unit_in, is_over_in}
 
 -- which record is due where one of these types may come
 pub version_due : (direction : Direction) (due : Due) (major minor : ℕ)

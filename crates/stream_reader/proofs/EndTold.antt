@@ -1,10 +1,8 @@
 -- What a machine that wants no memory at the end of the input says of it, where its reader says so.
-use Rattle.std.proofs.Common.{◌≡◌, Option, Some, None, Result, Ok, Err, refl, ap}
-use Rattle.std.specs.Prelude.{⊤}
-use Rattle.nbfx_values.specs.declared.refusals.Offence.{Offence}
-use Rattle.stream_reader.specs.declared.reader.ReadRefusal.{ReadRefusal}
+use Rattle.std.proofs.Common.{◌≡◌, Some, None, Ok, Err, Option, Result, refl, ap}
+use Rattle.{std.specs.Prelude.⊤, nbfx_values.specs.declared.refusals.Offence.Offence}
+use Rattle.stream_reader.specs.{declared.reader.ReadRefusal.ReadRefusal, Calls.told_at_end}
 use Rattle.stream_reader.specs.declared.reader.ReadRefusal.TheVariants.{Offence as Refused}
-use Rattle.stream_reader.specs.Calls.{told_at_end}
 use Rattle.stream_reader.specs.Saying.{said_at_end}
 
 pub ends_well : (v : Option Offence) → ◌≡◌ {A = Result ⊤ ReadRefusal} (Ok tt) (said_at_end v)

@@ -1,26 +1,23 @@
 -- A stream ends with the End record or a Fault, and with nothing else.
-use Rattle.std.proofs.Common.{◌≡◌, ℕ, ◌+◌, List, Bool, true, false, Option, Some, None, refl, sym}
-use Rattle.std.proofs.Common.{ap, ◌∙◌}
-use Rattle.std.specs.Prelude.{◌==◌, if◌then◌else◌}
-use Rattle.unit_streams.specs.Grammar.{TellsItsEnd}
-use Rattle.nbfx_values.specs.declared.session.Mode.{Mode}
-use Rattle.nbfx_values.specs.declared.session.Mode.TheVariants.{Singleton, Duplex, Simplex}
-use Rattle.nmf_records.specs.declared.frame.Frame.{Frame}
-use Rattle.nmf_records.specs.declared.frame.Frame.TheVariants as frames
-use Rattle.nmf_records.specs.declared.script.Direction.{Direction}
+use Rattle.std.proofs.Common.{◌≡◌, ℕ, ◌+◌, Bool, true, false, List, if◌then◌else◌, ◌==◌, Some, None}
+use Rattle.std.proofs.Common.{Option, sym, refl, ap, ◌∙◌}
+use Rattle.{unit_streams.specs.Grammar.TellsItsEnd, nbfx_values.specs.declared.session.Mode.Mode}
+use Rattle.nbfx_values.specs.declared.session.Mode.TheVariants.{Duplex, Simplex, Singleton}
+use Rattle.nmf_records.specs.declared.{frame.Frame.Frame, script.Direction.Direction}
 use Rattle.nmf_records.specs.declared.script.Direction.TheVariants.{FromInitiator, FromReceiver}
-use Rattle.nmf_records.specs.declared.script.Due.TheVariants as dues
 use Rattle.nmf_records.specs.Script.{behind_preamble, first}
-use Rattle.stream_reader.specs.Stream.{OpenPayload, Form, sized, chunked, last_chunk, Settings}
-use Rattle.stream_reader.specs.Stream.{Side, initiators, receivers, direction_of, Situation, Stage}
-use Rattle.stream_reader.specs.Stream.{record_due, chunk_due, payload_open, StreamUnit, frame}
-use Rattle.stream_reader.specs.Stream.{payload_byte, StreamEvent, opened, accepted, message, ended}
-use Rattle.stream_reader.specs.Stream.{peer_fault, ends, due_in, due_behind, led, on_open}
-use Rattle.stream_reader.specs.Stream.{on_payload, payload_by, behind_payload, with_byte}
-use Rattle.stream_reader.specs.Stream.{completed_payload, completed_bare, after_bare, after}
-use Rattle.stream_reader.specs.Stream.{completed, is_over_in, stream}
-use Rattle.stream_reader.proofs.Outcomes.{goes_on, wants_chunk, is_whole, is_refused, envelope_of}
-use Rattle.stream_reader.proofs.Outcomes.{outcome}
+use Rattle.stream_reader.specs.Stream.{accepted, after, after_bare, behind_payload, chunk_due}
+use Rattle.stream_reader.specs.Stream.{chunked, completed, completed_bare, completed_payload}
+use Rattle.stream_reader.specs.Stream.{direction_of, due_behind, due_in, ended, ends, Form, frame}
+use Rattle.stream_reader.specs.Stream.{initiators, is_over_in, last_chunk, led, message, on_open}
+use Rattle.stream_reader.specs.Stream.{on_payload, opened, OpenPayload, payload_by, payload_byte}
+use Rattle.stream_reader.specs.Stream.{payload_open, peer_fault, receivers, record_due, Settings}
+use Rattle.stream_reader.specs.Stream.{Side, Situation, sized, Stage, stream, StreamEvent}
+use Rattle.stream_reader.specs.Stream.{StreamUnit, with_byte}
+use Rattle.stream_reader.proofs.Outcomes.{envelope_of, goes_on, is_refused, is_whole, outcome}
+use Rattle.stream_reader.proofs.Outcomes.{wants_chunk}
+use Rattle.nmf_records.specs.declared.frame.Frame.TheVariants as frames
+use Rattle.nmf_records.specs.declared.script.Due.TheVariants as dues
 
 -- a situation is over as its stage is
 abbrev Over : Situation → Bool → Type 0

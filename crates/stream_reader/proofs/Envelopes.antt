@@ -1,40 +1,32 @@
 -- An envelope of one part, and one of chunks, is whole units, which bring its document.
-use Rattle.std.proofs.Common.{◌≡◌, ℕ, suc, ◌+◌, ◌-◌, ◌<◌, ◌≤◌, List, [], ◌∷◌, ◌++◌, length, take}
-use Rattle.std.proofs.Common.{Bool, true, false, Option, Some, None, refl, sym, ap, ◌∙◌, subst}
-use Rattle.std.proofs.Common.{arith, append_assoc, length-append}
-use Rattle.std.specs.Prelude.{◌==◌, if◌then◌else◌}
-use Rattle.std.specs.Option.{option_map, option_or, option_to_list}
-use Rattle.std.proofs.lemmas.Bool.{le-ltb, ne_eqb}
-use Rattle.std.proofs.lemmas.List.{append-nil, take-append-le, take_all}
-use Rattle.unit_streams.specs.Front.{whole}
-use Rattle.unit_streams.specs.Grammar.{standing}
-use Rattle.unit_streams.specs.Judging.{ending_at, refusal_at}
+use Rattle.std.proofs.Common.{◌≡◌, ℕ, suc, ◌+◌, ◌-◌, ◌<◌, ◌≤◌, Bool, true, false, List, [], ◌∷◌}
+use Rattle.std.proofs.Common.{◌++◌, length, take, if◌then◌else◌, ◌==◌, Some, None, Option}
+use Rattle.std.proofs.Common.{option_map, option_to_list, sym, refl, ap, ◌∙◌, subst, append_assoc}
+use Rattle.std.proofs.Common.{append-nil, arith, length-append, take_all, le-ltb, ne_eqb}
+use Rattle.std.{proofs.lemmas.List.take-append-le, specs.Option.option_or}
 use Rattle.unit_streams.proofs.Along.{Passes, passes_none, passes_then, passes_unit}
-use Rattle.nbfx_values.specs.declared.refusals.Reason.{Reason}
-use Rattle.nbfx_values.specs.declared.refusals.Reason.TheVariants.{MessageTooLarge}
-use Rattle.nmf_records.specs.declared.frame.Frame.TheVariants as frames
-use Rattle.nmf_records.specs.declared.script.Due.{Due}
-use Rattle.nmf_records.specs.declared.script.Due.TheVariants as dues
-use Rattle.nmf_records.specs.Records.{Read}
+use Rattle.unit_streams.specs.{Front.whole, Grammar.standing, Judging.ending_at, Judging.refusal_at}
+use Rattle.nbfx_values.specs.declared.refusals.Reason.{Reason, TheVariants.MessageTooLarge}
+use Rattle.nmf_records.specs.{declared.script.Due.Due, Records.Read, Script.may_come}
 use Rattle.nmf_records.specs.RecordFronts.{bare, MayCome}
-use Rattle.nmf_records.specs.Script.{may_come}
-use Rattle.stream_reader.specs.Stream.{OpenPayload, PayloadStanding, Form, sized, chunked}
-use Rattle.stream_reader.specs.Stream.{last_chunk, Settings, Situation, Stage, StreamEvent}
-use Rattle.stream_reader.specs.Stream.{record_due, chunk_due, payload_open, direction_of}
-use Rattle.stream_reader.specs.Stream.{is_over_in, frame, payload_byte, message, is_chunked, after}
-use Rattle.stream_reader.specs.Stream.{after_bare, behind_payload, completed, completed_bare}
-use Rattle.stream_reader.specs.Stream.{completed_payload, offence_at, offence_in, on_payload}
-use Rattle.stream_reader.specs.Stream.{payload_begun, payload_by, payload_in, reason_in, refusal_in}
-use Rattle.stream_reader.specs.Stream.{refused, refused_payload, refused_record, stream, too_large}
-use Rattle.stream_reader.specs.Stream.{unit_in, with_chunk}
-use Rattle.stream_reader.specs.Sessions.{IsBare, AreChunks, joined}
-use Rattle.stream_reader.proofs.Grammar.{readable}
+use Rattle.stream_reader.specs.Sessions.{AreChunks, IsBare, joined}
+use Rattle.stream_reader.specs.Stream.{after, after_bare, behind_payload, chunk_due, chunked}
+use Rattle.stream_reader.specs.Stream.{completed, completed_bare, completed_payload, direction_of}
+use Rattle.stream_reader.specs.Stream.{Form, frame, is_chunked, is_over_in, last_chunk, message}
+use Rattle.stream_reader.specs.Stream.{offence_at, offence_in, on_payload, OpenPayload}
+use Rattle.stream_reader.specs.Stream.{payload_begun, payload_by, payload_byte, payload_in}
+use Rattle.stream_reader.specs.Stream.{payload_open, PayloadStanding, reason_in, record_due}
+use Rattle.stream_reader.specs.Stream.{refusal_in, refused, refused_payload, refused_record}
+use Rattle.stream_reader.specs.Stream.{Settings, Situation, sized, Stage, stream, StreamEvent}
+use Rattle.stream_reader.specs.Stream.{too_large, unit_in, with_chunk}
 use Rattle.stream_reader.proofs.DueRecords.{chunk_comes, envelope_comes, record_unit}
-use Rattle.stream_reader.proofs.Outcomes.{HasAll, behind_whole, chunk_behind, envelope_of}
+use Rattle.stream_reader.proofs.{Grammar.readable, Situations.begun_behind, Situations.IsBehind}
+use Rattle.stream_reader.proofs.Outcomes.{behind_whole, chunk_behind, envelope_of, HasAll}
 use Rattle.stream_reader.proofs.Outcomes.{more_behind, more_completed, whole_behind}
 use Rattle.stream_reader.proofs.PayloadBytes.{behind_is, payload_behind, refusal_all}
 use Rattle.stream_reader.proofs.PayloadBytes.{refusal_before, refusal_between, with_byte_is}
-use Rattle.stream_reader.proofs.Situations.{IsBehind, begun_behind}
+use Rattle.nmf_records.specs.declared.frame.Frame.TheVariants as frames
+use Rattle.nmf_records.specs.declared.script.Due.TheVariants as dues
 
 -- bytes of a payload, of which none is refused, and their end
 pub record IsClean (x : Settings) (z : Situation) (payload : List ℕ) : Type 0 where

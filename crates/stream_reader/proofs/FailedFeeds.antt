@@ -1,25 +1,20 @@
 -- What a reader shows that has failed by its decoder.
-use Rattle.std.proofs.Common.{◌≡◌, ℕ, zero, suc, ◌<◌, ◌≤◌, inr, List, ◌++◌, take, Some, None, sym}
-use Rattle.std.proofs.Common.{ap, ◌∙◌, subst, arith}
-use Rattle.std.proofs.lemmas.List.{append-nil}
-use Rattle.unit_streams.specs.Grammar.{standing}
-use Rattle.unit_streams.specs.Judging.{refusal_at}
-use Rattle.string_tables.specs.SessionStrings.{used_cost}
+use Rattle.std.proofs.Common.{◌≡◌, ℕ, zero, suc, ◌<◌, ◌≤◌, List, ◌++◌, take, Some, None, sym, ap}
+use Rattle.std.proofs.Common.{◌∙◌, subst, inr, append-nil, arith}
+use Rattle.unit_streams.proofs.Pending.{pending_unrefused}
+use Rattle.unit_streams.specs.{Grammar.standing, Judging.refusal_at}
+use Rattle.{string_tables.specs.SessionStrings.used_cost, nbfx_decoder.proofs.StandsFacts.stands_as}
 use Rattle.nmf_records.specs.declared.reader.FrameReader.{FrameReader}
 use Rattle.nmf_records.specs.Reader.{ShowsText as FramesShowText}
-use Rattle.nbfx_decoder.specs.Payload.{Refusal, payload, Settings as PayloadSettings}
-use Rattle.nbfx_decoder.specs.declared.decoder.Decoder.{Decoder}
-use Rattle.nbfx_decoder.specs.declared.faults.DecodeFault.{DecodeFault}
+use Rattle.nbfx_decoder.specs.declared.{decoder.Decoder.Decoder, faults.DecodeFault.DecodeFault}
+use Rattle.nbfx_decoder.specs.DecoderState.{FailedBehind as DecoderFailedBehind}
 use Rattle.nbfx_decoder.specs.DecoderState.{settings_of as decoder_settings, situation_of}
 use Rattle.nbfx_decoder.specs.DecoderState.{StandsFor as DecoderStandsFor}
-use Rattle.nbfx_decoder.specs.DecoderState.{FailedBehind as DecoderFailedBehind}
-use Rattle.nbfx_decoder.proofs.StandsFacts.{stands_as}
-use Rattle.unit_streams.proofs.Pending.{pending_unrefused}
-use Rattle.stream_reader.specs.declared.reader.ReadRefusal.{ReadRefusal}
-use Rattle.stream_reader.specs.declared.reader.StreamReader.{StreamReader}
-use Rattle.stream_reader.specs.Stream.{Settings, Situation, payloads, stream, strings_in}
-use Rattle.stream_reader.specs.StreamReaderState.{Failed, Reached, ShowsTable, ShowsStrings}
-use Rattle.stream_reader.specs.StreamReaderState.{ShowsText, failure_of, messages_of, taken_of}
+use Rattle.nbfx_decoder.specs.Payload.{payload, Refusal, Settings as PayloadSettings}
+use Rattle.stream_reader.specs.declared.reader.{ReadRefusal.ReadRefusal, StreamReader.StreamReader}
+use Rattle.stream_reader.specs.Stream.{payloads, Settings, Situation, stream, strings_in}
+use Rattle.stream_reader.specs.StreamReaderState.{Failed, failure_of, messages_of, Reached}
+use Rattle.stream_reader.specs.StreamReaderState.{ShowsStrings, ShowsTable, ShowsText, taken_of}
 use Rattle.stream_reader.proofs.ReaderFacts.{cost_within}
 
 -- q shows what p does, but for the strings of these bytes of its payload

@@ -1,40 +1,33 @@
 -- A reader takes a piece, unit by unit.
-use Rattle.std.proofs.Common.{◌≡◌, ℕ, ◌+◌, ◌<◌, ◌≤◌, List, ◌++◌, length, take, drop, false, Some}
-use Rattle.std.proofs.Common.{None, Result, Ok, Err, refl, sym, ap, ◌∙◌, subst, arith, append_assoc}
-use Rattle.std.proofs.Common.{length-append}
-use Rattle.std.proofs.Math.Seq.{take-add, take-length}
-use Rattle.std.proofs.lemmas.Bool.{le-leb}
-use Rattle.std.proofs.lemmas.List.{append-nil, take-append-le, take-take, length-take-le}
-use Rattle.unit_streams.specs.Grammar.{standing}
-use Rattle.unit_streams.specs.Judging.{event_at, refusal_at, is_over_at, Answer, goes_on, completes}
-use Rattle.unit_streams.specs.Judging.{offends, answer, used}
-use Rattle.unit_streams.specs.Going.{IsQuiet, IsQuietBefore}
+use Rattle.std.proofs.Common.{◌≡◌, ℕ, ◌+◌, ◌<◌, ◌≤◌, false, List, ◌++◌, length, take, drop, Some}
+use Rattle.std.proofs.Common.{None, Ok, Err, Result, sym, refl, ap, ◌∙◌, subst, append_assoc}
+use Rattle.std.proofs.Common.{append-nil, arith, length-append, length-take-le, take-take, le-leb}
+use Rattle.std.proofs.{Math.Seq.take-add, Math.Seq.take-length, lemmas.List.take-append-le}
 use Rattle.unit_streams.proofs.Answers.{answers_are_first, quiet_none}
-use Rattle.unit_streams.proofs.Ends.{not_over_along}
-use Rattle.unit_streams.proofs.Passing.{refusal_from, going_refusal}
-use Rattle.unit_streams.proofs.Quiet.{quiet_joined, quiet_before_joined, quiet_behind}
-use Rattle.unit_streams.proofs.Quiet.{quiet_before_behind}
-use Rattle.nbfx_values.specs.declared.refusals.Offence.{Offence}
-use Rattle.nbfx_values.specs.declared.refusals.Reason.TheVariants.{SessionTooLong}
+use Rattle.unit_streams.proofs.{Ends.not_over_along, Quiet.quiet_joined}
+use Rattle.unit_streams.proofs.Passing.{going_refusal, refusal_from}
+use Rattle.unit_streams.proofs.Quiet.{quiet_before_behind, quiet_before_joined, quiet_behind}
+use Rattle.unit_streams.specs.{Going.IsQuiet, Going.IsQuietBefore, Grammar.standing}
+use Rattle.unit_streams.specs.Judging.{Answer, answer, completes, event_at, goes_on, is_over_at}
+use Rattle.unit_streams.specs.Judging.{offends, refusal_at, used}
+use Rattle.nbfx_values.specs.declared.refusals.{Offence.Offence, Reason.TheVariants.SessionTooLong}
 use Rattle.nmf_records.specs.declared.reader.FrameReader.{FrameReader}
 use Rattle.nmf_records.specs.Reader.{ShowsText as FramesShowText}
 use Rattle.nbfx_decoder.specs.declared.decoder.Decoder.{Decoder}
+use Rattle.stream_reader.specs.declared.reader.{ReadRefusal.ReadRefusal, StreamStep.StreamStep}
+use Rattle.stream_reader.specs.declared.reader.ReadRefusal.TheVariants.{Memory, Offence as Refused}
 use Rattle.stream_reader.specs.declared.reader.StreamReader.{StreamReader}
-use Rattle.stream_reader.specs.declared.reader.ReadRefusal.{ReadRefusal}
-use Rattle.stream_reader.specs.declared.reader.ReadRefusal.TheVariants.{Offence as Refused, Memory}
-use Rattle.stream_reader.specs.declared.reader.StreamStep.{StreamStep}
-use Rattle.stream_reader.specs.declared.reader.StreamStep.TheVariants as steps
-use Rattle.stream_reader.specs.Stream.{Settings, Stage, StreamEvent, ends, open_from, offence_at}
-use Rattle.stream_reader.specs.Stream.{is_over_in, too_long, stream, strings_in}
-use Rattle.stream_reader.specs.Saying.{Says, step_for, said}
-use Rattle.stream_reader.specs.StreamReaderState.{DecideNothing, Failed, FailsBy, HasPayloads}
-use Rattle.stream_reader.specs.StreamReaderState.{Reached, ShowsTable, ShowsStrings, ShowsText}
-use Rattle.stream_reader.specs.StreamReaderState.{StandsFor, failure_of, messages_of, settings_of}
+use Rattle.stream_reader.specs.Saying.{said, Says, step_for}
+use Rattle.stream_reader.specs.Stepping.{KeepsShown, taken_since, UnitAnswers}
+use Rattle.stream_reader.specs.Stream.{ends, is_over_in, offence_at, open_from, Settings, Stage}
+use Rattle.stream_reader.specs.Stream.{stream, StreamEvent, strings_in, too_long}
+use Rattle.stream_reader.specs.StreamReaderState.{DecideNothing, Failed, FailsBy, failure_of}
+use Rattle.stream_reader.specs.StreamReaderState.{HasPayloads, messages_of, Reached, settings_of}
+use Rattle.stream_reader.specs.StreamReaderState.{ShowsStrings, ShowsTable, ShowsText, StandsFor}
 use Rattle.stream_reader.specs.StreamReaderState.{taken_of}
-use Rattle.stream_reader.specs.Stepping.{KeepsShown, UnitAnswers, taken_since}
+use Rattle.stream_reader.proofs.{Ending.tells, ReaderFacts.failed_as_set}
 use Rattle.stream_reader.proofs.Grammar.{readable, short_enough}
-use Rattle.stream_reader.proofs.Ending.{tells}
-use Rattle.stream_reader.proofs.ReaderFacts.{failed_as_set}
+use Rattle.stream_reader.specs.declared.reader.StreamStep.TheVariants as steps
 
 -- it has come k bytes of y behind p, which decided nothing
 pub record Along (r : StreamReader) (x : Settings) (p y : List ℕ) (k : ℕ) : Type 0 where

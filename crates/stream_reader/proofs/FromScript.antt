@@ -1,33 +1,25 @@
 -- The records of a script, with the payloads of documents, are a session.
-use Rattle.std.proofs.Common.{◌≡◌, ℕ, zero, suc, ◌<◌, ◌≤◌, List, [], ◌∷◌, ◌++◌, map, length, Option}
-use Rattle.std.proofs.Common.{refl, sym, ap, ◌∙◌, subst, inl, inr, append_assoc, arith}
-use Rattle.std.specs.Prelude.{All}
-use Rattle.std.proofs.lemmas.List.{append-nil}
-use Rattle.std.proofs.lemmas.List.Elements.{All-head, All-tail}
-use Rattle.nbfx_values.specs.declared.content.Item.{Item}
-use Rattle.nbfx_values.specs.declared.session.Kind.{Kind}
-use Rattle.nbfx_values.specs.declared.session.Kind.TheVariants.{Plain, Session}
-use Rattle.nbfx_values.specs.declared.session.Mode.{Mode}
-use Rattle.nbfx_values.specs.declared.session.Mode.TheVariants.{Singleton, Duplex, Simplex}
-use Rattle.nbfx_values.specs.Session.{mode_number, kind_number}
-use Rattle.nbfx_decoder.specs.Laws.{IsWholePayload}
-use Rattle.nmf_records.specs.declared.frame.Frame.{Frame}
-use Rattle.nmf_records.specs.declared.frame.Frame.TheVariants as frames
-use Rattle.nmf_records.specs.declared.script.Direction.{Direction}
+use Rattle.std.proofs.Common.{◌≡◌, ℕ, zero, suc, ◌<◌, ◌≤◌, List, [], ◌∷◌, ◌++◌, map, length, All}
+use Rattle.std.proofs.Common.{Option, sym, refl, ap, ◌∙◌, subst, inl, inr, append_assoc, append-nil}
+use Rattle.std.proofs.{Common.arith, lemmas.List.Elements.All-head, lemmas.List.Elements.All-tail}
+use Rattle.nbfx_values.specs.declared.{content.Item.Item, session.Mode.Mode}
+use Rattle.nbfx_values.specs.declared.session.Kind.{Kind, TheVariants.Plain, TheVariants.Session}
+use Rattle.nbfx_values.specs.declared.session.Mode.TheVariants.{Duplex, Simplex, Singleton}
+use Rattle.nbfx_values.specs.Session.{kind_number, mode_number}
+use Rattle.nmf_records.specs.declared.{frame.Frame.Frame, script.Direction.Direction}
 use Rattle.nmf_records.specs.declared.script.Direction.TheVariants.{FromInitiator, FromReceiver}
-use Rattle.nmf_records.specs.Records.{IsRecordOf}
+use Rattle.nmf_records.specs.{Records.IsRecordOf, Script.IsUnsized as IsUnsizedScript}
 use Rattle.nmf_records.specs.Script.{AreEnvelopes, AreSized, IsInitiatorsScript, IsScript}
-use Rattle.nmf_records.specs.Script.{IsUnsized as IsUnsizedScript}
-use Rattle.stream_reader.specs.Stream.{Settings, Side, initiators, receivers, direction_of, kind_of}
-use Rattle.stream_reader.specs.Stream.{payloads, serves}
-use Rattle.stream_reader.specs.Sessions.{AreChunks, Carried, CarriesAll, CarriesThen, HasParts}
-use Rattle.stream_reader.specs.Sessions.{IsAckThen, IsBare, IsEnvelopeIn, IsFault, IsSized}
-use Rattle.stream_reader.specs.Sessions.{IsWithin, MayCarry, Parts, answer, broken_off}
-use Rattle.stream_reader.specs.Sessions.{conversation, joined, lone_ack, turned_down}
-use Rattle.stream_reader.specs.Scripts.{BeginsWith, Context, HasScript, IsModeOf, IsShort}
-use Rattle.stream_reader.specs.Scripts.{first_context}
+use Rattle.{nbfx_decoder.specs.Laws.IsWholePayload, stream_reader.proofs.ScriptParts.cut_envelopes}
+use Rattle.stream_reader.specs.Scripts.{BeginsWith, Context, first_context, HasScript, IsModeOf}
+use Rattle.stream_reader.specs.{Scripts.IsShort, Stream.serves, Stream.Settings, Stream.Side}
+use Rattle.stream_reader.specs.Sessions.{answer, AreChunks, broken_off, Carried, CarriesAll}
+use Rattle.stream_reader.specs.Sessions.{CarriesThen, conversation, HasParts, IsAckThen, IsBare}
+use Rattle.stream_reader.specs.Sessions.{IsEnvelopeIn, IsFault, IsSized, IsWithin, joined, lone_ack}
+use Rattle.stream_reader.specs.Sessions.{MayCarry, Parts, turned_down}
+use Rattle.stream_reader.specs.Stream.{direction_of, initiators, kind_of, payloads, receivers}
 use Rattle.stream_reader.proofs.RightRecords.{right_encoding, right_version, right_via}
-use Rattle.stream_reader.proofs.ScriptParts.{cut_envelopes}
+use Rattle.nmf_records.specs.declared.frame.Frame.TheVariants as frames
 
 -- what payloads are under a known encoding
 pub kind_is : (kind : Kind) → kind_of (kind_number kind) ≡ kind

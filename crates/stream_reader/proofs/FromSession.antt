@@ -1,42 +1,33 @@
 -- A session is whole units, which bring its events.
-use Rattle.std.proofs.Common.{◌≡◌, ℕ, ◌+◌, ◌≤◌, List, [], ◌∷◌, ◌++◌, length, Bool, true, false}
-use Rattle.std.proofs.Common.{Option, Some, None, refl, sym, ap, ◌∙◌, subst, arith}
-use Rattle.std.specs.Prelude.{if◌then◌else◌}
-use Rattle.std.specs.Option.{option_map, option_or}
-use Rattle.std.proofs.lemmas.List.{append-nil}
-use Rattle.unit_streams.specs.Grammar.{standing}
-use Rattle.unit_streams.proofs.Offences.{no_offence}
+use Rattle.std.proofs.Common.{◌≡◌, ℕ, ◌+◌, ◌≤◌, Bool, true, false, List, [], ◌∷◌, ◌++◌, length}
+use Rattle.std.proofs.Common.{if◌then◌else◌, Some, None, Option, option_map, sym, refl, ap, ◌∙◌}
+use Rattle.std.proofs.Common.{subst, append-nil, arith}
+use Rattle.{std.specs.Option.option_or, nbfx_decoder.proofs.PayloadLaws.payloads_are_accepted}
 use Rattle.unit_streams.proofs.Along.{Passes, passes_none, passes_then, passes_unit}
-use Rattle.nbfx_values.specs.Limits.{IsGood, Limits}
-use Rattle.nbfx_values.specs.declared.content.Item.{Item}
-use Rattle.nbfx_values.specs.declared.session.Mode.{Mode}
-use Rattle.nbfx_values.specs.declared.session.Mode.TheVariants.{Singleton, Duplex, Simplex}
-use Rattle.nbfx_values.specs.declared.session.Kind.{Kind}
-use Rattle.nbfx_values.specs.declared.session.Kind.TheVariants.{Plain, Session}
+use Rattle.unit_streams.{proofs.Offences.no_offence, specs.Grammar.standing}
+use Rattle.string_tables.specs.{SessionStrings.used_cost, StaticStrings.Entry}
+use Rattle.nbfx_values.specs.declared.{content.Item.Item, session.Mode.Mode}
 use Rattle.nbfx_values.specs.declared.refusals.Reason.TheVariants.{EndpointNotFound}
+use Rattle.nbfx_values.specs.declared.session.Kind.{Kind, TheVariants.Plain, TheVariants.Session}
+use Rattle.nbfx_values.specs.declared.session.Mode.TheVariants.{Duplex, Simplex, Singleton}
+use Rattle.nbfx_values.specs.Limits.{IsGood, Limits}
 use Rattle.nbfx_values.specs.Session.{kind_number, mode_number}
-use Rattle.string_tables.specs.SessionStrings.{used_cost}
-use Rattle.string_tables.specs.StaticStrings.{Entry}
-use Rattle.nmf_records.specs.declared.frame.Frame.TheVariants as frames
-use Rattle.nmf_records.specs.declared.script.Direction.{Direction}
+use Rattle.nmf_records.specs.declared.script.{Direction.Direction, Due.Due}
 use Rattle.nmf_records.specs.declared.script.Direction.TheVariants.{FromInitiator, FromReceiver}
-use Rattle.nmf_records.specs.declared.script.Due.{Due}
-use Rattle.nmf_records.specs.declared.script.Due.TheVariants as dues
-use Rattle.nmf_records.specs.Records.{IsRecordOf}
-use Rattle.nmf_records.specs.RecordFronts.{bare, comes, with_text, MayCome}
-use Rattle.nmf_records.specs.Script.{behind_preamble, may_come}
+use Rattle.nmf_records.specs.RecordFronts.{bare, comes, MayCome, with_text}
+use Rattle.nmf_records.specs.{Records.IsRecordOf, Script.behind_preamble, Script.may_come}
 use Rattle.nbfx_decoder.specs.Laws.{IsDecoded, IsWholePayload}
-use Rattle.nbfx_decoder.proofs.PayloadLaws.{payloads_are_accepted}
-use Rattle.stream_reader.specs.Stream.{Settings, initiators, direction_of, serves, Situation, Stage}
-use Rattle.stream_reader.specs.Stream.{record_due, beginning, frame, opened, message, ended}
-use Rattle.stream_reader.specs.Stream.{peer_fault, after, completed, offence_at, payload_in}
-use Rattle.stream_reader.specs.Stream.{payloads, refused, is_over_in, stream}
-use Rattle.stream_reader.specs.Sessions.{IsBare, IsPreamble, IsSized, IsUnsized, IsEnvelopeIn}
-use Rattle.stream_reader.specs.Sessions.{joined, Carried, CarriesAll, MayCarry, IsFault}
-use Rattle.stream_reader.specs.Sessions.{envelope_of, message_events}
-use Rattle.stream_reader.proofs.Grammar.{readable}
-use Rattle.stream_reader.proofs.DueRecords.{record_unit}
+use Rattle.stream_reader.specs.Sessions.{Carried, CarriesAll, envelope_of, IsBare, IsEnvelopeIn}
+use Rattle.stream_reader.specs.Sessions.{IsFault, IsPreamble, IsSized, IsUnsized, joined, MayCarry}
+use Rattle.stream_reader.specs.Sessions.{message_events}
+use Rattle.stream_reader.specs.Stream.{after, beginning, completed, direction_of, ended, frame}
+use Rattle.stream_reader.specs.Stream.{initiators, is_over_in, message, offence_at, opened}
+use Rattle.stream_reader.specs.Stream.{payload_in, payloads, peer_fault, record_due, refused}
+use Rattle.stream_reader.specs.Stream.{serves, Settings, Situation, Stage, stream}
+use Rattle.stream_reader.proofs.{DueRecords.record_unit, Grammar.readable}
 use Rattle.stream_reader.proofs.Envelopes.{IsClean, sized_passes, unsized_passes}
+use Rattle.nmf_records.specs.declared.frame.Frame.TheVariants as frames
+use Rattle.nmf_records.specs.declared.script.Due.TheVariants as dues
 
 abbrev pub at : Stage → Mode → Kind → List ℕ → ℕ → List (List ℕ) → Situation
 at stage mode kind text messages strings = record {

@@ -1,25 +1,19 @@
 -- The grammar of a stream: each unit is known by its own bytes, and behind the end nothing is
 -- judged.
-use Rattle.std.proofs.Common.{◌≡◌, ℕ, ◌<◌, inl, List, [], Bool, true, false, Some, None, refl, ap}
-use Rattle.std.specs.Prelude.{nat_le, ◌&&◌, not, if◌then◌else◌}
-use Rattle.std.proofs.lemmas.Bool.{lt-leb, leb-false}
-use Rattle.unit_streams.specs.Front.{begun, ReadsFront}
-use Rattle.unit_streams.specs.Parts.{a_byte, seen}
-use Rattle.unit_streams.specs.Grammar.{IsReadable, IsQuietWhenOver}
-use Rattle.unit_streams.proofs.Fronts.{reads_by}
-use Rattle.unit_streams.proofs.Parts.{reads_byte, reads_seen}
-use Rattle.nbfx_values.specs.declared.refusals.Offence.{Offence}
-use Rattle.nbfx_values.specs.declared.refusals.Reason.TheVariants.{SessionTooLong}
-use Rattle.nbfx_values.specs.declared.session.Mode.{Mode}
-use Rattle.nmf_records.specs.declared.script.Due.{Due}
-use Rattle.nmf_records.specs.declared.script.Due.TheVariants as dues
-use Rattle.nmf_records.specs.RecordFronts.{frame_at}
-use Rattle.nmf_records.specs.Script.{may_come}
+use Rattle.std.proofs.Common.{◌≡◌, ℕ, ◌<◌, Bool, true, false, not, ◌&&◌, List, [], if◌then◌else◌}
+use Rattle.std.proofs.Common.{nat_le, Some, None, refl, ap, inl, leb-false}
+use Rattle.{std.proofs.lemmas.Bool.lt-leb, nbfx_values.specs.declared.session.Mode.Mode}
+use Rattle.unit_streams.proofs.{Fronts.reads_by, Parts.reads_byte, Parts.reads_seen}
+use Rattle.unit_streams.specs.{Front.begun, Front.ReadsFront, Parts.a_byte, Parts.seen}
+use Rattle.unit_streams.specs.Grammar.{IsQuietWhenOver, IsReadable}
+use Rattle.nbfx_values.specs.declared.refusals.{Offence.Offence, Reason.TheVariants.SessionTooLong}
 use Rattle.nmf_records.proofs.Frames.{frame_peels, frames_front}
-use Rattle.stream_reader.specs.Stream.{Settings, Stage, direction_of, record_due, chunk_due}
-use Rattle.stream_reader.specs.Stream.{payload_open, StreamUnit, frame, payload_byte, reason_of}
-use Rattle.stream_reader.specs.Stream.{offence_at, due_record_at, payload_at, unit_in, is_over_in}
-use Rattle.stream_reader.specs.Stream.{open_from, too_long, cut_off, stream}
+use Rattle.nmf_records.specs.{declared.script.Due.Due, RecordFronts.frame_at, Script.may_come}
+use Rattle.stream_reader.specs.Stream.{chunk_due, cut_off, direction_of, due_record_at, frame}
+use Rattle.stream_reader.specs.Stream.{is_over_in, offence_at, open_from, payload_at, payload_byte}
+use Rattle.stream_reader.specs.Stream.{payload_open, reason_of, record_due, Settings, Stage, stream}
+use Rattle.stream_reader.specs.Stream.{StreamUnit, too_long, unit_in}
+use Rattle.nmf_records.specs.declared.script.Due.TheVariants as dues
 
 -- where nothing is read
 reads_nothing : ReadsFront {A = StreamUnit} {R = Offence} (λ bytes. begun)

@@ -1,46 +1,36 @@
 -- Where the input may end in a stream that isn't over: behind the Ack alone of a receiver in
 -- simplex
 -- mode.
-use Rattle.std.proofs.Common.{◌≡◌, ℕ, List, [], ◌∷◌, ◌++◌, length, Bool, true, false, Option, Some}
-use Rattle.std.proofs.Common.{None, refl, sym, ap, ◌∙◌, subst, arith}
-use Rattle.std.specs.Prelude.{◌==◌, ◌&&◌, if◌then◌else◌}
-use Rattle.std.proofs.lemmas.Bool.{eqb-true}
-use Rattle.std.proofs.lemmas.List.{nil_from_length, take_all}
-use Rattle.unit_streams.specs.Front.{whole}
-use Rattle.unit_streams.specs.Grammar.{Standing, standing}
-use Rattle.unit_streams.specs.Judging.{ending_at, is_over_at}
-use Rattle.unit_streams.specs.Refusals.{AreUnits}
-use Rattle.unit_streams.proofs.Refusals.{unit_standing}
+use Rattle.std.proofs.Common.{◌≡◌, ℕ, Bool, true, false, ◌&&◌, List, [], ◌∷◌, ◌++◌, length}
+use Rattle.std.proofs.Common.{if◌then◌else◌, ◌==◌, Some, None, Option, sym, refl, ap, ◌∙◌, subst}
+use Rattle.std.proofs.{Common.arith, Common.take_all, Common.eqb-true, lemmas.List.nil_from_length}
+use Rattle.{unit_streams.proofs.Refusals.unit_standing, nmf_records.specs.Records.IsRecordOf}
 use Rattle.unit_streams.proofs.Standing.{standing_keeps, standing_length, standing_nothing}
+use Rattle.unit_streams.specs.{Front.whole, Grammar.Standing, Grammar.standing, Refusals.AreUnits}
+use Rattle.unit_streams.specs.Judging.{ending_at, is_over_at}
 use Rattle.nbfx_values.specs.declared.refusals.Offence.{Offence}
-use Rattle.nbfx_values.specs.declared.refusals.Reason.TheVariants as reasons
-use Rattle.nbfx_values.specs.declared.session.Kind.{Kind}
-use Rattle.nbfx_values.specs.declared.session.Mode.{Mode}
-use Rattle.nbfx_values.specs.declared.session.Mode.TheVariants.{Singleton, Duplex, Simplex}
-use Rattle.nmf_records.specs.declared.frame.Frame.{Frame}
-use Rattle.nmf_records.specs.declared.frame.Frame.TheVariants as frames
-use Rattle.nmf_records.specs.declared.record_types.TheConstants.{PREAMBLE_ACK}
-use Rattle.nmf_records.specs.declared.script.Direction.{Direction}
+use Rattle.nbfx_values.specs.declared.session.{Kind.Kind, Mode.Mode}
+use Rattle.nbfx_values.specs.declared.session.Mode.TheVariants.{Duplex, Simplex, Singleton}
+use Rattle.nmf_records.specs.declared.{frame.Frame.Frame, record_types.TheConstants.PREAMBLE_ACK}
+use Rattle.nmf_records.specs.declared.script.{Direction.Direction, Due.Due}
 use Rattle.nmf_records.specs.declared.script.Direction.TheVariants.{FromInitiator, FromReceiver}
-use Rattle.nmf_records.specs.declared.script.Due.{Due}
-use Rattle.nmf_records.specs.declared.script.Due.TheVariants as dues
-use Rattle.nmf_records.specs.Records.{IsRecordOf}
 use Rattle.nmf_records.specs.RecordFronts.{bare, comes, MayCome}
 use Rattle.nmf_records.specs.Script.{behind_preamble, first, may_come, may_end}
-use Rattle.stream_reader.specs.Stream.{OpenPayload, Form, sized, chunked, last_chunk, Settings}
-use Rattle.stream_reader.specs.Stream.{Side, initiators, receivers, direction_of, Situation, Stage}
-use Rattle.stream_reader.specs.Stream.{record_due, chunk_due, payload_open, StreamUnit, frame}
-use Rattle.stream_reader.specs.Stream.{StreamEvent, unit_in, due_in, due_behind, led, on_open}
-use Rattle.stream_reader.specs.Stream.{on_payload, payload_by, behind_payload, with_byte}
-use Rattle.stream_reader.specs.Stream.{after_bare, after, beginning, is_over_in, may_end_in}
-use Rattle.stream_reader.specs.Stream.{cut_off, offence_at, open_from, stream}
 use Rattle.stream_reader.specs.Reasons.{IsLoneAck}
-use Rattle.stream_reader.proofs.Coming.{unit_of_record, unit_of_chunk, unit_of_payload}
-use Rattle.stream_reader.proofs.DueRecords.{version_due, mode_due, record_unit}
-use Rattle.stream_reader.proofs.Grammar.{readable}
-use Rattle.stream_reader.proofs.Outcomes.{goes_on, wants_chunk, is_whole, is_refused, outcome}
-use Rattle.stream_reader.proofs.Outcomes.{mode_behind}
-use Rattle.stream_reader.proofs.Prefixes.{units_keep}
+use Rattle.stream_reader.specs.Stream.{after, after_bare, beginning, behind_payload, chunk_due}
+use Rattle.stream_reader.specs.Stream.{chunked, cut_off, direction_of, due_behind, due_in, Form}
+use Rattle.stream_reader.specs.Stream.{frame, initiators, is_over_in, last_chunk, led, may_end_in}
+use Rattle.stream_reader.specs.Stream.{offence_at, on_open, on_payload, open_from, OpenPayload}
+use Rattle.stream_reader.specs.Stream.{payload_by, payload_open, receivers, record_due, Settings}
+use Rattle.stream_reader.specs.Stream.{Side, Situation, sized, Stage, stream, StreamEvent}
+use Rattle.stream_reader.specs.Stream.{StreamUnit, unit_in, with_byte}
+use Rattle.stream_reader.proofs.Coming.{unit_of_chunk, unit_of_payload, unit_of_record}
+use Rattle.stream_reader.proofs.DueRecords.{mode_due, record_unit, version_due}
+use Rattle.stream_reader.proofs.{Grammar.readable, Outcomes.wants_chunk, Prefixes.units_keep}
+use Rattle.stream_reader.proofs.Outcomes.{goes_on, is_refused, is_whole, mode_behind, outcome}
+use Rattle.nbfx_values.specs.declared.refusals.Reason.TheVariants as reasons
+use Rattle.nmf_records.specs.declared.frame.Frame.TheVariants as frames
+use Rattle.nmf_records.specs.declared.script.Due.TheVariants as dues
 
 -- no Version or Mode record is due
 abbrev IsBehindMode : Stage → Type 0

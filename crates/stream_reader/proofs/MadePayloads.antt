@@ -1,35 +1,25 @@
 -- What may come where a record or a size is due, and the payload that it makes or resumes.
-use Rattle.std.proofs.Common.{◌≡◌, ℕ, ◌+◌, ◌<◌, ◌≤◌, List, [], Bool, true, false, Option, Some}
-use Rattle.std.proofs.Common.{None, refl, sym, ap, ◌∙◌, arith}
-use Rattle.std.specs.Prelude.{nat_lt, if◌then◌else◌}
-use Rattle.std.proofs.lemmas.Bool.{ltb-true, ltb-false}
-use Rattle.unit_streams.specs.Grammar.{at_start}
-use Rattle.nbfx_values.specs.Limits.{Limits}
+use Rattle.std.proofs.Common.{◌≡◌, ℕ, ◌+◌, ◌<◌, ◌≤◌, Bool, true, false, List, [], if◌then◌else◌}
+use Rattle.std.proofs.Common.{nat_lt, Some, None, Option, sym, refl, ap, ◌∙◌, arith, ltb-false}
+use Rattle.{std.proofs.Common.ltb-true, unit_streams.specs.Grammar.at_start}
+use Rattle.nbfx_values.specs.declared.{limits.Quotas.Quotas, refusals.Reason.Reason}
+use Rattle.nbfx_values.specs.{declared.session.Kind.TheVariants.Session, Limits.Limits}
 use Rattle.nbfx_values.specs.QuotasOf.{limits_of}
-use Rattle.nbfx_values.specs.declared.limits.Quotas.{Quotas}
-use Rattle.nbfx_values.specs.declared.session.Kind.TheVariants.{Session}
-use Rattle.nbfx_values.specs.declared.refusals.Reason.{Reason}
+use Rattle.nmf_records.specs.{declared.frame.Frame.Frame, RecordFronts.MayCome, Script.may_come}
+use Rattle.nmf_records.specs.declared.script.{Direction.Direction, Due.Due}
+use Rattle.nbfx_decoder.specs.{declared.decoder.Decoder.Decoder, Payload.payload}
+use Rattle.stream_reader.specs.declared.awaited.{Awaited.Awaited, PayloadLeft.PayloadLeft}
+use Rattle.stream_reader.{specs.Bounds.IsBounded, proofs.Bounded.bounded_at}
+use Rattle.stream_reader.specs.Stepping.{begun_by, begun_with, due_of, MakesPayload, with_size}
+use Rattle.stream_reader.specs.Stream.{chunk_due, OpenPayload, payload_open, payloads, reason_in}
+use Rattle.stream_reader.specs.Stream.{record_due, Settings, Stage, too_large}
+use Rattle.stream_reader.specs.StreamReaderState.{Awaits, form_of}
+use Rattle.stream_reader.proofs.Texts.{reads_record, reads_size, ReadsDue}
 use Rattle.nbfx_values.specs.declared.refusals.Reason.TheVariants as reasons
-use Rattle.nmf_records.specs.declared.frame.Frame.{Frame}
 use Rattle.nmf_records.specs.declared.frame.Frame.TheVariants as frames
-use Rattle.nmf_records.specs.declared.script.Direction.{Direction}
-use Rattle.nmf_records.specs.declared.script.Due.{Due}
 use Rattle.nmf_records.specs.declared.script.Due.TheVariants as dues
-use Rattle.nmf_records.specs.RecordFronts.{MayCome}
-use Rattle.nmf_records.specs.Script.{may_come}
-use Rattle.nbfx_decoder.specs.Payload.{payload}
-use Rattle.nbfx_decoder.specs.declared.decoder.Decoder.{Decoder}
-use Rattle.stream_reader.specs.declared.awaited.Awaited.{Awaited}
 use Rattle.stream_reader.specs.declared.awaited.Awaited.TheVariants as awaits
 use Rattle.stream_reader.specs.declared.awaited.Form.TheVariants as forms
-use Rattle.stream_reader.specs.declared.awaited.PayloadLeft.{PayloadLeft}
-use Rattle.stream_reader.specs.Stream.{OpenPayload, Settings, Stage, record_due, chunk_due}
-use Rattle.stream_reader.specs.Stream.{payload_open, payloads, reason_in, too_large}
-use Rattle.stream_reader.specs.StreamReaderState.{Awaits, form_of}
-use Rattle.stream_reader.specs.Stepping.{MakesPayload, begun_by, begun_with, due_of, with_size}
-use Rattle.stream_reader.specs.Bounds.{IsBounded}
-use Rattle.stream_reader.proofs.Bounded.{bounded_at}
-use Rattle.stream_reader.proofs.Texts.{ReadsDue, reads_record, reads_size}
 
 -- a size that isn't refused, and one that is
 sized_by : (x : Settings) (size : ℕ) (v : Option Reason) → too_large x size ≡ v → (b : Bool)

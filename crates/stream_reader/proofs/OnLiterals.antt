@@ -1,15 +1,14 @@
 -- What the worked streams stand on: the definitions that they unfold, static strings, quotas, and a
 -- preamble.
-use Rattle.std.proofs.Common.{ℕ, List, [], ◌∷◌, ◌++◌}
-use Rattle.std.specs.Prelude.{⊤, codes}
-use Rattle.unit_streams.specs.Judging.{events, events_in, events_of, is_over_at, answer_from}
-use Rattle.unit_streams.specs.Judging.{answer}
-use Rattle.multibyte_ints.specs.Text.{string_at, text_behind, text_at, text_ending_at}
-use Rattle.unit_streams.specs.Grammar.{resumed}
+use Rattle.std.proofs.Common.{ℕ, List, [], ◌∷◌, ◌++◌, codes}
+use Rattle.std.specs.Prelude.{⊤}
+use Rattle.unit_streams.specs.{Grammar.resumed, Judging.is_over_at}
+use Rattle.unit_streams.specs.Judging.{answer, answer_from, events, events_in, events_of}
+use Rattle.multibyte_ints.specs.Text.{string_at, text_at, text_behind, text_ending_at}
 use Rattle.nbfx_values.specs.Limits.{limits, usual_limits}
-use Rattle.nbfx_decoder.proofs.OnLiterals.{payloads_on_literals, envelope_strings}
-use Rattle.stream_reader.specs.Stream.{Settings, any_initiators, unit_in, after, completed, refused}
-use Rattle.stream_reader.specs.Stream.{too_long, cut_off}
+use Rattle.nbfx_decoder.proofs.OnLiterals.{envelope_strings, payloads_on_literals}
+use Rattle.stream_reader.specs.Stream.{after, any_initiators, completed, cut_off, refused, Settings}
+use Rattle.stream_reader.specs.Stream.{too_long, unit_in}
 
 -- what a proof unfolds to compute streams
 unfoldable pub streams_on_literals : ⊤

@@ -1,14 +1,12 @@
 -- Where bytes of a payload lead: there are more to come of its chunk, or another chunk is, or they
 -- are
 -- all and a document, or refused.
-use Rattle.std.proofs.Common.{◌≡◌, ℕ, ◌+◌, ◌<◌, Bool, true, false, Option, Some, None, refl, sym}
-use Rattle.std.proofs.Common.{ap, ◌∙◌, arith}
-use Rattle.std.specs.Prelude.{◌==◌}
-use Rattle.std.proofs.lemmas.Bool.{eqb-true, eqb-false}
-use Rattle.nbfx_decoder.specs.Payload.{Refusal}
-use Rattle.stream_reader.specs.Stream.{Envelope, OpenPayload, Settings, Situation, record_due}
-use Rattle.stream_reader.specs.Stream.{chunk_due, payload_open, due_behind, is_chunked, message}
-use Rattle.stream_reader.specs.Stream.{refusal_in, behind_payload, completed_payload, strings_in}
+use Rattle.std.proofs.Common.{◌≡◌, ℕ, ◌+◌, ◌<◌, Bool, true, false, ◌==◌, Some, None, Option, sym}
+use Rattle.std.proofs.Common.{refl, ap, ◌∙◌, arith, eqb-true}
+use Rattle.{std.proofs.lemmas.Bool.eqb-false, nbfx_decoder.specs.Payload.Refusal}
+use Rattle.stream_reader.specs.Stream.{behind_payload, chunk_due, completed_payload, due_behind}
+use Rattle.stream_reader.specs.Stream.{Envelope, is_chunked, message, OpenPayload, payload_open}
+use Rattle.stream_reader.specs.Stream.{record_due, refusal_in, Settings, Situation, strings_in}
 
 -- the envelope that such a payload is, where it has all its bytes
 abbrev pub envelope_of : Situation → OpenPayload → Envelope

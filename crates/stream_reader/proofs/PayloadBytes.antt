@@ -1,37 +1,31 @@
 -- Bytes of a payload in a stream of either side: where they lead, what they complete and why they
 -- are
 -- refused is said by the payload's own grammar.
-use Rattle.std.proofs.Common.{◌≡◌, ℕ, ◌+◌, ◌-◌, ◌<◌, ◌≤◌, inl, inr, List, [], ◌∷◌, ◌++◌, length}
-use Rattle.std.proofs.Common.{take, zero, suc, Bool, Option, Some, None, false, true, refl, sym, ap}
-use Rattle.std.proofs.Common.{◌∙◌, subst, arith, append_assoc, length-append}
-use Rattle.std.specs.Prelude.{◌==◌, ◌&&◌, not, if◌then◌else◌}
-use Rattle.std.specs.Option.{option_map, option_or}
-use Rattle.std.proofs.Math.Nat.{eq-or-lt_of_le}
-use Rattle.std.proofs.lemmas.Bool.{ne_eqb}
-use Rattle.std.proofs.lemmas.List.{append-nil, length-take-le}
-use Rattle.unit_streams.specs.Front.{whole, wrong_of}
+use Rattle.std.proofs.Common.{◌≡◌, ℕ, zero, suc, ◌+◌, ◌-◌, ◌<◌, ◌≤◌, Bool, true, false, not, ◌&&◌}
+use Rattle.std.proofs.Common.{List, [], ◌∷◌, ◌++◌, length, take, if◌then◌else◌, ◌==◌, Some, None}
+use Rattle.std.proofs.Common.{Option, option_map, sym, refl, ap, ◌∙◌, subst, inl, inr, append_assoc}
+use Rattle.std.proofs.Common.{append-nil, arith, length-append, length-take-le, ne_eqb}
+use Rattle.std.{proofs.Math.Nat.eq-or-lt_of_le, specs.Option.option_or}
+use Rattle.unit_streams.proofs.Passing.{event_from, going_refusal, refusal_from}
+use Rattle.{unit_streams.proofs.Refusals.unit_standing, nmf_records.specs.Records.Read}
+use Rattle.unit_streams.proofs.Standing.{standing_append, standing_length}
+use Rattle.unit_streams.specs.{Front.whole, Front.wrong_of, Refusals.AreUnits}
+use Rattle.unit_streams.specs.Going.{IsGoing, IsQuiet, IsQuietBefore}
 use Rattle.unit_streams.specs.Grammar.{Standing, standing}
 use Rattle.unit_streams.specs.Judging.{ending_at, event_at, refusal_at, refusal_of}
-use Rattle.unit_streams.specs.Going.{IsGoing, IsQuiet, IsQuietBefore}
-use Rattle.unit_streams.specs.Refusals.{AreUnits}
-use Rattle.unit_streams.proofs.Passing.{event_from, going_refusal, refusal_from}
-use Rattle.unit_streams.proofs.Refusals.{unit_standing}
-use Rattle.unit_streams.proofs.Standing.{standing_append, standing_length}
 use Rattle.nbfx_values.specs.declared.refusals.Offence.{Offence}
-use Rattle.nmf_records.specs.Records.{Read}
-use Rattle.nbfx_decoder.specs.Payload.{Refusal}
-use Rattle.nbfx_decoder.proofs.Readable.{readable as payload_readable}
-use Rattle.stream_reader.specs.Stream.{OpenPayload, PayloadStanding, Settings, Situation, Stage}
-use Rattle.stream_reader.specs.Stream.{StreamEvent, message, chunk_due, payload_open, frame}
-use Rattle.stream_reader.specs.Stream.{payload_byte, is_chunked, after, behind_payload, completed}
-use Rattle.stream_reader.specs.Stream.{completed_bare, completed_payload, after_bare, on_open}
-use Rattle.stream_reader.specs.Stream.{on_payload, offence_in, payload_by, payload_in, payloads}
-use Rattle.stream_reader.specs.Stream.{refusal_in, refused, refused_payload, refused_record, stream}
-use Rattle.stream_reader.specs.Stream.{too_long, unit_in, with_byte}
+use Rattle.nbfx_decoder.{proofs.Readable.readable as payload_readable, specs.Payload.Refusal}
+use Rattle.stream_reader.specs.Stream.{after, after_bare, behind_payload, chunk_due, completed}
+use Rattle.stream_reader.specs.Stream.{completed_bare, completed_payload, frame, is_chunked}
+use Rattle.stream_reader.specs.Stream.{message, offence_in, on_open, on_payload, OpenPayload}
+use Rattle.stream_reader.specs.Stream.{payload_by, payload_byte, payload_in, payload_open, payloads}
+use Rattle.stream_reader.specs.Stream.{PayloadStanding, refusal_in, refused, refused_payload}
+use Rattle.stream_reader.specs.Stream.{refused_record, Settings, Situation, Stage, stream}
+use Rattle.stream_reader.specs.Stream.{StreamEvent, too_long, unit_in, with_byte}
 use Rattle.stream_reader.proofs.Grammar.{readable, short_enough}
-use Rattle.stream_reader.proofs.Situations.{IsBehind, nothing_begun}
-use Rattle.stream_reader.proofs.Outcomes.{HasAll, behind_whole, chunk_behind, envelope_of}
+use Rattle.stream_reader.proofs.Outcomes.{behind_whole, chunk_behind, envelope_of, HasAll}
 use Rattle.stream_reader.proofs.Outcomes.{more_behind, more_completed, refused_behind, whole_behind}
+use Rattle.stream_reader.proofs.Situations.{IsBehind, nothing_begun}
 
 -- a payload of this offset, size and form behind these of its bytes
 abbrev pub payload_behind : Settings → Situation → OpenPayload → List ℕ → OpenPayload

@@ -1,54 +1,46 @@
 -- A reader takes bytes of a payload.
-use Rattle.std.proofs.Common.{◌≡◌, ℕ, zero, suc, ◌+◌, ◌-◌, ◌<◌, ◌≤◌, ◌^◌, inl, inr, List, [], ◌++◌}
-use Rattle.std.proofs.Common.{length, take, Bool, true, false, Option, Some, None, Ok, Err, refl}
-use Rattle.std.proofs.Common.{sym, ap, ◌∙◌, subst, arith, length-append}
-use Rattle.std.specs.Option.{option_map, option_or}
-use Rattle.std.proofs.lemmas.List.{append-nil, length-take-le, take-take}
-use Rattle.std.proofs.Math.Nat.{eq-or-lt_of_le}
-use Rattle.unit_streams.specs.Grammar.{standing}
-use Rattle.unit_streams.specs.Judging.{refusal_at, ending_at, event_at, is_over_at, goes_on}
-use Rattle.unit_streams.specs.Judging.{offends}
+use Rattle.std.proofs.Common.{◌≡◌, ℕ, zero, suc, ◌+◌, ◌-◌, ◌^◌, ◌<◌, ◌≤◌, Bool, true, false, List}
+use Rattle.std.proofs.Common.{[], ◌++◌, length, take, Some, None, Ok, Err, Option, option_map, sym}
+use Rattle.std.proofs.Common.{refl, ap, ◌∙◌, subst, inl, inr, append-nil, arith, length-append}
+use Rattle.std.proofs.{Common.length-take-le, Common.take-take, Math.Nat.eq-or-lt_of_le}
+use Rattle.{std.specs.Option.option_or, unit_streams.proofs.Answers.answers_are_first}
 use Rattle.unit_streams.specs.Going.{IsQuiet, IsQuietBefore}
-use Rattle.unit_streams.proofs.Answers.{answers_are_first}
-use Rattle.nmf_records.specs.declared.frame.Expect.{Expect}
-use Rattle.nmf_records.specs.declared.reader.FrameReader.{FrameReader}
-use Rattle.nmf_records.specs.Reader.{StandsFor as FrameStandsFor, ShowsText as FramesShowText}
+use Rattle.unit_streams.specs.{Grammar.standing, Judging.refusal_at}
+use Rattle.unit_streams.specs.Judging.{ending_at, event_at, goes_on, is_over_at, offends}
+use Rattle.nmf_records.specs.declared.{frame.Expect.Expect, reader.FrameReader.FrameReader}
 use Rattle.nmf_records.specs.declared.script.Direction.{Direction}
-use Rattle.nbfx_decoder.specs.Payload.{Refusal, refusal, payload, Settings as PayloadSettings}
+use Rattle.nmf_records.specs.Reader.{ShowsText as FramesShowText, StandsFor as FrameStandsFor}
 use Rattle.nbfx_decoder.specs.declared.faults.DecodeFault.{DecodeFault}
-use Rattle.nbfx_decoder.specs.declared.faults.DecodeFault.TheVariants as faults
-use Rattle.nbfx_decoder.specs.DecoderState.{settings_of as decoder_settings, situation_of}
-use Rattle.nbfx_decoder.specs.DecoderState.{StandsFor as DecoderStandsFor}
 use Rattle.nbfx_decoder.specs.DecoderState.{FailedBehind as DecoderFailedBehind, FailedWithin}
-use Rattle.nbfx_decoder.specs.DecoderState.{FeedAnswers}
-use Rattle.stream_reader.specs.declared.awaited.Awaited.{Awaited}
-use Rattle.stream_reader.specs.declared.awaited.Awaited.TheVariants as awaits
-use Rattle.stream_reader.specs.declared.awaited.PayloadLeft.{PayloadLeft}
-use Rattle.stream_reader.specs.declared.reader.ReadRefusal.{ReadRefusal}
-use Rattle.stream_reader.specs.declared.reader.ReadRefusal.TheVariants.{Offence as Refused, Memory}
+use Rattle.nbfx_decoder.specs.DecoderState.{FeedAnswers, settings_of as decoder_settings}
+use Rattle.nbfx_decoder.specs.DecoderState.{situation_of, StandsFor as DecoderStandsFor}
+use Rattle.nbfx_decoder.specs.Payload.{payload, Refusal, refusal, Settings as PayloadSettings}
+use Rattle.stream_reader.specs.declared.awaited.{Awaited.Awaited, PayloadLeft.PayloadLeft}
+use Rattle.stream_reader.specs.declared.reader.{ReadRefusal.ReadRefusal, StreamStep.StreamStep}
+use Rattle.stream_reader.specs.declared.reader.ReadRefusal.TheVariants.{Memory, Offence as Refused}
 use Rattle.stream_reader.specs.declared.reader.StreamReader.{StreamReader}
-use Rattle.stream_reader.specs.declared.reader.StreamStep.{StreamStep}
-use Rattle.stream_reader.specs.Stream.{OpenPayload, Settings, Situation, Stage, StreamEvent, opened}
-use Rattle.stream_reader.specs.Stream.{accepted, message, ended, peer_fault, record_due, chunk_due}
-use Rattle.stream_reader.specs.Stream.{payload_open, direction_of, is_chunked, is_over_in}
-use Rattle.stream_reader.specs.Stream.{behind_payload, completed_payload, offence_in, payload_in}
-use Rattle.stream_reader.specs.Stream.{payloads, refusal_in, refused_payload, stream, strings_at}
-use Rattle.stream_reader.specs.Stream.{strings_in, PayloadStanding}
-use Rattle.stream_reader.specs.StreamReaderState.{Awaits, DecideNothing, Failed, HasBegun, HasPart}
-use Rattle.stream_reader.specs.StreamReaderState.{HasPayloads, IsIn, Reached, ReadsPayload}
-use Rattle.stream_reader.specs.StreamReaderState.{ShowsTable, ShowsStrings, ShowsText, failure_of}
-use Rattle.stream_reader.specs.StreamReaderState.{form_of, messages_of, taken_of}
-use Rattle.stream_reader.specs.Stepping.{BehindAnswers, HasDecoded, UnitAnswers, more_shown}
-use Rattle.stream_reader.specs.Stepping.{step_of, refusal_told}
-use Rattle.stream_reader.proofs.Ending.{payload_goes_on}
-use Rattle.stream_reader.proofs.FailedFeeds.{StaysWith, failed_with, same_grammar, some_refused}
-use Rattle.stream_reader.proofs.FailedFeeds.{unrefused_so}
+use Rattle.stream_reader.specs.Stepping.{BehindAnswers, HasDecoded, more_shown, refusal_told}
+use Rattle.stream_reader.specs.Stepping.{step_of, UnitAnswers}
+use Rattle.stream_reader.specs.Stream.{accepted, behind_payload, chunk_due, completed_payload}
+use Rattle.stream_reader.specs.Stream.{direction_of, ended, is_chunked, is_over_in, message}
+use Rattle.stream_reader.specs.Stream.{offence_in, opened, OpenPayload, payload_in, payload_open}
+use Rattle.stream_reader.specs.Stream.{payloads, PayloadStanding, peer_fault, record_due}
+use Rattle.stream_reader.specs.Stream.{refusal_in, refused_payload, Settings, Situation, Stage}
+use Rattle.stream_reader.specs.Stream.{stream, StreamEvent, strings_at, strings_in}
+use Rattle.stream_reader.specs.StreamReaderState.{Awaits, DecideNothing, Failed, failure_of}
+use Rattle.stream_reader.specs.StreamReaderState.{form_of, HasBegun, HasPart, HasPayloads, IsIn}
+use Rattle.stream_reader.specs.StreamReaderState.{messages_of, Reached, ReadsPayload, ShowsStrings}
+use Rattle.stream_reader.specs.StreamReaderState.{ShowsTable, ShowsText, taken_of}
+use Rattle.stream_reader.proofs.{Ending.payload_goes_on, FailedFeeds.unrefused_so}
+use Rattle.stream_reader.proofs.FailedFeeds.{failed_with, same_grammar, some_refused, StaysWith}
 use Rattle.stream_reader.proofs.Outcomes.{more_behind, refused_eventless, refused_messages}
 use Rattle.stream_reader.proofs.Outcomes.{strings_behind, text_behind}
-use Rattle.stream_reader.proofs.PayloadBytes.{IsWithin, bytes_event, bytes_going, bytes_refused}
-use Rattle.stream_reader.proofs.PayloadBytes.{bytes_stand, more_refusal, between_refusal}
-use Rattle.stream_reader.proofs.PayloadBytes.{last_refusal, payload_behind, payload_quiet}
+use Rattle.stream_reader.proofs.PayloadBytes.{between_refusal, bytes_event, bytes_going}
+use Rattle.stream_reader.proofs.PayloadBytes.{bytes_refused, bytes_stand, IsWithin, last_refusal}
+use Rattle.stream_reader.proofs.PayloadBytes.{more_refusal, payload_behind, payload_quiet}
 use Rattle.stream_reader.proofs.PayloadBytes.{payload_quiet_before, stands_so, within_open}
+use Rattle.nbfx_decoder.specs.declared.faults.DecodeFault.TheVariants as faults
+use Rattle.stream_reader.specs.declared.awaited.Awaited.TheVariants as awaits
 
 -- a reader of records that has begun none
 pub none_begun : (direction : Direction) (a : Awaited) (frames : FrameReader)

@@ -1,47 +1,39 @@
 -- Which bytes of a payload refuse a stream: from the bytes to the refusal.
-use Rattle.std.proofs.Common.{◌≡◌, ℕ, zero, suc, ◌+◌, ◌-◌, ◌<◌, ◌≤◌, inl, inr, List, [], ◌∷◌, ◌++◌}
-use Rattle.std.proofs.Common.{length, Bool, true, false, Option, Some, None, refl, sym, ap, ◌∙◌}
-use Rattle.std.proofs.Common.{subst, arith, append_assoc, length-append, ◌↔◌}
-use Rattle.std.specs.Prelude.{◌==◌, ◌&&◌, not, if◌then◌else◌}
-use Rattle.std.specs.Option.{option_map, option_or}
-use Rattle.std.proofs.lemmas.Bool.{le-ltb, ne_eqb, eqb-true, eqb-false}
-use Rattle.std.proofs.lemmas.List.{append-nil}
-use Rattle.unit_streams.specs.Front.{whole, wrong_of}
+use Rattle.std.proofs.Common.{◌≡◌, ℕ, zero, suc, ◌+◌, ◌-◌, ◌<◌, ◌≤◌, Bool, true, false, not, ◌&&◌}
+use Rattle.std.proofs.Common.{◌↔◌, List, [], ◌∷◌, ◌++◌, length, if◌then◌else◌, ◌==◌, Some, None}
+use Rattle.std.proofs.Common.{Option, option_map, sym, refl, ap, ◌∙◌, subst, inl, inr, append_assoc}
+use Rattle.std.proofs.Common.{append-nil, arith, length-append, le-ltb, ne_eqb, eqb-true}
+use Rattle.std.{proofs.lemmas.Bool.eqb-false, specs.Option.option_or}
+use Rattle.{unit_streams.proofs.Passing.refusal_from, stream_reader.proofs.Situations.begun_behind}
+use Rattle.unit_streams.specs.{Front.whole, Front.wrong_of, Refusals.AreUnits}
 use Rattle.unit_streams.specs.Grammar.{Standing, standing}
 use Rattle.unit_streams.specs.Judging.{ending_at, refusal_at}
-use Rattle.unit_streams.specs.Refusals.{AreUnits}
-use Rattle.unit_streams.proofs.Passing.{refusal_from}
 use Rattle.nbfx_values.specs.declared.refusals.Offence.{Offence}
-use Rattle.nbfx_values.specs.declared.refusals.Reason.{Reason}
-use Rattle.nbfx_values.specs.declared.refusals.Reason.TheVariants.{MessageTooLarge}
-use Rattle.nmf_records.specs.declared.frame.Frame.TheVariants as frames
-use Rattle.nmf_records.specs.declared.script.Due.{Due}
-use Rattle.nmf_records.specs.declared.script.Due.TheVariants as dues
-use Rattle.nmf_records.specs.Records.{Read}
+use Rattle.nbfx_values.specs.declared.refusals.Reason.{Reason, TheVariants.MessageTooLarge}
+use Rattle.nmf_records.specs.{declared.script.Due.Due, Records.Read, Script.may_come}
 use Rattle.nmf_records.specs.RecordFronts.{bare, MayCome}
-use Rattle.nmf_records.specs.Script.{may_come}
-use Rattle.nbfx_decoder.specs.Payload.{Refusal, refusal}
 use Rattle.nbfx_decoder.proofs.PayloadAnswers.{nothing_is_refused}
 use Rattle.nbfx_decoder.proofs.PayloadReasons.{cut_where_unended, nothing_unrefused}
 use Rattle.nbfx_decoder.proofs.PayloadReasons.{refused_where_shown, unrefused_nothing}
-use Rattle.stream_reader.specs.Stream.{OpenPayload, PayloadStanding, Form, sized, chunked}
-use Rattle.stream_reader.specs.Stream.{last_chunk, Settings, Situation, Stage, StreamEvent}
-use Rattle.stream_reader.specs.Stream.{record_due, chunk_due, payload_open, direction_of, frame}
-use Rattle.stream_reader.specs.Stream.{is_chunked, is_whole, is_over_in, offence_at, offence_in}
-use Rattle.stream_reader.specs.Stream.{on_payload, payload_begun, payload_by, payload_in, payloads}
-use Rattle.stream_reader.specs.Stream.{reason_in, refusal_in, refused_payload, refused_record}
-use Rattle.stream_reader.specs.Stream.{behind_payload, stream, too_large, too_long, unit_in}
-use Rattle.stream_reader.specs.Stream.{with_chunk}
+use Rattle.nbfx_decoder.specs.Payload.{Refusal, refusal}
+use Rattle.stream_reader.specs.Reasons.{AreWhole, IsChunked, IsInChunk, IsPart, IsResumed}
+use Rattle.stream_reader.specs.Reasons.{IsSizedPart, ShowsInPayload, ShowsOf}
 use Rattle.stream_reader.specs.Sessions.{IsBare, joined}
-use Rattle.stream_reader.specs.Reasons.{AreWhole, IsPart, IsSizedPart, IsChunked, IsResumed}
-use Rattle.stream_reader.specs.Reasons.{IsInChunk, ShowsOf, ShowsInPayload}
+use Rattle.stream_reader.specs.Stream.{behind_payload, chunk_due, chunked, direction_of, Form}
+use Rattle.stream_reader.specs.Stream.{frame, is_chunked, is_over_in, is_whole, last_chunk}
+use Rattle.stream_reader.specs.Stream.{offence_at, offence_in, on_payload, OpenPayload, with_chunk}
+use Rattle.stream_reader.specs.Stream.{payload_begun, payload_by, payload_in, payload_open}
+use Rattle.stream_reader.specs.Stream.{payloads, PayloadStanding, reason_in, record_due, refusal_in}
+use Rattle.stream_reader.specs.Stream.{refused_payload, refused_record, Settings, Situation, sized}
+use Rattle.stream_reader.specs.Stream.{Stage, stream, StreamEvent, too_large, too_long, unit_in}
 use Rattle.stream_reader.proofs.DueRecords.{envelope_comes, record_unit}
-use Rattle.stream_reader.proofs.Envelopes.{so_far, between, chunk_reads}
+use Rattle.stream_reader.proofs.Envelopes.{between, chunk_reads, so_far}
 use Rattle.stream_reader.proofs.Outcomes.{chunk_behind, more_behind}
-use Rattle.stream_reader.proofs.PayloadBytes.{IsWithin, behind_is, bytes_refused, bytes_stand}
+use Rattle.stream_reader.proofs.PayloadBytes.{behind_is, bytes_refused, bytes_stand, IsWithin}
 use Rattle.stream_reader.proofs.PayloadBytes.{made_stands, payload_behind, refusal_all}
 use Rattle.stream_reader.proofs.PayloadBytes.{refusal_before, refusal_between}
-use Rattle.stream_reader.proofs.Situations.{begun_behind}
+use Rattle.nmf_records.specs.declared.frame.Frame.TheVariants as frames
+use Rattle.nmf_records.specs.declared.script.Due.TheVariants as dues
 
 -- why bytes of a payload are refused, by what they show
 module _ (x : Settings) (z : Situation) (o : OpenPayload) (bytes : List ℕ) (r : Refusal) where

@@ -1,54 +1,42 @@
 -- Which bytes of a payload refuse a stream: from the refusal to the bytes.
-use Rattle.std.proofs.Common.{◌≡◌, ℕ, ◌+◌, ◌-◌, ◌<◌, ◌≤◌, ◌⊎◌, inl, inr, List, [], ◌∷◌, ◌++◌}
-use Rattle.std.proofs.Common.{length, Bool, true, false, Option, Some, None, refl, sym, ap, ◌∙◌}
-use Rattle.std.proofs.Common.{subst, arith, append_assoc, length-append, ◌↔◌}
-use Rattle.std.specs.Prelude.{nat_le, ◌==◌, ◌&&◌, not, if◌then◌else◌}
-use Rattle.std.specs.Option.{option_map, option_or}
-use Rattle.std.proofs.lemmas.Bool.{ne_eqb, eqb-true, eqb-false}
-use Rattle.std.proofs.lemmas.List.{append-nil, nil_from_length, take_all}
-use Rattle.unit_streams.specs.Front.{Front, begun, whole, wrong}
-use Rattle.unit_streams.specs.Parts.{seen}
-use Rattle.unit_streams.specs.Grammar.{standing}
-use Rattle.unit_streams.specs.Judging.{refusal_at}
-use Rattle.unit_streams.specs.Refusals.{AreUnits}
-use Rattle.unit_streams.proofs.Refusals.{refusals_are_three}
-use Rattle.nbfx_values.specs.declared.refusals.Offence.{Offence}
-use Rattle.nbfx_values.specs.declared.refusals.Reason.{Reason}
-use Rattle.nbfx_values.specs.declared.refusals.Reason.TheVariants as reasons
+use Rattle.std.proofs.Common.{◌≡◌, ℕ, ◌+◌, ◌-◌, ◌<◌, ◌≤◌, Bool, true, false, not, ◌&&◌, ◌⊎◌, ◌↔◌}
+use Rattle.std.proofs.Common.{List, [], ◌∷◌, ◌++◌, length, if◌then◌else◌, nat_le, ◌==◌, Some, None}
+use Rattle.std.proofs.Common.{Option, option_map, sym, refl, ap, ◌∙◌, subst, inl, inr, append_assoc}
+use Rattle.std.proofs.Common.{append-nil, arith, length-append, take_all, ne_eqb, eqb-true}
+use Rattle.std.proofs.lemmas.{Bool.eqb-false, List.nil_from_length}
+use Rattle.{std.specs.Option.option_or, unit_streams.proofs.Refusals.refusals_are_three}
+use Rattle.unit_streams.specs.Front.{begun, Front, whole, wrong}
+use Rattle.unit_streams.specs.{Grammar.standing, Judging.refusal_at, Parts.seen, Refusals.AreUnits}
+use Rattle.nbfx_values.specs.declared.refusals.{Offence.Offence, Reason.Reason}
 use Rattle.nbfx_values.specs.declared.refusals.Place.TheVariants.{Payload as InPayload}
-use Rattle.nmf_records.specs.declared.frame.Frame.{Frame}
-use Rattle.nmf_records.specs.declared.frame.Frame.TheVariants as frames
-use Rattle.nmf_records.specs.declared.frame.FrameFault.{FrameFault}
-use Rattle.nmf_records.specs.declared.script.Due.{Due}
-use Rattle.nmf_records.specs.declared.script.Due.TheVariants as dues
-use Rattle.nmf_records.specs.Records.{Read, IsRecordOf}
-use Rattle.nmf_records.specs.RecordFronts.{MayCome, frame_at}
-use Rattle.nmf_records.specs.Script.{may_come}
+use Rattle.nmf_records.specs.declared.frame.{Frame.Frame, FrameFault.FrameFault}
+use Rattle.nmf_records.specs.{declared.script.Due.Due, Script.may_come}
+use Rattle.nmf_records.specs.RecordFronts.{frame_at, MayCome}
+use Rattle.nmf_records.specs.Records.{IsRecordOf, Read}
+use Rattle.nbfx_decoder.proofs.{PayloadAnswers.nothing_is_refused, PayloadReasons.nothing_unrefused}
 use Rattle.nbfx_decoder.specs.Payload.{Refusal, refusal}
-use Rattle.nbfx_decoder.proofs.PayloadAnswers.{nothing_is_refused}
-use Rattle.nbfx_decoder.proofs.PayloadReasons.{nothing_unrefused}
-use Rattle.stream_reader.specs.Stream.{OpenPayload, sized, chunked, last_chunk, Settings, Situation}
-use Rattle.stream_reader.specs.Stream.{Stage, record_due, chunk_due, payload_open, StreamUnit}
-use Rattle.stream_reader.specs.Stream.{frame, direction_of, is_chunked, is_whole, is_over_in}
-use Rattle.stream_reader.specs.Stream.{offence_at, offence_in, on_open, on_payload, open_from}
-use Rattle.stream_reader.specs.Stream.{payload_at, payload_begun, payload_by, payloads, reason_in}
-use Rattle.stream_reader.specs.Stream.{reason_of, due_record_at, refusal_in, refused}
-use Rattle.stream_reader.specs.Stream.{refused_payload, refused_record, stream, too_long, unit_in}
-use Rattle.stream_reader.specs.Stream.{with_byte, with_chunk}
-use Rattle.stream_reader.specs.Sessions.{IsBare}
-use Rattle.stream_reader.specs.Reasons.{IsPart, HasPayload, ShowsInPayload}
-use Rattle.stream_reader.proofs.RightRecords.{right_size}
-use Rattle.stream_reader.proofs.Coming.{unit_of_record, unit_of_chunk, unit_of_payload}
+use Rattle.stream_reader.specs.Reasons.{HasPayload, IsPart, ShowsInPayload}
+use Rattle.stream_reader.{specs.Sessions.IsBare, proofs.Reasons.apart, proofs.Reasons.some_mapped}
+use Rattle.stream_reader.specs.Stream.{chunk_due, chunked, direction_of, due_record_at, frame}
+use Rattle.stream_reader.specs.Stream.{is_chunked, is_over_in, is_whole, last_chunk, offence_at}
+use Rattle.stream_reader.specs.Stream.{offence_in, on_open, on_payload, open_from, OpenPayload}
+use Rattle.stream_reader.specs.Stream.{payload_at, payload_begun, payload_by, payload_open}
+use Rattle.stream_reader.specs.Stream.{payloads, reason_in, reason_of, record_due, refusal_in}
+use Rattle.stream_reader.specs.Stream.{refused, refused_payload, refused_record, Settings}
+use Rattle.stream_reader.specs.Stream.{Situation, sized, Stage, stream, StreamUnit, too_long}
+use Rattle.stream_reader.specs.Stream.{unit_in, with_byte, with_chunk}
+use Rattle.stream_reader.proofs.Coming.{unit_of_chunk, unit_of_payload, unit_of_record}
 use Rattle.stream_reader.proofs.DueRecords.{envelope_due, refusing}
-use Rattle.stream_reader.proofs.Envelopes.{so_far, between}
-use Rattle.stream_reader.proofs.Grammar.{readable}
+use Rattle.stream_reader.proofs.Envelopes.{between, so_far}
+use Rattle.stream_reader.proofs.{Grammar.readable, PayloadBytes.with_byte_is}
 use Rattle.stream_reader.proofs.PayloadBytes.{behind_is, payload_behind, refusal_between}
-use Rattle.stream_reader.proofs.PayloadBytes.{with_byte_is}
 use Rattle.stream_reader.proofs.PayloadReasons.{for_in_payload, last_is, shown_by}
-use Rattle.stream_reader.proofs.PayloadTrace.{IsOnePart, IsOneOfChunks, OpenTrace, ChunkTrace}
-use Rattle.stream_reader.proofs.PayloadTrace.{TracedAt, traced}
-use Rattle.stream_reader.proofs.Reasons.{apart, some_mapped}
-use Rattle.stream_reader.proofs.Situations.{begun_behind}
+use Rattle.stream_reader.proofs.PayloadTrace.{ChunkTrace, IsOneOfChunks, IsOnePart, OpenTrace}
+use Rattle.stream_reader.proofs.PayloadTrace.{traced, TracedAt}
+use Rattle.stream_reader.proofs.{RightRecords.right_size, Situations.begun_behind}
+use Rattle.nbfx_values.specs.declared.refusals.Reason.TheVariants as reasons
+use Rattle.nmf_records.specs.declared.frame.Frame.TheVariants as frames
+use Rattle.nmf_records.specs.declared.script.Due.TheVariants as dues
 
 -- two refusals in payloads that are one
 same_number : (m n : ℕ) (r s : Refusal) → offence_in m r ≡ offence_in n s → m ≡ n

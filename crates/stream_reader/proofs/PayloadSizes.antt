@@ -1,32 +1,25 @@
 -- The payload of a document is within the quota, where nothing of the stream before is refused.
-use Rattle.std.proofs.Common.{◌≡◌, ℕ, ◌+◌, ◌<◌, ◌≤◌, List, [], ◌++◌, length, false, Option, Some}
-use Rattle.std.proofs.Common.{None, refl, sym, ap, ◌∙◌, subst, arith, length-append}
-use Rattle.std.specs.Option.{option_map}
-use Rattle.std.proofs.lemmas.List.{take-append-le, take_all}
-use Rattle.unit_streams.specs.Front.{whole}
-use Rattle.unit_streams.specs.Grammar.{Standing, standing}
+use Rattle.std.proofs.Common.{◌≡◌, ℕ, ◌+◌, ◌<◌, ◌≤◌, false, List, [], ◌++◌, length, Some, None}
+use Rattle.std.proofs.Common.{Option, option_map, sym, refl, ap, ◌∙◌, subst, arith, length-append}
+use Rattle.std.proofs.{Common.take_all, lemmas.List.take-append-le}
+use Rattle.unit_streams.proofs.{Fronts.whole_some, Refusals.unit_standing}
+use Rattle.unit_streams.proofs.{Passing.given_some, Passing.refusal_from, Standing.standing_nothing}
+use Rattle.unit_streams.specs.{Front.whole, Grammar.Standing, Grammar.standing, Refusals.AreUnits}
 use Rattle.unit_streams.specs.Judging.{event_at, refusal_at}
-use Rattle.unit_streams.specs.Refusals.{AreUnits}
-use Rattle.unit_streams.proofs.Fronts.{whole_some}
-use Rattle.unit_streams.proofs.Passing.{given_some, refusal_from}
-use Rattle.unit_streams.proofs.Refusals.{unit_standing}
-use Rattle.unit_streams.proofs.Standing.{standing_nothing}
 use Rattle.nbfx_values.specs.declared.refusals.Offence.{Offence}
 use Rattle.nmf_records.specs.declared.frame.Frame.{Frame}
-use Rattle.nmf_records.specs.declared.frame.Frame.TheVariants as frames
-use Rattle.stream_reader.specs.Stream.{Envelope, OpenPayload, sized, chunked, Settings, Situation}
-use Rattle.stream_reader.specs.Stream.{Stage, record_due, chunk_due, payload_open, StreamEvent}
-use Rattle.stream_reader.specs.Stream.{message, StreamUnit, frame, payload_byte, is_chunked}
-use Rattle.stream_reader.specs.Stream.{on_open, on_payload, offence_at, reason_in, payload_begun}
-use Rattle.stream_reader.specs.Stream.{payload_by, after, after_bare, behind_payload, completed}
-use Rattle.stream_reader.specs.Stream.{completed_bare, completed_payload, refused, refused_payload}
-use Rattle.stream_reader.specs.Stream.{stream, unit_in, with_byte, with_chunk}
 use Rattle.stream_reader.specs.Laws.{IsUnrefusedBefore, open_payload}
-use Rattle.stream_reader.proofs.Grammar.{readable}
-use Rattle.stream_reader.proofs.Outcomes.{goes_on, wants_chunk, is_whole, is_refused, outcome}
+use Rattle.stream_reader.specs.Stream.{after, after_bare, behind_payload, chunk_due, chunked}
+use Rattle.stream_reader.specs.Stream.{completed, completed_bare, completed_payload, Envelope}
+use Rattle.stream_reader.specs.Stream.{frame, is_chunked, message, offence_at, on_open, on_payload}
+use Rattle.stream_reader.specs.Stream.{OpenPayload, payload_begun, payload_by, payload_byte}
+use Rattle.stream_reader.specs.Stream.{payload_open, reason_in, record_due, refused}
+use Rattle.stream_reader.specs.Stream.{refused_payload, Settings, Situation, sized, Stage, stream}
+use Rattle.stream_reader.specs.Stream.{StreamEvent, StreamUnit, unit_in, with_byte, with_chunk}
+use Rattle.stream_reader.proofs.{Grammar.readable, Prefixes.units_keep, RightRecords.right_size}
+use Rattle.stream_reader.proofs.Outcomes.{goes_on, is_refused, is_whole, outcome, wants_chunk}
 use Rattle.stream_reader.proofs.ToSession.{none_both, none_mapped}
-use Rattle.stream_reader.proofs.RightRecords.{right_size}
-use Rattle.stream_reader.proofs.Prefixes.{units_keep}
+use Rattle.nmf_records.specs.declared.frame.Frame.TheVariants as frames
 
 -- the sizes of payloads that are open, or of the document that is told
 abbrev FitsOpen : Settings → Stage → Type 0

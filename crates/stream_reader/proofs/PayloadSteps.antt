@@ -1,44 +1,36 @@
 -- A reader goes on behind bytes of a payload.
-use Rattle.std.proofs.Common.{◌≡◌, ℕ, ◌+◌, ◌<◌, ◌≤◌, List, [], length, true, false, Option, Some}
-use Rattle.std.proofs.Common.{None, Result, Ok, Err, refl, sym, ap, ◌∙◌, subst, arith, inr}
-use Rattle.std.specs.Option.{option_map, option_or}
-use Rattle.unit_streams.specs.Judging.{refusal_at, ending_at}
-use Rattle.unit_streams.proofs.Pending.{pending_unrefused}
-use Rattle.unit_streams.proofs.Standing.{standing_nothing}
-use Rattle.nbfx_values.specs.declared.content.Item.{Item}
-use Rattle.nbfx_values.specs.declared.refusals.Offence.{Offence}
+use Rattle.std.proofs.Common.{◌≡◌, ℕ, ◌+◌, ◌<◌, ◌≤◌, true, false, List, [], length, Some, None, Ok}
+use Rattle.std.proofs.Common.{Err, Option, Result, option_map, sym, refl, ap, ◌∙◌, subst, inr}
+use Rattle.std.{proofs.Common.arith, specs.Option.option_or}
+use Rattle.unit_streams.proofs.{Pending.pending_unrefused, Standing.standing_nothing}
+use Rattle.unit_streams.specs.Judging.{ending_at, refusal_at}
 use Rattle.string_tables.specs.SessionStrings.{used_cost}
+use Rattle.nbfx_values.specs.declared.{content.Item.Item, refusals.Offence.Offence}
 use Rattle.session_dictionary.specs.Strings.{LimitedStrings}
-use Rattle.nbfx_decoder.specs.Payload.{Refusal, refusal, payload, Settings as PayloadSettings}
-use Rattle.nbfx_decoder.specs.declared.decoder.Decoder.{Decoder}
-use Rattle.nbfx_decoder.specs.declared.faults.DecodeFault.{DecodeFault}
-use Rattle.nbfx_decoder.specs.declared.faults.DecodeFault.TheVariants as faults
-use Rattle.nbfx_decoder.specs.DecoderState.{settings_of as decoder_settings, situation_of, table_at}
-use Rattle.nbfx_decoder.specs.DecoderState.{StandsFor as DecoderStandsFor}
+use Rattle.nbfx_decoder.proofs.{Readable.readable as payload_readable, StandsFacts.stands_as}
+use Rattle.nbfx_decoder.specs.declared.{decoder.Decoder.Decoder, faults.DecodeFault.DecodeFault}
 use Rattle.nbfx_decoder.specs.DecoderState.{FailedBehind as DecoderFailedBehind, FinishAnswers}
-use Rattle.nbfx_decoder.proofs.StandsFacts.{stands_as}
-use Rattle.nbfx_decoder.proofs.Readable.{readable as payload_readable}
-use Rattle.stream_reader.specs.declared.awaited.Awaited.{Awaited}
-use Rattle.stream_reader.specs.declared.awaited.Awaited.TheVariants as awaits
-use Rattle.stream_reader.specs.declared.awaited.PayloadLeft.{PayloadLeft}
-use Rattle.stream_reader.specs.declared.reader.ReadRefusal.{ReadRefusal}
-use Rattle.stream_reader.specs.declared.reader.StreamReader.{StreamReader}
-use Rattle.stream_reader.specs.declared.reader.StreamStep.{StreamStep}
-use Rattle.stream_reader.specs.declared.reader.StreamStep.TheVariants as steps
-use Rattle.stream_reader.specs.Stream.{OpenPayload, PayloadStanding, Settings, Situation, Stage}
-use Rattle.stream_reader.specs.Stream.{StreamEvent, message, record_due, chunk_due, payload_open}
-use Rattle.stream_reader.specs.Stream.{due_behind, is_chunked, is_over_in, behind_payload}
-use Rattle.stream_reader.specs.Stream.{completed_payload, offence_in, payload_in, payloads}
-use Rattle.stream_reader.specs.Stream.{refusal_in, refused_payload}
+use Rattle.nbfx_decoder.specs.DecoderState.{settings_of as decoder_settings, situation_of}
+use Rattle.nbfx_decoder.specs.DecoderState.{StandsFor as DecoderStandsFor, table_at}
+use Rattle.nbfx_decoder.specs.Payload.{payload, Refusal, refusal, Settings as PayloadSettings}
+use Rattle.stream_reader.specs.declared.awaited.{Awaited.Awaited, PayloadLeft.PayloadLeft}
+use Rattle.stream_reader.specs.declared.reader.{ReadRefusal.ReadRefusal, StreamStep.StreamStep}
+use Rattle.stream_reader.specs.{declared.reader.StreamReader.StreamReader, Stepping.refusal_told}
+use Rattle.stream_reader.specs.Stepping.{BehindAnswers, due_after, HasDecoded, is_chunked_form}
+use Rattle.stream_reader.specs.Stream.{behind_payload, chunk_due, completed_payload, due_behind}
+use Rattle.stream_reader.specs.Stream.{is_chunked, is_over_in, message, offence_in, OpenPayload}
+use Rattle.stream_reader.specs.Stream.{payload_in, payload_open, payloads, PayloadStanding}
+use Rattle.stream_reader.specs.Stream.{record_due, refusal_in, refused_payload, Settings, Situation}
+use Rattle.stream_reader.specs.Stream.{Stage, StreamEvent}
 use Rattle.stream_reader.specs.StreamReaderState.{Awaits, HasPart, Recalls}
-use Rattle.stream_reader.specs.Stepping.{BehindAnswers, HasDecoded, due_after, is_chunked_form}
-use Rattle.stream_reader.specs.Stepping.{refusal_told}
-use Rattle.stream_reader.proofs.Ending.{form_on}
-use Rattle.stream_reader.proofs.Outcomes.{HasAll, behind_whole, chunk_behind, envelope_of}
+use Rattle.stream_reader.proofs.{Ending.form_on, ReaderFacts.cost_within}
+use Rattle.stream_reader.proofs.Outcomes.{behind_whole, chunk_behind, envelope_of, HasAll}
 use Rattle.stream_reader.proofs.Outcomes.{more_behind, more_completed, refused_behind, whole_behind}
 use Rattle.stream_reader.proofs.PayloadBytes.{behind_is, payload_behind, refusal_all}
 use Rattle.stream_reader.proofs.PayloadBytes.{refusal_before, refusal_between}
-use Rattle.stream_reader.proofs.ReaderFacts.{cost_within}
+use Rattle.nbfx_decoder.specs.declared.faults.DecodeFault.TheVariants as faults
+use Rattle.stream_reader.specs.declared.awaited.Awaited.TheVariants as awaits
+use Rattle.stream_reader.specs.declared.reader.StreamStep.TheVariants as steps
 
 -- a message that says so much
 message_as : (n n' size size' : ℕ) (doc doc' : List Item) (count count' cost cost' : ℕ) → n ≡ n'

@@ -1,39 +1,28 @@
 -- Where a payload is open its bytes are those of an envelope so far.
-use Rattle.std.proofs.Common.{◌≡◌, ℕ, ◌+◌, ◌-◌, ◌<◌, ◌⊎◌, inl, inr, List, [], ◌∷◌, ◌++◌, length}
-use Rattle.std.proofs.Common.{Bool, true, false, None, refl, sym, ap, ◌∙◌, subst, arith}
-use Rattle.std.proofs.Common.{append_assoc, length-append}
-use Rattle.std.specs.Prelude.{◌==◌, if◌then◌else◌}
-use Rattle.std.proofs.lemmas.Bool.{ne_eqb}
-use Rattle.std.proofs.lemmas.List.{append-nil, nil_from_length, take_all}
-use Rattle.unit_streams.specs.Front.{whole}
-use Rattle.unit_streams.specs.Grammar.{Standing, standing}
-use Rattle.unit_streams.specs.Refusals.{AreUnits}
-use Rattle.unit_streams.proofs.Refusals.{unit_standing}
-use Rattle.unit_streams.proofs.Standing.{standing_nothing}
+use Rattle.std.proofs.Common.{◌≡◌, ℕ, ◌+◌, ◌-◌, ◌<◌, Bool, true, false, ◌⊎◌, List, [], ◌∷◌, ◌++◌}
+use Rattle.std.proofs.Common.{length, if◌then◌else◌, ◌==◌, None, sym, refl, ap, ◌∙◌, subst, inl}
+use Rattle.std.proofs.Common.{inr, append_assoc, append-nil, arith, length-append, take_all, ne_eqb}
+use Rattle.std.proofs.lemmas.List.{nil_from_length}
+use Rattle.unit_streams.proofs.{Refusals.unit_standing, Standing.standing_nothing}
+use Rattle.unit_streams.specs.{Front.whole, Grammar.Standing, Grammar.standing, Refusals.AreUnits}
 use Rattle.nbfx_values.specs.declared.refusals.Offence.{Offence}
-use Rattle.nmf_records.specs.declared.frame.Frame.{Frame}
-use Rattle.nmf_records.specs.declared.frame.Frame.TheVariants as frames
-use Rattle.nmf_records.specs.declared.script.Due.{Due}
-use Rattle.nmf_records.specs.declared.script.Due.TheVariants as dues
-use Rattle.nmf_records.specs.Records.{IsRecordOf}
-use Rattle.nmf_records.specs.RecordFronts.{MayCome}
-use Rattle.nmf_records.specs.Script.{may_come}
-use Rattle.stream_reader.specs.Stream.{OpenPayload, PayloadStanding, Form, sized, chunked}
-use Rattle.stream_reader.specs.Stream.{last_chunk, Settings, Situation, Stage, StreamEvent}
-use Rattle.stream_reader.specs.Stream.{StreamUnit, record_due, chunk_due, payload_open}
-use Rattle.stream_reader.specs.Stream.{direction_of, is_chunked, on_open, after, after_record}
-use Rattle.stream_reader.specs.Stream.{behind_payload, payload_begun, payload_by, stream, unit_in}
-use Rattle.stream_reader.specs.Stream.{with_byte, with_chunk}
+use Rattle.nmf_records.specs.declared.{frame.Frame.Frame, script.Due.Due}
+use Rattle.nmf_records.specs.{RecordFronts.MayCome, Records.IsRecordOf, Script.may_come}
+use Rattle.stream_reader.specs.{Reasons.AreWhole, Reasons.IsChunked, Stream.with_chunk}
 use Rattle.stream_reader.specs.Sessions.{IsBare, joined}
-use Rattle.stream_reader.specs.Reasons.{AreWhole, IsChunked}
-use Rattle.stream_reader.proofs.Coming.{unit_of_record, unit_of_chunk, unit_of_payload}
-use Rattle.stream_reader.proofs.DueRecords.{envelope_due}
-use Rattle.stream_reader.proofs.Envelopes.{so_far, between}
-use Rattle.stream_reader.proofs.Grammar.{readable}
-use Rattle.stream_reader.proofs.Outcomes.{goes_on, wants_chunk, is_whole, is_refused, outcome}
+use Rattle.stream_reader.specs.Stream.{after, after_record, behind_payload, chunk_due, chunked}
+use Rattle.stream_reader.specs.Stream.{direction_of, Form, is_chunked, last_chunk, on_open}
+use Rattle.stream_reader.specs.Stream.{OpenPayload, payload_begun, payload_by, payload_open}
+use Rattle.stream_reader.specs.Stream.{PayloadStanding, record_due, Settings, Situation, sized}
+use Rattle.stream_reader.specs.Stream.{Stage, stream, StreamEvent, StreamUnit, unit_in, with_byte}
+use Rattle.stream_reader.proofs.Coming.{unit_of_chunk, unit_of_payload, unit_of_record}
+use Rattle.stream_reader.proofs.{DueRecords.envelope_due, Grammar.readable}
+use Rattle.stream_reader.proofs.Envelopes.{between, so_far}
+use Rattle.stream_reader.proofs.Outcomes.{goes_on, is_refused, is_whole, outcome, wants_chunk}
 use Rattle.stream_reader.proofs.PayloadBytes.{behind_is, payload_behind, units_place, with_byte_is}
-use Rattle.stream_reader.proofs.Situations.{begun_behind}
-use Rattle.stream_reader.proofs.Prefixes.{units_keep}
+use Rattle.stream_reader.proofs.{Prefixes.units_keep, Situations.begun_behind}
+use Rattle.nmf_records.specs.declared.frame.Frame.TheVariants as frames
+use Rattle.nmf_records.specs.declared.script.Due.TheVariants as dues
 
 -- how an envelope has brought bytes of its payload: in one part
 pub record IsOnePart (x : Settings) (z : Situation) (start : ℕ) (base : OpenPayload)

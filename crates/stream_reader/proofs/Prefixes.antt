@@ -2,14 +2,11 @@
 -- it,
 -- holds of each prefix that is whole units.
 use Rattle.std.proofs.Common.{◌≡◌, ℕ, ◌<◌, ◌≤◌, List, [], ◌++◌, length, take, drop, sym, ap, ◌∙◌}
-use Rattle.std.proofs.Common.{subst, append_assoc}
-use Rattle.std.proofs.lemmas.List.{append-nil, length-take-le, take-append-drop}
-use Rattle.unit_streams.specs.Front.{whole, IsOpen}
-use Rattle.unit_streams.specs.Grammar.{Grammar, Standing, next_unit, behind_unit, at_start}
-use Rattle.unit_streams.specs.Grammar.{standing, IsReadable}
-use Rattle.unit_streams.specs.Refusals.{AreUnits}
-use Rattle.unit_streams.proofs.Refusals.{unit_standing}
-use Rattle.unit_streams.proofs.Standing.{peel_by, standing_nothing}
+use Rattle.std.proofs.Common.{subst, append_assoc, append-nil, take-append-drop, length-take-le}
+use Rattle.unit_streams.proofs.{Refusals.unit_standing, Standing.peel_by, Standing.standing_nothing}
+use Rattle.unit_streams.specs.{Front.IsOpen, Front.whole, Refusals.AreUnits}
+use Rattle.unit_streams.specs.Grammar.{at_start, behind_unit, Grammar, IsReadable, next_unit}
+use Rattle.unit_streams.specs.Grammar.{Standing, standing}
 
 module _ {Z U E R : Type 0} (g : Grammar Z U E R) (readable : IsReadable g) (P : List ℕ → Type 0)
   where

@@ -1,22 +1,15 @@
 -- Which stages and records come in a direction and a mode.
-use Rattle.std.proofs.Common.{◌≡◌, ℕ, ◌⊎◌, inl, inr, List}
-use Rattle.std.proofs.Common.{Bool, true, false, refl}
-use Rattle.std.specs.Prelude.{if◌then◌else◌}
+use Rattle.std.proofs.Common.{◌≡◌, ℕ, Bool, true, false, ◌⊎◌, List, if◌then◌else◌, refl, inl, inr}
 use Rattle.nbfx_values.specs.declared.session.Mode.{Mode}
-use Rattle.nbfx_values.specs.declared.session.Mode.TheVariants.{Singleton, Duplex, Simplex}
-use Rattle.nmf_records.specs.declared.frame.Frame.TheVariants as frames
-use Rattle.nmf_records.specs.declared.script.Direction.{Direction}
+use Rattle.nbfx_values.specs.declared.session.Mode.TheVariants.{Duplex, Simplex, Singleton}
+use Rattle.nmf_records.specs.declared.script.{Direction.Direction, Due.Due}
 use Rattle.nmf_records.specs.declared.script.Direction.TheVariants.{FromInitiator, FromReceiver}
-use Rattle.nmf_records.specs.declared.script.Due.{Due}
+use Rattle.nmf_records.specs.{RecordFronts.MayCome, Script.behind_preamble, Script.may_come}
+use Rattle.stream_reader.specs.Sessions.{IsEnvelopeIn, IsSized}
+use Rattle.stream_reader.specs.Stream.{chunk_due, chunked, due_behind, Form, is_chunked, last_chunk}
+use Rattle.stream_reader.specs.Stream.{payload_open, record_due, sized, Stage}
+use Rattle.nmf_records.specs.declared.frame.Frame.TheVariants as frames
 use Rattle.nmf_records.specs.declared.script.Due.TheVariants as dues
-use Rattle.nmf_records.specs.RecordFronts.{MayCome}
-use Rattle.nmf_records.specs.Script.{may_come, behind_preamble}
-use Rattle.stream_reader.specs.Stream.{Form, sized, chunked, last_chunk}
-use Rattle.stream_reader.specs.Stream.{Stage}
-use Rattle.stream_reader.specs.Stream.{record_due, chunk_due, payload_open, due_behind}
-use Rattle.stream_reader.specs.Stream.{is_chunked}
-use Rattle.stream_reader.specs.Sessions.{IsSized}
-use Rattle.stream_reader.specs.Sessions.{IsEnvelopeIn}
 
 -- which stages come in a direction and a mode
 abbrev pub InParts : Mode → Type 0

@@ -1,52 +1,39 @@
 -- What follows from what a reader stands for.
-use Rattle.std.proofs.Common.{◌≡◌, ℕ, ◌≤◌, ◌⊎◌, inl, inr, List, [], length, Bool, true, Option}
-use Rattle.std.proofs.Common.{Some, None, Ok, refl, sym, ap, ◌∙◌, subst, arith}
-use Rattle.std.specs.Prelude.{if◌then◌else◌}
-use Rattle.unit_streams.specs.Grammar.{standing, at_start}
-use Rattle.unit_streams.specs.Judging.{event_at, is_over_at, ending_at}
+use Rattle.std.proofs.Common.{◌≡◌, ℕ, ◌≤◌, Bool, true, ◌⊎◌, List, [], length, if◌then◌else◌, Some}
+use Rattle.std.proofs.Common.{None, Ok, Option, sym, refl, ap, ◌∙◌, subst, inl, inr, arith}
 use Rattle.unit_streams.proofs.Standing.{standing_nothing}
-use Rattle.nbfx_values.specs.declared.limits.Quotas.{Quotas}
-use Rattle.nbfx_values.specs.QuotasOf.{limits_of}
-use Rattle.nbfx_values.specs.declared.refusals.Reason.TheVariants.{Truncated}
-use Rattle.nmf_records.specs.declared.reader.FrameReader.{FrameReader}
+use Rattle.unit_streams.specs.Grammar.{at_start, standing}
+use Rattle.unit_streams.specs.Judging.{ending_at, event_at, is_over_at}
+use Rattle.{string_tables.specs.SessionStrings.used_cost, nbfx_decoder.proofs.StandsFacts.stands_as}
+use Rattle.nbfx_values.specs.declared.{limits.Quotas.Quotas, session.Mode.Mode}
+use Rattle.nbfx_values.specs.{declared.refusals.Reason.TheVariants.Truncated, QuotasOf.limits_of}
+use Rattle.nmf_records.specs.declared.{reader.FrameReader.FrameReader, script.Due.Due}
 use Rattle.nmf_records.specs.Reader.{ShowsText as FramesShowText}
-use Rattle.nmf_records.specs.declared.script.Due.{Due}
-use Rattle.nmf_records.specs.declared.script.Due.TheVariants as dues
-use Rattle.nbfx_values.specs.declared.session.Mode.{Mode}
-use Rattle.string_tables.specs.SessionStrings.{used_cost}
-use Rattle.nbfx_decoder.specs.Payload.{Settings as PayloadSettings, payload}
-use Rattle.nbfx_decoder.specs.declared.decoder.Decoder.{Decoder}
-use Rattle.nbfx_decoder.specs.declared.faults.DecodeFault.{DecodeFault}
-use Rattle.nbfx_decoder.specs.DecoderState.{settings_of as decoder_settings, situation_of, begun_of}
+use Rattle.nbfx_decoder.proofs.{Readable.readable as payload_readable, Sound.keeps_within}
+use Rattle.nbfx_decoder.specs.declared.{decoder.Decoder.Decoder, faults.DecodeFault.DecodeFault}
+use Rattle.nbfx_decoder.specs.DecoderState.{begun_of, FailedBehind as DecoderFailedBehind}
+use Rattle.nbfx_decoder.specs.DecoderState.{settings_of as decoder_settings, situation_of}
 use Rattle.nbfx_decoder.specs.DecoderState.{StandsFor as DecoderStandsFor}
-use Rattle.nbfx_decoder.specs.DecoderState.{FailedBehind as DecoderFailedBehind}
-use Rattle.nbfx_decoder.specs.DecoderState.{WhereItStands as WhereDecoderStands}
 use Rattle.nbfx_decoder.specs.DecoderState.{WhereItFailed as WhereDecoderFailed}
-use Rattle.nbfx_decoder.proofs.StandsFacts.{stands_as}
-use Rattle.nbfx_decoder.proofs.Readable.{readable as payload_readable}
-use Rattle.nbfx_decoder.proofs.Sound.{keeps_within}
-use Rattle.stream_reader.specs.declared.awaited.Awaited.{Awaited}
+use Rattle.nbfx_decoder.specs.DecoderState.{WhereItStands as WhereDecoderStands}
+use Rattle.nbfx_decoder.specs.Payload.{payload, Settings as PayloadSettings}
+use Rattle.stream_reader.specs.declared.awaited.{Awaited.Awaited, Closing.Closing}
+use Rattle.stream_reader.specs.declared.reader.{ReadRefusal.ReadRefusal, StreamReader.StreamReader}
+use Rattle.stream_reader.specs.{declared.side.Side.Side as SideRead, Saying.Repeats, Sides.side_of}
+use Rattle.stream_reader.specs.Stepping.{closing_step, has_ended, KeepsShown, may_end_at, opened_at}
+use Rattle.stream_reader.specs.Stream.{accepted, chunk_due, cut_off, direction_of, ended}
+use Rattle.stream_reader.specs.Stream.{is_over_in, may_end_in, message, offence_at, open_from}
+use Rattle.stream_reader.specs.Stream.{opened, OpenPayload, payload_open, payloads, PayloadStanding}
+use Rattle.stream_reader.specs.Stream.{peer_fault, record_due, Settings, Situation, Stage, stream}
+use Rattle.stream_reader.specs.Stream.{StreamEvent, strings_at, strings_in}
+use Rattle.stream_reader.specs.StreamReaderState.{Awaits, begun_in, Failed, FailedBehind}
+use Rattle.stream_reader.specs.StreamReaderState.{failure_of, HasPart, IsIn, items_in, messages_of}
+use Rattle.stream_reader.specs.StreamReaderState.{Reached, ReadsPayload, Recalls, settings_of}
+use Rattle.stream_reader.specs.StreamReaderState.{ShowsStrings, ShowsTable, ShowsText, taken_of}
+use Rattle.stream_reader.proofs.{Grammar.readable, Situations.event_tells}
+use Rattle.nmf_records.specs.declared.script.Due.TheVariants as dues
 use Rattle.stream_reader.specs.declared.awaited.Awaited.TheVariants as awaits
-use Rattle.stream_reader.specs.declared.reader.ReadRefusal.{ReadRefusal}
-use Rattle.stream_reader.specs.declared.reader.StreamReader.{StreamReader}
-use Rattle.stream_reader.specs.declared.awaited.Closing.{Closing}
 use Rattle.stream_reader.specs.declared.awaited.Closing.TheVariants as closings
-use Rattle.stream_reader.specs.declared.side.Side.{Side as SideRead}
-use Rattle.stream_reader.specs.Saying.{Repeats}
-use Rattle.stream_reader.specs.Sides.{side_of}
-use Rattle.stream_reader.specs.Stream.{Settings, Situation, Stage, OpenPayload, StreamEvent, opened}
-use Rattle.stream_reader.specs.Stream.{accepted, message, ended, peer_fault, record_due, chunk_due}
-use Rattle.stream_reader.specs.Stream.{payload_open, direction_of, is_over_in, may_end_in}
-use Rattle.stream_reader.specs.Stream.{offence_at, open_from, payloads, stream, strings_at}
-use Rattle.stream_reader.specs.Stream.{strings_in, PayloadStanding}
-use Rattle.stream_reader.specs.StreamReaderState.{Awaits, Failed, FailedBehind, HasPart, IsIn}
-use Rattle.stream_reader.specs.StreamReaderState.{Reached, ReadsPayload, Recalls, ShowsTable}
-use Rattle.stream_reader.specs.StreamReaderState.{ShowsStrings, ShowsText, begun_in, items_in}
-use Rattle.stream_reader.specs.StreamReaderState.{failure_of, messages_of, settings_of, taken_of}
-use Rattle.stream_reader.specs.Stepping.{KeepsShown, closing_step, has_ended, may_end_at, opened_at}
-use Rattle.stream_reader.proofs.Grammar.{readable}
-use Rattle.stream_reader.specs.Stream.{cut_off}
-use Rattle.stream_reader.proofs.Situations.{event_tells}
 
 -- a refused one stands for nothing
 pub not_failed : (r : StreamReader) (x : Settings) (p : List ℕ) (refusal : ReadRefusal)

@@ -1,15 +1,13 @@
 -- What a loop over the pieces of a stream goes by: bytes that may still go on are few, and no bytes
 -- are refused.
-use Rattle.std.proofs.Common.{◌≡◌, ℕ, ◌<◌, List, [], length, Option, Some, None, refl, ◌∙◌}
-use Rattle.std.specs.Option.{option_or}
-use Rattle.unit_streams.specs.Front.{wrong_of}
+use Rattle.std.proofs.Common.{◌≡◌, ℕ, ◌<◌, List, [], length, Some, None, Option, refl, ◌∙◌}
+use Rattle.{std.specs.Option.option_or, unit_streams.proofs.Standing.standing_nothing}
+use Rattle.unit_streams.proofs.Passing.{going_refusal, refusal_from}
+use Rattle.unit_streams.proofs.Pending.{open_going_on, pending_open, pending_unrefused}
+use Rattle.unit_streams.specs.{Front.wrong_of, Going.IsGoing, Going.IsPending}
 use Rattle.unit_streams.specs.Grammar.{next_unit, standing}
-use Rattle.unit_streams.specs.Judging.{given_at, refusal_at, is_over_at}
-use Rattle.unit_streams.specs.Going.{IsGoing, IsPending}
-use Rattle.unit_streams.proofs.Passing.{refusal_from, going_refusal}
-use Rattle.unit_streams.proofs.Pending.{pending_open, pending_unrefused, open_going_on}
-use Rattle.unit_streams.proofs.Standing.{standing_nothing}
-use Rattle.stream_reader.specs.Stream.{Settings, beginning, stream, too_long}
+use Rattle.unit_streams.specs.Judging.{given_at, is_over_at, refusal_at}
+use Rattle.stream_reader.specs.Stream.{beginning, Settings, stream, too_long}
 use Rattle.stream_reader.proofs.Grammar.{readable, short_enough, within_quota}
 
 option_last : {A : Type 0} (a b v : Option A) → option_or a (option_or b v) ≡ None → v ≡ None

@@ -1,47 +1,37 @@
 -- Which bytes of a stream show each reason that refuses a record, and what refuses it by its
 -- length.
-use Rattle.std.proofs.Common.{◌≡◌, ℕ, ◌≤◌, ◌⊎◌, inl, inr, List, [], ◌∷◌, ◌++◌, length, Bool, true}
-use Rattle.std.proofs.Common.{false, Option, Some, None, refl, sym, ap, ◌∙◌, subst, arith, ◌↔◌}
-use Rattle.std.specs.Prelude.{nat_le, ◌&&◌, not, if◌then◌else◌}
-use Rattle.std.specs.Option.{option_map, option_or}
-use Rattle.std.proofs.lemmas.Bool.{cases_Bool, leb-true}
-use Rattle.std.proofs.lemmas.Bool.Decides.{nat_tests}
-use Rattle.std.proofs.lemmas.List.{take_all}
-use Rattle.unit_streams.specs.Front.{Front, begun, whole, wrong}
-use Rattle.unit_streams.specs.Parts.{seen}
-use Rattle.unit_streams.specs.Grammar.{standing}
-use Rattle.unit_streams.specs.Judging.{refusal_at, is_over_at}
-use Rattle.unit_streams.specs.Refusals.{AreUnits, IsRefusedByUnit, IsRefusedByBytes}
-use Rattle.unit_streams.specs.Refusals.{IsRefusedByLength}
-use Rattle.unit_streams.proofs.Standing.{standing_length}
-use Rattle.unit_streams.proofs.Refusals.{refusals_are_three}
-use Rattle.nbfx_values.specs.declared.refusals.Offence.{Offence}
-use Rattle.nbfx_values.specs.declared.refusals.Reason.{Reason}
-use Rattle.nbfx_values.specs.declared.refusals.Reason.TheVariants as reasons
+use Rattle.std.proofs.Common.{◌≡◌, ℕ, ◌≤◌, Bool, true, false, not, ◌&&◌, ◌⊎◌, ◌↔◌, List, [], ◌∷◌}
+use Rattle.std.proofs.Common.{◌++◌, length, if◌then◌else◌, nat_le, Some, None, Option, option_map}
+use Rattle.std.proofs.Common.{sym, refl, ap, ◌∙◌, subst, inl, inr, arith, take_all, leb-true}
+use Rattle.std.proofs.lemmas.Bool.{cases_Bool, Decides.nat_tests}
+use Rattle.{std.specs.Option.option_or, nbfx_decoder.specs.Payload.Refusal}
+use Rattle.unit_streams.proofs.{Refusals.refusals_are_three, Standing.standing_length}
+use Rattle.unit_streams.specs.Front.{begun, Front, whole, wrong}
+use Rattle.unit_streams.specs.{Grammar.standing, Parts.seen, Refusals.IsRefusedByUnit}
+use Rattle.unit_streams.specs.Judging.{is_over_at, refusal_at}
+use Rattle.unit_streams.specs.Refusals.{AreUnits, IsRefusedByBytes, IsRefusedByLength}
+use Rattle.nbfx_values.specs.declared.refusals.{Offence.Offence, Reason.Reason}
 use Rattle.nbfx_values.specs.declared.refusals.Place.TheVariants.{Frame as InFrame}
 use Rattle.nbfx_values.specs.declared.refusals.Place.TheVariants.{Payload as InPayload}
-use Rattle.nmf_records.specs.declared.frame.Frame.{Frame}
-use Rattle.nmf_records.specs.declared.frame.FrameFault.{FrameFault}
-use Rattle.nmf_records.specs.declared.script.Due.{Due}
+use Rattle.nmf_records.proofs.{Causes.fault_cause, Faults.fault_comes}
+use Rattle.nmf_records.specs.declared.frame.{Frame.Frame, FrameFault.FrameFault}
+use Rattle.nmf_records.specs.{declared.script.Due.Due, Script.may_come}
+use Rattle.nmf_records.specs.RecordFronts.{frame_at, MayCome}
+use Rattle.nmf_records.specs.Records.{IsRecord, IsRecordOf, Read}
+use Rattle.stream_reader.specs.Reasons.{IsTooLong, Shows, ShowsFrom, ShowsIn}
+use Rattle.stream_reader.specs.Stream.{chunk_due, direction_of, due_record_at, frame, is_over_in}
+use Rattle.stream_reader.specs.Stream.{offence_at, offence_in, on_open, on_payload, open_from}
+use Rattle.stream_reader.specs.Stream.{OpenPayload, payload_at, payload_by, payload_byte}
+use Rattle.stream_reader.specs.Stream.{payload_open, reason_in, reason_of, record_due, refusal_in}
+use Rattle.stream_reader.specs.Stream.{refused, refused_payload, refused_record, Settings}
+use Rattle.stream_reader.specs.Stream.{Situation, size_before, Stage, stream, StreamUnit, too_long}
+use Rattle.stream_reader.specs.Stream.{unit_in, with_byte}
+use Rattle.stream_reader.proofs.Coming.{Comes, unit_of_chunk, unit_of_record}
+use Rattle.stream_reader.proofs.DueRecords.{read_due, record_unit, refusing}
+use Rattle.stream_reader.proofs.Grammar.{quiet_over, readable}
+use Rattle.stream_reader.proofs.Said.{IsFaulty, IsSaid, said, shown, shows_fault}
+use Rattle.nbfx_values.specs.declared.refusals.Reason.TheVariants as reasons
 use Rattle.nmf_records.specs.declared.script.Due.TheVariants as dues
-use Rattle.nmf_records.specs.Records.{Read, IsRecord, IsRecordOf}
-use Rattle.nmf_records.specs.RecordFronts.{MayCome, frame_at}
-use Rattle.nmf_records.specs.Script.{may_come}
-use Rattle.nmf_records.proofs.Causes.{fault_cause}
-use Rattle.nmf_records.proofs.Faults.{fault_comes}
-use Rattle.nbfx_decoder.specs.Payload.{Refusal}
-use Rattle.stream_reader.specs.Stream.{OpenPayload, Settings, direction_of, Situation, Stage}
-use Rattle.stream_reader.specs.Stream.{record_due, chunk_due, payload_open, StreamUnit, frame}
-use Rattle.stream_reader.specs.Stream.{payload_byte, offence_at, offence_in, size_before, reason_of}
-use Rattle.stream_reader.specs.Stream.{reason_in, refusal_in, refused_payload, refused_record}
-use Rattle.stream_reader.specs.Stream.{on_payload, on_open, payload_by, with_byte, payload_at}
-use Rattle.stream_reader.specs.Stream.{unit_in, due_record_at, refused, is_over_in, open_from}
-use Rattle.stream_reader.specs.Stream.{too_long, stream}
-use Rattle.stream_reader.specs.Reasons.{Shows, ShowsIn, ShowsFrom, IsTooLong}
-use Rattle.stream_reader.proofs.Grammar.{readable, quiet_over}
-use Rattle.stream_reader.proofs.Coming.{Comes, unit_of_record, unit_of_chunk}
-use Rattle.stream_reader.proofs.DueRecords.{refusing, read_due, record_unit}
-use Rattle.stream_reader.proofs.Said.{IsFaulty, IsSaid, shows_fault, said, shown}
 
 -- a mapped option
 pub some_mapped : {A B : Type 0} (f : A → B) (v : Option A) (b : B) → option_map f v ≡ Some b

@@ -1,42 +1,32 @@
 -- Which streams are refused first in a record, are too long, and are cut off.
-use Rattle.std.proofs.Common.{◌≡◌, ℕ, zero, suc, ◌+◌, ◌-◌, ◌<◌, ◌≤◌, inl, inr, List, ◌++◌, length}
-use Rattle.std.proofs.Common.{take, drop, Bool, true, false, Option, Some, None, refl, sym, ap, ◌∙◌}
-use Rattle.std.proofs.Common.{subst, arith, ◌↔◌}
-use Rattle.std.specs.Prelude.{if◌then◌else◌}
-use Rattle.std.proofs.Math.Seq.{take-add}
-use Rattle.std.proofs.lemmas.Bool.{cases_lt, cases_Bool}
-use Rattle.std.proofs.lemmas.List.{length-take-le}
+use Rattle.std.proofs.Common.{◌≡◌, ℕ, zero, suc, ◌+◌, ◌-◌, ◌<◌, ◌≤◌, Bool, true, false, ◌↔◌, List}
+use Rattle.std.proofs.Common.{◌++◌, length, take, drop, if◌then◌else◌, Some, None, Option, sym}
+use Rattle.std.proofs.Common.{refl, ap, ◌∙◌, subst, inl, inr, arith, length-take-le}
+use Rattle.std.proofs.{Math.Seq.take-add, lemmas.Bool.cases_Bool, lemmas.Bool.cases_lt}
+use Rattle.unit_streams.proofs.{Answers.answers_are_first, Ends.after_end}
+use Rattle.unit_streams.proofs.{Offences.offences_are_first, Passing.going_at}
 use Rattle.unit_streams.specs.Grammar.{Standing, standing}
-use Rattle.unit_streams.specs.Judging.{refusal_at, is_over_at, ending_at, offence as offence_by}
-use Rattle.unit_streams.specs.Judging.{answer, offends}
-use Rattle.unit_streams.proofs.Answers.{answers_are_first}
-use Rattle.unit_streams.proofs.Offences.{offences_are_first}
-use Rattle.unit_streams.proofs.Ends.{after_end}
-use Rattle.unit_streams.proofs.Passing.{going_at}
-use Rattle.nbfx_values.specs.declared.refusals.Offence.{Offence}
-use Rattle.nbfx_values.specs.declared.refusals.Reason.{Reason}
-use Rattle.nbfx_values.specs.declared.refusals.Reason.TheVariants as reasons
-use Rattle.nbfx_values.specs.declared.refusals.Place.{Place}
-use Rattle.nbfx_values.specs.declared.refusals.Place.TheVariants.{Frame as InFrame}
+use Rattle.unit_streams.specs.Judging.{answer, ending_at, is_over_at, offence as offence_by}
+use Rattle.unit_streams.specs.Judging.{offends, refusal_at}
+use Rattle.nbfx_values.specs.declared.refusals.{Offence.Offence, Reason.Reason}
+use Rattle.nbfx_values.specs.declared.refusals.Place.{Place, TheVariants.Frame as InFrame}
 use Rattle.nbfx_values.specs.declared.refusals.Place.TheVariants.{Payload as InPayload}
 use Rattle.nbfx_values.specs.declared.session.Mode.{Mode}
-use Rattle.nbfx_decoder.specs.declared.section.Section.{Section}
-use Rattle.nbfx_decoder.specs.declared.section.Section.TheVariants.{TableSize, Strings, Nodes}
+use Rattle.nbfx_decoder.specs.{declared.section.Section.Section, DecoderState.situation_of}
+use Rattle.nbfx_decoder.specs.declared.section.Section.TheVariants.{Nodes, Strings, TableSize}
 use Rattle.nbfx_decoder.specs.Payload.{refusal, Settings as PayloadSettings}
 use Rattle.nbfx_decoder.specs.Payload.{Situation as PayloadSituation}
 use Rattle.nbfx_decoder.specs.Reasons.{Shows as ShowsInSection}
-use Rattle.nbfx_decoder.specs.DecoderState.{situation_of}
-use Rattle.nmf_records.specs.declared.script.Due.TheVariants as dues
-use Rattle.stream_reader.specs.Stream.{Settings, Situation, Stage, record_due, chunk_due}
-use Rattle.stream_reader.specs.Stream.{payload_open, StreamEvent, offence_at, offence_in, payloads}
-use Rattle.stream_reader.specs.Stream.{is_over_in, open_from, may_end_in, cut_off, stream}
-use Rattle.stream_reader.specs.Reasons.{ShowsFrom, ShowsInPayload, ShowsOf, IsTooLong, IsCutOff}
-use Rattle.stream_reader.specs.Laws.{Begins}
-use Rattle.stream_reader.proofs.Grammar.{readable, quiet_over}
-use Rattle.stream_reader.proofs.Reasons.{refused_by_record, too_long_is, apart, never_cut}
-use Rattle.stream_reader.proofs.Reasons.{same_place}
-use Rattle.stream_reader.proofs.PayloadRefusals.{in_payload_is}
+use Rattle.stream_reader.{specs.Laws.Begins, proofs.Grammar.quiet_over, proofs.Grammar.readable}
+use Rattle.stream_reader.specs.Reasons.{IsCutOff, IsTooLong, ShowsFrom, ShowsInPayload, ShowsOf}
+use Rattle.stream_reader.specs.Stream.{chunk_due, cut_off, is_over_in, may_end_in, offence_at}
+use Rattle.stream_reader.specs.Stream.{offence_in, open_from, payload_open, payloads, record_due}
+use Rattle.stream_reader.specs.Stream.{Settings, Situation, Stage, stream, StreamEvent}
 use Rattle.stream_reader.proofs.LoneAck.{ack_may_end, only_ack_may_end}
+use Rattle.stream_reader.proofs.{PayloadRefusals.in_payload_is, Reasons.too_long_is}
+use Rattle.stream_reader.proofs.Reasons.{apart, never_cut, refused_by_record, same_place}
+use Rattle.nbfx_values.specs.declared.refusals.Reason.TheVariants as reasons
+use Rattle.nmf_records.specs.declared.script.Due.TheVariants as dues
 
 -- the end refuses a stream that isn't over, at what is open
 end_is : (x : Settings) (mode : Mode) (stage : Stage) (from n : ℕ) (o : Offence)

@@ -1,41 +1,34 @@
 -- What a record leads to that is read, and what its reader answers, by the limit and what may come.
-use Rattle.std.proofs.Common.{◌≡◌, ℕ, ◌+◌, ◌<◌, ◌≤◌, List, [], ◌++◌, length, Bool, true, false}
-use Rattle.std.proofs.Common.{Option, Some, None, Ok, Err, refl, sym, subst, arith}
-use Rattle.std.specs.Prelude.{◌==◌, if◌then◌else◌}
-use Rattle.std.specs.Option.{option_map, option_or}
+use Rattle.std.proofs.Common.{◌≡◌, ℕ, ◌+◌, ◌<◌, ◌≤◌, Bool, true, false, List, [], ◌++◌, length}
+use Rattle.std.proofs.Common.{if◌then◌else◌, ◌==◌, Some, None, Ok, Err, Option, option_map, sym}
+use Rattle.std.proofs.Common.{refl, subst, arith}
+use Rattle.{std.specs.Option.option_or, nbfx_decoder.specs.Payload.Refusal}
 use Rattle.unit_streams.specs.Front.{begun, whole, wrong}
-use Rattle.nbfx_values.specs.declared.refusals.Offence.{Offence}
-use Rattle.nbfx_values.specs.declared.refusals.Reason.{Reason}
-use Rattle.nmf_records.specs.declared.frame.Frame.{Frame}
-use Rattle.nmf_records.specs.declared.frame.Frame.TheVariants as frames
-use Rattle.nmf_records.specs.declared.frame.FrameRefusal.{FrameRefusal}
-use Rattle.nmf_records.specs.declared.frame.FrameStep.{FrameStep}
-use Rattle.nmf_records.specs.declared.frame.FrameStep.TheVariants.{More, Done}
-use Rattle.nmf_records.specs.declared.reader.FrameReader.{FrameReader}
-use Rattle.nmf_records.specs.declared.frame.Expect.{Expect}
-use Rattle.nmf_records.specs.declared.script.Direction.{Direction}
+use Rattle.nbfx_values.specs.declared.refusals.{Offence.Offence, Reason.Reason}
+use Rattle.nmf_records.specs.declared.frame.{Expect.Expect, Frame.Frame}
+use Rattle.nmf_records.specs.declared.frame.{FrameRefusal.FrameRefusal, FrameStep.FrameStep}
+use Rattle.nmf_records.specs.declared.frame.FrameStep.TheVariants.{Done, More}
+use Rattle.nmf_records.specs.{declared.reader.FrameReader.FrameReader, Script.may_come}
+use Rattle.nmf_records.specs.declared.script.{Direction.Direction, Due.Due}
 use Rattle.nmf_records.specs.declared.script.Direction.TheVariants.{FromInitiator, FromReceiver}
-use Rattle.nmf_records.specs.declared.script.Due.{Due}
-use Rattle.nmf_records.specs.declared.script.Due.TheVariants as dues
-use Rattle.nmf_records.specs.RecordFronts.{MayCome, with_text, frame_at}
-use Rattle.nmf_records.specs.Reader.{StandsFor as FrameStandsFor, ShowsText as FramesShowText}
-use Rattle.nmf_records.specs.Reader.{FrameAnswers, AfterPiece, shown_behind}
-use Rattle.nmf_records.specs.Script.{may_come}
-use Rattle.nbfx_decoder.specs.Payload.{Refusal}
-use Rattle.stream_reader.specs.declared.awaited.Awaited.{Awaited}
-use Rattle.stream_reader.specs.declared.awaited.Awaited.TheVariants as awaits
-use Rattle.stream_reader.specs.Stream.{Settings, OpenPayload, Situation, Stage, sized, record_due}
-use Rattle.stream_reader.specs.Stream.{chunk_due, payload_open, direction_of, reason_in, offence_at}
-use Rattle.stream_reader.specs.Stream.{payload_begun, payload_by, with_chunk, on_payload}
-use Rattle.stream_reader.specs.Stream.{after_record, completed_bare, completed_payload}
-use Rattle.stream_reader.specs.Stream.{completed_record, refused_payload, refused_record, after}
-use Rattle.stream_reader.specs.Stream.{refusal_in, offence_in}
+use Rattle.nmf_records.specs.Reader.{AfterPiece, FrameAnswers, shown_behind}
+use Rattle.nmf_records.specs.Reader.{ShowsText as FramesShowText, StandsFor as FrameStandsFor}
+use Rattle.nmf_records.specs.RecordFronts.{frame_at, MayCome, with_text}
+use Rattle.stream_reader.specs.{declared.awaited.Awaited.Awaited, Stepping.due_of}
+use Rattle.stream_reader.specs.Stream.{after, after_record, chunk_due, completed_bare}
+use Rattle.stream_reader.specs.Stream.{completed_payload, completed_record, direction_of}
+use Rattle.stream_reader.specs.Stream.{offence_at, offence_in, on_payload, OpenPayload}
+use Rattle.stream_reader.specs.Stream.{payload_begun, payload_by, payload_open, reason_in}
+use Rattle.stream_reader.specs.Stream.{record_due, refusal_in, refused_payload, refused_record}
+use Rattle.stream_reader.specs.Stream.{Settings, Situation, sized, Stage, with_chunk}
 use Rattle.stream_reader.specs.StreamReaderState.{HasBegun, HasPayloads}
-use Rattle.stream_reader.specs.Stepping.{due_of}
-use Rattle.stream_reader.proofs.MadePayloads.{size_large}
 use Rattle.stream_reader.proofs.DueRecords.{chunk_due as size_due, envelope_due}
+use Rattle.stream_reader.proofs.MadePayloads.{size_large}
 use Rattle.stream_reader.proofs.Outcomes.{more_completed, refused_eventless}
-use Rattle.stream_reader.proofs.Texts.{ReadsDue, reads_record, reads_size}
+use Rattle.stream_reader.proofs.Texts.{reads_record, reads_size, ReadsDue}
+use Rattle.nmf_records.specs.declared.frame.Frame.TheVariants as frames
+use Rattle.nmf_records.specs.declared.script.Due.TheVariants as dues
+use Rattle.stream_reader.specs.declared.awaited.Awaited.TheVariants as awaits
 
 module _ (x : Settings) (z : Situation) (from to : ℕ) (f : Frame) (text : List ℕ) where
   -- a size that is refused is of a payload with bytes to come

@@ -1,60 +1,47 @@
 -- A reader takes bytes of a record, or of a chunk's size.
-use Rattle.std.proofs.Common.{◌≡◌, ℕ, ◌+◌, ◌-◌, ◌<◌, ◌≤◌, List, [], ◌++◌, length, take, true, false}
-use Rattle.std.proofs.Common.{Option, Some, None, Result, Ok, Err, refl, sym, ap, ◌∙◌, subst, arith}
-use Rattle.std.proofs.Common.{length-append}
-use Rattle.std.specs.Option.{option_or}
-use Rattle.std.proofs.Math.Seq.{take-length}
-use Rattle.std.proofs.lemmas.List.{length-take-le}
-use Rattle.unit_streams.specs.Front.{Front, begun, whole, wrong}
-use Rattle.unit_streams.specs.Parts.{seen}
-use Rattle.unit_streams.specs.Grammar.{Standing, standing, with_more, behind_unit}
-use Rattle.unit_streams.specs.Judging.{is_over_at, event_at, refusal_at}
-use Rattle.unit_streams.specs.Going.{IsQuiet, IsQuietBefore}
-use Rattle.unit_streams.proofs.Peeling.{extent, Decides}
-use Rattle.unit_streams.proofs.Fronts.{left_begun, decides_at, wrong_later}
-use Rattle.unit_streams.proofs.Passing.{given_none, leaves_quiet, leaves_standing, decides_quiet}
-use Rattle.unit_streams.proofs.Passing.{whole_standing, whole_event, whole_refusal, whole_quiet}
-use Rattle.unit_streams.proofs.Passing.{wrong_standing, wrong_quiet, wrong_refusal}
-use Rattle.unit_streams.proofs.Standing.{standing_length}
-use Rattle.unit_streams.proofs.Units.{IsBetween, between_going}
-use Rattle.nbfx_values.specs.declared.refusals.Offence.{Offence}
-use Rattle.nmf_records.specs.declared.frame.Frame.{Frame}
-use Rattle.nmf_records.specs.declared.frame.Frame.TheVariants as frames
-use Rattle.nmf_records.specs.declared.frame.FrameFault.{FrameFault}
-use Rattle.nmf_records.specs.declared.reader.FrameReader.{FrameReader}
-use Rattle.nmf_records.specs.declared.frame.Expect.{Expect}
-use Rattle.nmf_records.specs.declared.script.Due.{Due}
-use Rattle.nmf_records.specs.declared.script.Due.TheVariants as dues
-use Rattle.nmf_records.specs.RecordFronts.{MayCome, with_text, frame_at}
-use Rattle.nmf_records.specs.Reader.{StandsFor as FrameStandsFor, ShowsText as FramesShowText}
-use Rattle.nmf_records.specs.Reader.{text_after, shown_behind}
-use Rattle.nmf_records.specs.Script.{may_come}
-use Rattle.nmf_records.proofs.Records.{read_record}
+use Rattle.std.proofs.Common.{◌≡◌, ℕ, ◌+◌, ◌-◌, ◌<◌, ◌≤◌, true, false, List, [], ◌++◌, length, take}
+use Rattle.std.proofs.Common.{Some, None, Ok, Err, Option, Result, sym, refl, ap, ◌∙◌, subst, arith}
+use Rattle.std.proofs.{Common.length-append, Common.length-take-le, Math.Seq.take-length}
+use Rattle.{std.specs.Option.option_or, nbfx_values.specs.declared.refusals.Offence.Offence}
+use Rattle.unit_streams.proofs.Fronts.{decides_at, left_begun, wrong_later}
+use Rattle.unit_streams.proofs.Passing.{decides_quiet, given_none, leaves_quiet, leaves_standing}
+use Rattle.unit_streams.proofs.Passing.{whole_event, whole_quiet, whole_refusal, whole_standing}
+use Rattle.unit_streams.proofs.Passing.{wrong_quiet, wrong_refusal, wrong_standing}
+use Rattle.unit_streams.proofs.Peeling.{Decides, extent}
+use Rattle.unit_streams.proofs.{Standing.standing_length, Units.between_going, Units.IsBetween}
+use Rattle.unit_streams.specs.Front.{begun, Front, whole, wrong}
+use Rattle.unit_streams.specs.{Going.IsQuiet, Going.IsQuietBefore, Parts.seen}
+use Rattle.unit_streams.specs.Grammar.{behind_unit, Standing, standing, with_more}
+use Rattle.unit_streams.specs.Judging.{event_at, is_over_at, refusal_at}
+use Rattle.nmf_records.{proofs.Records.read_record, specs.Script.may_come}
+use Rattle.nmf_records.specs.declared.frame.{Expect.Expect, Frame.Frame, FrameFault.FrameFault}
+use Rattle.nmf_records.specs.declared.{reader.FrameReader.FrameReader, script.Due.Due}
+use Rattle.nmf_records.specs.Reader.{shown_behind, ShowsText as FramesShowText}
+use Rattle.nmf_records.specs.Reader.{StandsFor as FrameStandsFor, text_after}
+use Rattle.nmf_records.specs.RecordFronts.{frame_at, MayCome, with_text}
 use Rattle.nbfx_decoder.specs.declared.decoder.Decoder.{Decoder}
 use Rattle.nbfx_decoder.specs.DecoderState.{settings_of as decoder_settings}
-use Rattle.stream_reader.specs.declared.awaited.Awaited.{Awaited}
-use Rattle.stream_reader.specs.declared.reader.ReadRefusal.{ReadRefusal}
-use Rattle.stream_reader.specs.declared.reader.ReadRefusal.TheVariants.{Offence as Refused, Memory}
-use Rattle.stream_reader.specs.declared.reader.StreamReader.{StreamReader}
-use Rattle.stream_reader.specs.declared.reader.StreamStep.{StreamStep}
-use Rattle.stream_reader.specs.declared.reader.StreamStep.TheVariants as steps
-use Rattle.stream_reader.specs.Stream.{Settings, OpenPayload, Situation, StreamUnit, StreamEvent}
-use Rattle.stream_reader.specs.Stream.{opened, accepted, message, ended, peer_fault, frame}
-use Rattle.stream_reader.specs.Stream.{record_due, chunk_due, direction_of, reason_of, offence_at}
-use Rattle.stream_reader.specs.Stream.{unit_in, after_record, completed_record, refused_record}
-use Rattle.stream_reader.specs.Stream.{is_over_in, after, completed, refused, stream, strings_in}
-use Rattle.stream_reader.specs.StreamReaderState.{Awaits, IsIn, Reached, ReadsPayload, Recalls}
-use Rattle.stream_reader.specs.StreamReaderState.{HasBegun, HasPayloads, ShowsTable, ShowsText}
-use Rattle.stream_reader.specs.StreamReaderState.{ShowsStrings, taken_of, messages_of, failure_of}
-use Rattle.stream_reader.specs.Stepping.{UnitAnswers, BehindAnswers, due_of, step_of}
-use Rattle.stream_reader.proofs.MadePayloads.{reads_at}
-use Rattle.stream_reader.proofs.DueRecords.{read_due, refusing, encoding_due}
-use Rattle.stream_reader.proofs.Grammar.{readable, short_enough}
-use Rattle.stream_reader.proofs.PayloadFeeds.{none_begun}
-use Rattle.stream_reader.proofs.ReaderFacts.{shows_in}
-use Rattle.stream_reader.proofs.Texts.{ReadsDue, reads_record, reads_size, before_encoding, early}
-use Rattle.stream_reader.proofs.Texts.{begun_text, wrong_text, whole_text}
+use Rattle.stream_reader.specs.declared.{awaited.Awaited.Awaited, reader.StreamReader.StreamReader}
+use Rattle.stream_reader.specs.declared.reader.{ReadRefusal.ReadRefusal, StreamStep.StreamStep}
+use Rattle.stream_reader.specs.declared.reader.ReadRefusal.TheVariants.{Memory, Offence as Refused}
+use Rattle.stream_reader.specs.Stepping.{BehindAnswers, due_of, step_of, UnitAnswers}
+use Rattle.stream_reader.specs.Stream.{accepted, after, after_record, chunk_due, completed, unit_in}
+use Rattle.stream_reader.specs.Stream.{completed_record, direction_of, ended, frame, is_over_in}
+use Rattle.stream_reader.specs.Stream.{message, offence_at, opened, OpenPayload, peer_fault}
+use Rattle.stream_reader.specs.Stream.{reason_of, record_due, refused, refused_record, Settings}
+use Rattle.stream_reader.specs.Stream.{Situation, stream, StreamEvent, StreamUnit, strings_in}
+use Rattle.stream_reader.specs.StreamReaderState.{Awaits, failure_of, HasBegun, HasPayloads, IsIn}
+use Rattle.stream_reader.specs.StreamReaderState.{messages_of, Reached, ReadsPayload, Recalls}
+use Rattle.stream_reader.specs.StreamReaderState.{ShowsStrings, ShowsTable, ShowsText, taken_of}
+use Rattle.stream_reader.proofs.DueRecords.{encoding_due, read_due, refusing}
+use Rattle.stream_reader.proofs.{Grammar.readable, Grammar.short_enough, PayloadFeeds.none_begun}
+use Rattle.stream_reader.proofs.{MadePayloads.reads_at, ReaderFacts.shows_in}
 use Rattle.stream_reader.proofs.RecordFacts.{begun_awaited, begun_due, quiet_payloads, refused_none}
+use Rattle.stream_reader.proofs.Texts.{before_encoding, begun_text, early, reads_record, reads_size}
+use Rattle.stream_reader.proofs.Texts.{ReadsDue, whole_text, wrong_text}
+use Rattle.nmf_records.specs.declared.frame.Frame.TheVariants as frames
+use Rattle.nmf_records.specs.declared.script.Due.TheVariants as dues
+use Rattle.stream_reader.specs.declared.reader.StreamStep.TheVariants as steps
 
 module _ (r : StreamReader) (x : Settings) (p c : List ℕ) (due : Due)
     (is : due_of r.awaited ≡ Some due) (h : Reached r x p) (on : is_over_at (stream x) p ≡ false)

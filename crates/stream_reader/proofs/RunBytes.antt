@@ -1,20 +1,15 @@
 -- Short chunks in a stream: where they lead, and why they are refused, is said by their content.
-use Rattle.std.proofs.Common.{◌≡◌, ℕ, suc, ◌+◌, ◌-◌, ◌<◌, ◌≤◌, inl, inr, List, [], ◌∷◌, ◌++◌}
-use Rattle.std.proofs.Common.{length, take, drop, None, sym, ap, ◌∙◌, subst, arith, append_assoc}
-use Rattle.std.proofs.Common.{length-append}
-use Rattle.std.specs.List.{concat}
-use Rattle.std.proofs.Math.Nat.{eq-or-lt_of_le}
-use Rattle.std.proofs.Math.Seq.{take-append_seam, drop-append_seam, take-append-add, take-append-le}
-use Rattle.std.proofs.lemmas.Bool.{cases_lt}
-use Rattle.std.proofs.lemmas.List.{append-nil}
-use Rattle.unit_streams.specs.Judging.{refusal_at}
-use Rattle.unit_streams.specs.Going.{IsQuiet}
-use Rattle.unit_streams.proofs.Answers.{quiet_none}
-use Rattle.unit_streams.proofs.Quiet.{quiet_joined}
-use Rattle.stream_reader.specs.Runs.{AreShort, IsShort, chunks_of, place_in}
-use Rattle.stream_reader.specs.Stream.{Settings, Situation, payload_in, stream}
+use Rattle.std.proofs.Common.{◌≡◌, ℕ, suc, ◌+◌, ◌-◌, ◌<◌, ◌≤◌, List, [], ◌∷◌, ◌++◌, length, take}
+use Rattle.std.proofs.Common.{drop, None, sym, ap, ◌∙◌, subst, inl, inr, append_assoc, append-nil}
+use Rattle.std.proofs.Common.{arith, length-append}
+use Rattle.std.{proofs.Math.Nat.eq-or-lt_of_le, proofs.lemmas.Bool.cases_lt, specs.List.concat}
+use Rattle.std.proofs.Math.Seq.{drop-append_seam, take-append-add, take-append-le, take-append_seam}
+use Rattle.unit_streams.proofs.{Answers.quiet_none, Quiet.quiet_joined}
+use Rattle.unit_streams.specs.{Going.IsQuiet, Judging.refusal_at}
+use Rattle.stream_reader.specs.Runs.{AreShort, chunks_of, IsShort, place_in}
+use Rattle.stream_reader.specs.Stream.{payload_in, Settings, Situation, stream}
+use Rattle.stream_reader.proofs.ChunkBytes.{between_again, chunk_quiet, IsBetween, Shows, shows}
 use Rattle.stream_reader.proofs.RunFacts.{place_first, place_later, place_none}
-use Rattle.stream_reader.proofs.ChunkBytes.{IsBetween, Shows, between_again, chunk_quiet, shows}
 
 module _ (x : Settings) (z : Situation) (from : ℕ) where
   -- where a stream stands behind so many bytes of the content of chunks

@@ -1,14 +1,12 @@
 -- Short chunks and their content, by lists alone.
-use Rattle.std.proofs.Common.{◌≡◌, ℕ, zero, suc, ◌+◌, ◌-◌, ◌<◌, ◌≤◌, inl, inr, List, [], ◌∷◌, ◌++◌}
-use Rattle.std.proofs.Common.{length, get_or, take, drop, false, true, refl, sym, ap, ◌∙◌, subst}
-use Rattle.std.proofs.Common.{arith, append_assoc, length-append, length-drop}
-use Rattle.std.specs.Prelude.{◌==◌, nat_le}
+use Rattle.std.proofs.Common.{◌≡◌, ℕ, zero, suc, ◌+◌, ◌-◌, ◌<◌, ◌≤◌, true, false, List, [], ◌∷◌}
+use Rattle.std.proofs.Common.{◌++◌, length, get_or, take, drop, nat_le, ◌==◌, sym, refl, ap, ◌∙◌}
+use Rattle.std.proofs.Common.{subst, inl, inr, append_assoc, append-nil, arith, length-append}
+use Rattle.std.proofs.Common.{length-drop, length-take-le, ne_eqb, le-leb}
+use Rattle.std.proofs.Math.{Nat.eq-or-lt_of_le, Seq.drop-append_seam, Seq.drop-drop, Seq.take-add}
+use Rattle.std.proofs.lemmas.{Bool.cases_lt, Bool.lt-leb, List.drop_more}
 use Rattle.std.specs.List.{concat}
-use Rattle.std.proofs.lemmas.Bool.{cases_lt, le-leb, lt-leb, ne_eqb}
-use Rattle.std.proofs.lemmas.List.{append-nil, drop_more, length-take-le}
-use Rattle.std.proofs.Math.Nat.{eq-or-lt_of_le}
-use Rattle.std.proofs.Math.Seq.{drop-append_seam, drop-drop, take-add}
-use Rattle.stream_reader.specs.Runs.{AreShort, HasShort, IsRun, IsShort, chunks_of, place_in}
+use Rattle.stream_reader.specs.Runs.{AreShort, chunks_of, HasShort, IsRun, IsShort, place_in}
 
 -- where so many bytes of the content are, by the first chunk
 pub place_first : (c : List ℕ) (contents : List (List ℕ)) (n : ℕ) → 0 < n → n ≤ length c

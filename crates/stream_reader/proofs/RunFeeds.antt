@@ -1,54 +1,42 @@
 -- A reader takes short chunks at once.
-use Rattle.std.proofs.Common.{◌≡◌, ℕ, zero, suc, ◌+◌, ◌<◌, ◌≤◌, inl, inr, List, [], ◌∷◌, ◌++◌}
-use Rattle.std.proofs.Common.{length, take, true, false, Some, None, Result, Ok, Err, refl, sym, ap}
-use Rattle.std.proofs.Common.{◌∙◌, subst, arith, length-append}
-use Rattle.std.specs.List.{concat}
-use Rattle.std.proofs.Math.Nat.{eq-or-lt_of_le}
-use Rattle.std.proofs.Math.Seq.{take-length, take-append-le}
-use Rattle.std.proofs.lemmas.List.{append-nil}
-use Rattle.unit_streams.specs.Grammar.{standing}
+use Rattle.std.proofs.Common.{◌≡◌, ℕ, zero, suc, ◌+◌, ◌<◌, ◌≤◌, true, false, List, [], ◌∷◌, ◌++◌}
+use Rattle.std.proofs.Common.{length, take, Some, None, Ok, Err, Result, sym, refl, ap, ◌∙◌, subst}
+use Rattle.std.proofs.Common.{inl, inr, append-nil, arith, length-append}
+use Rattle.std.proofs.Math.{Nat.eq-or-lt_of_le, Seq.take-append-le, Seq.take-length}
+use Rattle.{std.specs.List.concat, nbfx_decoder.specs.declared.faults.DecodeFault.DecodeFault}
+use Rattle.unit_streams.proofs.{Answers.answers_are_first, Standing.standing_length}
+use Rattle.unit_streams.proofs.Quiet.{quiet_before_behind, quiet_behind}
+use Rattle.unit_streams.specs.{Going.IsQuiet, Going.IsQuietBefore, Grammar.standing}
 use Rattle.unit_streams.specs.Judging.{event_at, goes_on, is_over_at, offends, refusal_at}
-use Rattle.unit_streams.specs.Going.{IsQuiet, IsQuietBefore}
-use Rattle.unit_streams.proofs.Answers.{answers_are_first}
-use Rattle.unit_streams.proofs.Quiet.{quiet_behind, quiet_before_behind}
-use Rattle.unit_streams.proofs.Standing.{standing_length}
-use Rattle.nmf_records.specs.declared.reader.FrameReader.{FrameReader}
-use Rattle.nmf_records.specs.declared.script.Due.TheVariants as dues
-use Rattle.nmf_records.specs.Reader.{StandsFor as FrameStandsFor, ShowsText as FramesShowText}
-use Rattle.nmf_records.specs.Script.{may_come}
-use Rattle.nbfx_decoder.specs.Payload.{Refusal, refusal, payload, Settings as PayloadSettings}
-use Rattle.nbfx_decoder.specs.declared.faults.DecodeFault.{DecodeFault}
-use Rattle.nbfx_decoder.specs.declared.faults.DecodeFault.TheVariants as faults
-use Rattle.nbfx_decoder.specs.DecoderState.{settings_of as decoder_settings}
-use Rattle.nbfx_decoder.specs.DecoderState.{StandsFor as DecoderStandsFor}
+use Rattle.nmf_records.specs.{declared.reader.FrameReader.FrameReader, Script.may_come}
+use Rattle.nmf_records.specs.Reader.{ShowsText as FramesShowText, StandsFor as FrameStandsFor}
 use Rattle.nbfx_decoder.specs.DecoderState.{FailedBehind as DecoderFailedBehind, FailedWithin}
-use Rattle.nbfx_decoder.specs.DecoderState.{FeedAnswers}
-use Rattle.stream_reader.specs.declared.awaited.Awaited.{Awaited}
-use Rattle.stream_reader.specs.declared.awaited.Awaited.TheVariants as awaits
-use Rattle.stream_reader.specs.declared.awaited.PayloadLeft.{PayloadLeft}
-use Rattle.stream_reader.specs.declared.reader.ReadRefusal.{ReadRefusal}
-use Rattle.stream_reader.specs.declared.reader.ReadRefusal.TheVariants.{Offence as Refused, Memory}
-use Rattle.stream_reader.specs.declared.reader.StreamReader.{StreamReader}
-use Rattle.stream_reader.specs.declared.reader.StreamStep.{StreamStep}
-use Rattle.stream_reader.specs.declared.reader.StreamStep.TheVariants as steps
+use Rattle.nbfx_decoder.specs.DecoderState.{FeedAnswers, settings_of as decoder_settings}
+use Rattle.nbfx_decoder.specs.DecoderState.{StandsFor as DecoderStandsFor}
+use Rattle.nbfx_decoder.specs.Payload.{payload, Refusal, refusal, Settings as PayloadSettings}
+use Rattle.stream_reader.specs.declared.awaited.{Awaited.Awaited, PayloadLeft.PayloadLeft}
+use Rattle.stream_reader.specs.declared.reader.{ReadRefusal.ReadRefusal, StreamStep.StreamStep}
+use Rattle.stream_reader.specs.declared.reader.ReadRefusal.TheVariants.{Memory, Offence as Refused}
+use Rattle.stream_reader.specs.{declared.reader.StreamReader.StreamReader, Saying.step_for}
 use Rattle.stream_reader.specs.Runs.{AreShort, chunks_of, place_in}
-use Rattle.stream_reader.specs.Stream.{Form, chunked, sized, last_chunk, OpenPayload}
-use Rattle.stream_reader.specs.Stream.{PayloadStanding, Settings, Situation, Stage, StreamEvent}
-use Rattle.stream_reader.specs.Stream.{record_due, chunk_due, payload_open, direction_of}
-use Rattle.stream_reader.specs.Stream.{is_chunked, is_over_in, offence_in, payload_in, stream}
-use Rattle.stream_reader.specs.Stream.{strings_at}
-use Rattle.stream_reader.specs.Saying.{step_for}
-use Rattle.stream_reader.specs.StreamReaderState.{Awaits, Failed, HasBegun, HasPart, HasPayloads}
-use Rattle.stream_reader.specs.StreamReaderState.{IsIn, IsOpenSo, Reached, ReadsPayload, form_of}
-use Rattle.stream_reader.specs.Stepping.{UnitAnswers, more_shown, refusal_told}
-use Rattle.stream_reader.proofs.FailedFeeds.{StaysWith, failed_with, same_grammar, some_refused}
-use Rattle.stream_reader.proofs.FailedFeeds.{unrefused_so}
-use Rattle.stream_reader.proofs.Grammar.{readable}
-use Rattle.stream_reader.proofs.PayloadBytes.{units_place}
-use Rattle.stream_reader.proofs.ChunkBytes.{IsBetween, between}
+use Rattle.stream_reader.specs.Stepping.{more_shown, refusal_told, UnitAnswers}
+use Rattle.stream_reader.specs.Stream.{chunk_due, chunked, direction_of, Form, is_chunked}
+use Rattle.stream_reader.specs.Stream.{is_over_in, last_chunk, offence_in, OpenPayload, payload_in}
+use Rattle.stream_reader.specs.Stream.{payload_open, PayloadStanding, record_due, Settings}
+use Rattle.stream_reader.specs.Stream.{Situation, sized, Stage, stream, StreamEvent, strings_at}
+use Rattle.stream_reader.specs.StreamReaderState.{Awaits, Failed, form_of, HasBegun, HasPart}
+use Rattle.stream_reader.specs.StreamReaderState.{HasPayloads, IsIn, IsOpenSo, Reached}
+use Rattle.stream_reader.specs.StreamReaderState.{ReadsPayload}
+use Rattle.stream_reader.proofs.{ChunkBytes.between, ChunkBytes.IsBetween, PayloadBytes.units_place}
+use Rattle.stream_reader.proofs.FailedFeeds.{failed_with, same_grammar, some_refused, StaysWith}
+use Rattle.stream_reader.proofs.{FailedFeeds.unrefused_so, Grammar.readable}
 use Rattle.stream_reader.proofs.RunBytes.{IsAlong, run_along, run_between}
 use Rattle.stream_reader.proofs.RunFacts.{place_all, place_none, place_rises}
 use Rattle.stream_reader.proofs.Situations.{IsOpenAt, sound}
+use Rattle.nmf_records.specs.declared.script.Due.TheVariants as dues
+use Rattle.nbfx_decoder.specs.declared.faults.DecodeFault.TheVariants as faults
+use Rattle.stream_reader.specs.declared.awaited.Awaited.TheVariants as awaits
+use Rattle.stream_reader.specs.declared.reader.StreamStep.TheVariants as steps
 
 -- bytes of a unit, or of several, are answered alike with more behind them
 module _ (x : Settings) (p c more : List ℕ) (new : StreamReader) where

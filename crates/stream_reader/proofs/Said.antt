@@ -1,38 +1,30 @@
 -- What bytes show of a record: a fault of framing, or what a whole one says.
-use Rattle.std.proofs.Common.{◌≡◌, ◌≢◌, ℕ, ◌+◌, ◌<◌, ◌≤◌, ◌⊎◌, inl, inr, List, length, Bool, true}
-use Rattle.std.proofs.Common.{false, Some, None, refl, sym, ap, ◌∙◌, subst, arith}
-use Rattle.std.specs.Prelude.{nat_lt, ◌==◌, ◌&&◌, if◌then◌else◌}
-use Rattle.std.specs.Str.{bytes_eq}
-use Rattle.std.proofs.Math.Bool.{and-false}
-use Rattle.std.proofs.lemmas.Bool.{cond_both, cases_Bool, eqb-false, ne_eqb, ltb-true}
-use Rattle.std.proofs.lemmas.Bool.Decides.{nat_tests}
-use Rattle.std.proofs.lemmas.Slice.Eq.{bytes_eq-Decides}
-use Rattle.nbfx_values.specs.Session.{mode_number}
-use Rattle.nbfx_values.specs.declared.session.Mode.TheVariants.{Singleton, Duplex, Simplex}
-use Rattle.nbfx_values.specs.declared.refusals.Reason.{Reason}
-use Rattle.nbfx_values.specs.declared.refusals.Reason.TheVariants as reasons
-use Rattle.nmf_records.specs.declared.frame.Frame.{Frame}
-use Rattle.nmf_records.specs.declared.frame.Frame.TheVariants as frames
-use Rattle.nmf_records.specs.declared.frame.FrameFault.{FrameFault}
-use Rattle.nmf_records.specs.declared.frame.FrameFault.TheVariants as faults
-use Rattle.nmf_records.specs.declared.script.Due.{Due}
-use Rattle.nmf_records.specs.declared.script.Due.TheVariants as dues
+use Rattle.std.proofs.Common.{◌≡◌, ℕ, ◌+◌, ◌<◌, ◌≤◌, Bool, true, false, ◌&&◌, ◌≢◌, ◌⊎◌, List}
+use Rattle.std.proofs.Common.{length, if◌then◌else◌, nat_lt, ◌==◌, Some, None, bytes_eq, sym, refl}
+use Rattle.std.proofs.Common.{ap, ◌∙◌, subst, inl, inr, arith, ltb-true, ne_eqb}
+use Rattle.std.proofs.{Math.Bool.and-false, lemmas.Slice.Eq.bytes_eq-Decides}
+use Rattle.std.proofs.lemmas.Bool.{cases_Bool, cond_both, eqb-false, Decides.nat_tests}
+use Rattle.nbfx_values.specs.{declared.refusals.Reason.Reason, Session.mode_number}
+use Rattle.nbfx_values.specs.declared.session.Mode.TheVariants.{Duplex, Simplex, Singleton}
+use Rattle.nmf_records.{proofs.Causes.HasCause, specs.Laws.BeginsUnexpected, specs.Script.may_come}
+use Rattle.nmf_records.specs.declared.frame.{Frame.Frame, FrameFault.FrameFault}
 use Rattle.nmf_records.specs.declared.record_types.TheConstants.{EXTENSIBLE_ENCODING}
-use Rattle.nmf_records.specs.declared.record_types.TheConstants.{UPGRADE_REQUEST}
-use Rattle.nmf_records.specs.Records.{Read, IsRecord, IsRecordOf}
-use Rattle.nmf_records.specs.RecordFronts.{bare, with_text, MayCome}
-use Rattle.nmf_records.specs.Script.{may_come}
-use Rattle.nmf_records.specs.Laws.{BeginsUnexpected}
-use Rattle.nmf_records.proofs.Causes.{HasCause}
-use Rattle.stream_reader.specs.Stream.{Settings, Side, initiators, receivers, direction_of, Stage}
-use Rattle.stream_reader.specs.Stream.{unexpected, size_before, serves, is_mode, is_binary}
-use Rattle.stream_reader.specs.Stream.{too_large, reason_of, reason_in}
-use Rattle.stream_reader.specs.Reasons.{IsOtherVersion, IsOtherMode, IsOtherVia, IsOtherEncoding}
-use Rattle.stream_reader.specs.Reasons.{IsLargeHead, IsLargeChunk, Shows}
-use Rattle.stream_reader.proofs.DueRecords.{version_comes, mode_comes, via_comes, encoding_comes}
-use Rattle.stream_reader.proofs.DueRecords.{envelope_comes, chunk_comes, version_due, mode_due}
-use Rattle.stream_reader.proofs.DueRecords.{via_due, encoding_due, envelope_due}
-use Rattle.stream_reader.proofs.DueRecords.{chunk_due as size_due}
+use Rattle.nmf_records.specs.declared.{record_types.TheConstants.UPGRADE_REQUEST, script.Due.Due}
+use Rattle.nmf_records.specs.RecordFronts.{bare, MayCome, with_text}
+use Rattle.nmf_records.specs.Records.{IsRecord, IsRecordOf, Read}
+use Rattle.stream_reader.specs.Reasons.{IsLargeChunk, IsLargeHead, IsOtherEncoding, IsOtherMode}
+use Rattle.stream_reader.specs.Reasons.{IsOtherVersion, IsOtherVia, Shows}
+use Rattle.stream_reader.specs.Stream.{direction_of, initiators, is_binary, is_mode, reason_in}
+use Rattle.stream_reader.specs.Stream.{reason_of, receivers, serves, Settings, Side, size_before}
+use Rattle.stream_reader.specs.Stream.{Stage, too_large, unexpected}
+use Rattle.stream_reader.proofs.DueRecords.{chunk_comes, chunk_due as size_due, encoding_comes}
+use Rattle.stream_reader.proofs.DueRecords.{encoding_due, envelope_comes, envelope_due, mode_comes}
+use Rattle.stream_reader.proofs.DueRecords.{mode_due, version_comes, version_due, via_comes}
+use Rattle.stream_reader.proofs.DueRecords.{via_due}
+use Rattle.nbfx_values.specs.declared.refusals.Reason.TheVariants as reasons
+use Rattle.nmf_records.specs.declared.frame.Frame.TheVariants as frames
+use Rattle.nmf_records.specs.declared.frame.FrameFault.TheVariants as faults
+use Rattle.nmf_records.specs.declared.script.Due.TheVariants as dues
 
 -- bytes that are wrong by a fault which is answered so
 abbrev pub IsFaulty : Settings → Due → List ℕ → Reason → Type 0

@@ -1,13 +1,10 @@
 -- What stands before a record that is cut out of a script.
-use Rattle.std.proofs.Common.{◌≡◌, ℕ, List, [], ◌∷◌, ◌++◌, map, refl, ap, ◌∙◌, subst, inl, inr}
-use Rattle.std.specs.Prelude.{IsSome}
-use Rattle.nbfx_values.specs.declared.session.Mode.{Mode}
-use Rattle.nbfx_values.specs.declared.session.Mode.TheVariants.{Singleton, Duplex, Simplex}
-use Rattle.nmf_records.specs.declared.frame.Frame.{Frame}
+use Rattle.std.proofs.Common.{◌≡◌, ℕ, List, [], ◌∷◌, ◌++◌, map, IsSome, refl, ap, ◌∙◌, subst, inl}
+use Rattle.{std.proofs.Common.inr, nbfx_values.specs.declared.session.Mode.Mode}
+use Rattle.nbfx_values.specs.declared.session.Mode.TheVariants.{Duplex, Simplex, Singleton}
+use Rattle.nmf_records.specs.declared.{frame.Frame.Frame, script.Direction.TheVariants.FromReceiver}
+use Rattle.nmf_records.specs.{Records.type_of, Script.AreEnvelopes, Script.AreSized}
 use Rattle.nmf_records.specs.declared.frame.Frame.TheVariants as frames
-use Rattle.nmf_records.specs.declared.script.Direction.TheVariants.{FromReceiver}
-use Rattle.nmf_records.specs.Records.{type_of}
-use Rattle.nmf_records.specs.Script.{AreEnvelopes, AreSized}
 
 -- where one with a type is cut out of chunks, it is the End behind them
 behind_chunks : (sizes : List ℕ) (more after : List Frame) (frame last : Frame)

@@ -1,7 +1,6 @@
 -- A session is the records of a script, and these are a session.
 use Rattle.stream_reader.specs.Scripts.{SessionsAreScripts}
-use Rattle.stream_reader.proofs.FromScript.{from_script}
-use Rattle.stream_reader.proofs.ToScript.{to_script}
+use Rattle.stream_reader.proofs.{FromScript.from_script, ToScript.to_script}
 
 pub sessions_are_scripts : SessionsAreScripts
 sessions_are_scripts x bytes = (

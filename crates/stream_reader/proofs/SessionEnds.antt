@@ -1,44 +1,33 @@
 -- A session is told by its events, whatever may follow, and so it closes its stream, and is one.
-use Rattle.std.proofs.Common.{◌≡◌, ℕ, ◌+◌, ◌<◌, ◌≤◌, List, [], ◌∷◌, ◌++◌, length, true, false}
-use Rattle.std.proofs.Common.{Option, None, refl, sym, ap, ◌∙◌, subst, arith, append_assoc}
-use Rattle.std.proofs.Common.{length-append}
-use Rattle.std.proofs.lemmas.List.{append-nil}
-use Rattle.unit_streams.specs.Grammar.{standing}
-use Rattle.unit_streams.specs.Judging.{History, is_over_at, led_by, only, history}
-use Rattle.unit_streams.specs.Judging.{offence as offence_by, refusal_at}
-use Rattle.unit_streams.specs.Going.{IsGoing}
-use Rattle.unit_streams.proofs.Ends.{over_closed}
-use Rattle.unit_streams.proofs.Histories.{history_ends}
+use Rattle.std.proofs.Common.{◌≡◌, ℕ, ◌+◌, ◌<◌, ◌≤◌, true, false, List, [], ◌∷◌, ◌++◌, length, None}
+use Rattle.std.proofs.Common.{Option, sym, refl, ap, ◌∙◌, subst, append_assoc, append-nil, arith}
+use Rattle.{std.proofs.Common.length-append, string_tables.specs.StaticStrings.Entry}
+use Rattle.unit_streams.proofs.Along.{Passes, passes_between, passes_history, passes_none}
+use Rattle.unit_streams.proofs.Along.{passes_then, passes_unit}
+use Rattle.unit_streams.proofs.{Ends.over_closed, Histories.history_ends, Units.between_going}
 use Rattle.unit_streams.proofs.Passing.{going_refusal, refusal_from}
-use Rattle.unit_streams.proofs.Units.{between_going}
-use Rattle.unit_streams.proofs.Along.{Passes, passes_none, passes_then, passes_unit, passes_between}
-use Rattle.unit_streams.proofs.Along.{passes_history}
-use Rattle.nbfx_values.specs.Limits.{IsGood, Limits}
-use Rattle.nbfx_values.specs.declared.session.Mode.{Mode}
-use Rattle.nbfx_values.specs.declared.session.Mode.TheVariants.{Singleton, Duplex, Simplex}
-use Rattle.nbfx_values.specs.declared.session.Kind.{Kind}
-use Rattle.nbfx_values.specs.declared.refusals.Offence.{Offence}
-use Rattle.string_tables.specs.StaticStrings.{Entry}
-use Rattle.nmf_records.specs.declared.frame.Frame.TheVariants as frames
-use Rattle.nmf_records.specs.declared.script.Direction.TheVariants.{FromReceiver}
-use Rattle.nmf_records.specs.declared.script.Due.TheVariants as dues
-use Rattle.nmf_records.specs.declared.script.Due.{Due}
+use Rattle.unit_streams.specs.{Going.IsGoing, Grammar.standing, Judging.only, Judging.refusal_at}
+use Rattle.unit_streams.specs.Judging.{History, history, is_over_at, led_by, offence as offence_by}
+use Rattle.nbfx_values.specs.{declared.refusals.Offence.Offence, Limits.IsGood, Limits.Limits}
+use Rattle.nbfx_values.specs.declared.session.{Kind.Kind, Mode.Mode}
+use Rattle.nbfx_values.specs.declared.session.Mode.TheVariants.{Duplex, Simplex, Singleton}
+use Rattle.nmf_records.specs.declared.script.{Direction.TheVariants.FromReceiver, Due.Due}
 use Rattle.nmf_records.specs.RecordFronts.{bare, MayCome}
 use Rattle.nmf_records.specs.Script.{behind_preamble, may_come}
-use Rattle.stream_reader.specs.Stream.{Settings, Side, initiators, receivers, Situation, record_due}
-use Rattle.stream_reader.specs.Stream.{beginning, frame, StreamEvent, opened, accepted, ended}
-use Rattle.stream_reader.specs.Stream.{peer_fault, after, completed, refused, is_over_in, stream}
-use Rattle.stream_reader.specs.Sessions.{IsBare, Carried, CarriesAll, CarriesThen, MayCarry}
-use Rattle.stream_reader.specs.Sessions.{IsAckThen, IsFault, Parts, conversation, answer, lone_ack}
-use Rattle.stream_reader.specs.Sessions.{broken_off, turned_down, HasParts, IsSession, MayFollow}
-use Rattle.stream_reader.specs.Sessions.{IsClosed, SessionsAreTold, SpellsOneSession}
-use Rattle.stream_reader.specs.Sessions.{message_events, session_events}
-use Rattle.stream_reader.proofs.Grammar.{readable, quiet_over, short_enough}
-use Rattle.stream_reader.proofs.DueRecords.{record_unit}
-use Rattle.stream_reader.proofs.FromSession.{at, left_by, CarriesTo, chunked_to, sized_to}
-use Rattle.stream_reader.proofs.FromSession.{end_passes, fault_passes, initiator_carries}
-use Rattle.stream_reader.proofs.FromSession.{preamble_passes}
-use Rattle.stream_reader.proofs.LoneAck.{ack_may_end}
+use Rattle.stream_reader.specs.Sessions.{answer, broken_off, Carried, CarriesAll, CarriesThen}
+use Rattle.stream_reader.specs.Sessions.{conversation, HasParts, IsAckThen, IsBare, IsClosed}
+use Rattle.stream_reader.specs.Sessions.{IsFault, IsSession, lone_ack, MayCarry, MayFollow}
+use Rattle.stream_reader.specs.Sessions.{message_events, Parts, session_events, SessionsAreTold}
+use Rattle.stream_reader.specs.{Sessions.SpellsOneSession, Sessions.turned_down, Stream.StreamEvent}
+use Rattle.stream_reader.specs.Stream.{accepted, after, beginning, completed, ended, frame}
+use Rattle.stream_reader.specs.Stream.{initiators, is_over_in, opened, peer_fault, receivers}
+use Rattle.stream_reader.specs.Stream.{record_due, refused, Settings, Side, Situation, stream}
+use Rattle.stream_reader.proofs.{DueRecords.record_unit, LoneAck.ack_may_end}
+use Rattle.stream_reader.proofs.FromSession.{at, CarriesTo, chunked_to, end_passes, fault_passes}
+use Rattle.stream_reader.proofs.FromSession.{initiator_carries, left_by, preamble_passes, sized_to}
+use Rattle.stream_reader.proofs.Grammar.{quiet_over, readable, short_enough}
+use Rattle.nmf_records.specs.declared.frame.Frame.TheVariants as frames
+use Rattle.nmf_records.specs.declared.script.Due.TheVariants as dues
 
 -- the bytes of a session lead to its end, and bring its events
 record Ends (x : Settings) (b : List ℕ) (events : List StreamEvent) : Type 0 where

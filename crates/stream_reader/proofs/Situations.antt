@@ -1,30 +1,25 @@
 -- What holds of each situation of a stream, and of the event that its last unit completed.
-use Rattle.std.proofs.Common.{◌≡◌, ℕ, ◌+◌, ◌<◌, ◌≤◌, List, [], ◌∷◌, ◌++◌, length, true, Option}
-use Rattle.std.proofs.Common.{Some, None, refl, sym, ap, ◌∙◌, subst, arith, length-append}
-use Rattle.unit_streams.specs.Front.{IsOpen}
-use Rattle.unit_streams.specs.Grammar.{resumed, standing}
-use Rattle.unit_streams.specs.Judging.{event_at}
-use Rattle.unit_streams.proofs.Passing.{given_some}
+use Rattle.std.proofs.Common.{◌≡◌, ℕ, ◌+◌, ◌<◌, ◌≤◌, true, List, [], ◌∷◌, ◌++◌, length, Some, None}
+use Rattle.std.proofs.Common.{Option, sym, refl, ap, ◌∙◌, subst, arith, length-append}
+use Rattle.{unit_streams.proofs.Passing.given_some, nbfx_values.specs.Limits.IsGood}
 use Rattle.unit_streams.proofs.Standing.{standing_append, standing_keeps, standing_last}
 use Rattle.unit_streams.proofs.Standing.{standing_length, standing_nothing, standing_open}
-use Rattle.nbfx_values.specs.Limits.{IsGood}
+use Rattle.unit_streams.specs.{Front.IsOpen, Grammar.resumed, Grammar.standing, Judging.event_at}
 use Rattle.string_tables.specs.SessionStrings.{used_cost}
 use Rattle.nmf_records.specs.declared.frame.Frame.{Frame}
-use Rattle.nmf_records.specs.declared.frame.Frame.TheVariants as frames
-use Rattle.nbfx_decoder.proofs.Readable.{readable as payload_readable}
-use Rattle.nbfx_decoder.proofs.Sound.{keeps_within}
-use Rattle.stream_reader.specs.Stream.{OpenPayload, PayloadStanding, Form, sized, chunked, Settings}
-use Rattle.stream_reader.specs.Stream.{Situation, Stage, beginning, record_due, chunk_due}
-use Rattle.stream_reader.specs.Stream.{payload_open, strings_in, StreamUnit, frame, payload_byte}
-use Rattle.stream_reader.specs.Stream.{Envelope, StreamEvent, opened, accepted, message, ended}
-use Rattle.stream_reader.specs.Stream.{peer_fault, unit_in, is_chunked, payload_in, payloads}
-use Rattle.stream_reader.specs.Stream.{payload_begun, with_chunk, with_byte, on_open, on_payload}
-use Rattle.stream_reader.specs.Stream.{payload_by, behind_payload, after_bare, after}
-use Rattle.stream_reader.specs.Stream.{completed_payload, completed_bare, completed, stream}
-use Rattle.stream_reader.proofs.Grammar.{readable}
+use Rattle.nbfx_decoder.proofs.{Readable.readable as payload_readable, Sound.keeps_within}
 use Rattle.stream_reader.specs.Laws.{FitsIn, IsBoundedIn, open_payload}
-use Rattle.stream_reader.proofs.Outcomes.{envelope_of, goes_on, wants_chunk, is_whole, is_refused}
-use Rattle.stream_reader.proofs.Outcomes.{outcome}
+use Rattle.stream_reader.specs.Stream.{accepted, after, after_bare, beginning, behind_payload}
+use Rattle.stream_reader.specs.Stream.{chunk_due, chunked, completed, completed_bare, with_chunk}
+use Rattle.stream_reader.specs.Stream.{completed_payload, ended, Envelope, Form, frame, is_chunked}
+use Rattle.stream_reader.specs.Stream.{message, on_open, on_payload, opened, OpenPayload}
+use Rattle.stream_reader.specs.Stream.{payload_begun, payload_by, payload_byte, payload_in}
+use Rattle.stream_reader.specs.Stream.{payload_open, payloads, PayloadStanding, peer_fault}
+use Rattle.stream_reader.specs.Stream.{record_due, Settings, Situation, sized, Stage, stream}
+use Rattle.stream_reader.specs.Stream.{StreamEvent, StreamUnit, strings_in, unit_in, with_byte}
+use Rattle.stream_reader.proofs.{Grammar.readable, Outcomes.wants_chunk}
+use Rattle.stream_reader.proofs.Outcomes.{envelope_of, goes_on, is_refused, is_whole, outcome}
+use Rattle.nmf_records.specs.declared.frame.Frame.TheVariants as frames
 
 -- a payload stands behind these bytes of it
 pub record IsBehind (x : Settings) (z : Situation) (p : OpenPayload) (bytes : List ℕ) : Type 0 where

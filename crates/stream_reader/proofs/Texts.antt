@@ -1,46 +1,38 @@
 -- Which text is shown: that of the situation, until a record brings another. Where a text may still
 -- begin there is none before, and there are no strings before the encoding's record.
-use Rattle.std.proofs.Common.{◌≡◌, ℕ, ◌+◌, inl, inr, List, [], ◌∷◌, ◌++◌, take, drop, Bool, true}
-use Rattle.std.proofs.Common.{false, Option, Some, None, refl, sym, ap, ◌∙◌, subst}
-use Rattle.std.specs.Prelude.{◌==◌, ◌||◌, not, if◌then◌else◌}
-use Rattle.std.proofs.lemmas.Bool.{eqb-true, cases_Bool, and_left}
-use Rattle.std.proofs.lemmas.List.{take-append-drop}
-use Rattle.unit_streams.specs.Front.{Front, begun, whole, wrong}
-use Rattle.unit_streams.specs.Grammar.{standing}
+use Rattle.std.proofs.Common.{◌≡◌, ℕ, ◌+◌, Bool, true, false, not, ◌||◌, List, [], ◌∷◌, ◌++◌, take}
+use Rattle.std.proofs.Common.{drop, if◌then◌else◌, ◌==◌, Some, None, Option, sym, refl, ap, ◌∙◌}
+use Rattle.std.proofs.Common.{subst, inl, inr, take-append-drop, eqb-true}
+use Rattle.std.proofs.lemmas.Bool.{and_left, cases_Bool}
 use Rattle.unit_streams.proofs.Standing.{standing_keeps}
+use Rattle.unit_streams.specs.{Front.begun, Front.Front, Front.whole, Front.wrong, Grammar.standing}
 use Rattle.nbfx_values.specs.declared.session.Mode.{Mode}
-use Rattle.nbfx_values.specs.declared.session.Mode.TheVariants.{Singleton, Duplex, Simplex}
-use Rattle.nmf_records.specs.declared.record_types.TheConstants.{VERSION, MODE, VIA, KNOWN_ENCODING}
-use Rattle.nmf_records.specs.declared.record_types.TheConstants.{UNSIZED_ENVELOPE, SIZED_ENVELOPE}
-use Rattle.nmf_records.specs.declared.record_types.TheConstants.{END, FAULT, PREAMBLE_ACK}
-use Rattle.nmf_records.specs.declared.record_types.TheConstants.{PREAMBLE_END}
-use Rattle.nmf_records.specs.declared.frame.Frame.{Frame}
-use Rattle.nmf_records.specs.declared.frame.Frame.TheVariants as frames
-use Rattle.nmf_records.specs.declared.frame.Expect.{Expect}
-use Rattle.nmf_records.specs.declared.frame.Expect.TheVariants.{Types, Chunk}
-use Rattle.nmf_records.specs.declared.frame.FrameFault.{FrameFault}
-use Rattle.nmf_records.specs.declared.script.Direction.{Direction}
+use Rattle.nbfx_values.specs.declared.session.Mode.TheVariants.{Duplex, Simplex, Singleton}
+use Rattle.nmf_records.proofs.{Records.read_record, Showing.plain_head}
+use Rattle.nmf_records.specs.declared.frame.Expect.{Expect, TheVariants.Chunk, TheVariants.Types}
+use Rattle.nmf_records.specs.declared.frame.{Frame.Frame, FrameFault.FrameFault}
+use Rattle.nmf_records.specs.declared.record_types.TheConstants.{END, FAULT, KNOWN_ENCODING, MODE}
+use Rattle.nmf_records.specs.declared.record_types.TheConstants.{PREAMBLE_ACK, PREAMBLE_END}
+use Rattle.nmf_records.specs.declared.record_types.TheConstants.{SIZED_ENVELOPE, UNSIZED_ENVELOPE}
+use Rattle.nmf_records.specs.declared.record_types.TheConstants.{VERSION, VIA}
+use Rattle.nmf_records.specs.declared.script.{Direction.Direction, Due.Due}
 use Rattle.nmf_records.specs.declared.script.Direction.TheVariants.{FromInitiator, FromReceiver}
-use Rattle.nmf_records.specs.declared.script.Due.{Due}
-use Rattle.nmf_records.specs.declared.script.Due.TheVariants as dues
-use Rattle.nmf_records.specs.Records.{Read, IsRecordOf}
-use Rattle.nmf_records.specs.RecordFronts.{MayCome, allows, frame_at, begins_text}
+use Rattle.nmf_records.specs.{Reader.text_after, Reader.text_read, Records.IsRecordOf, Records.Read}
+use Rattle.nmf_records.specs.RecordFronts.{allows, begins_text, frame_at, MayCome}
 use Rattle.nmf_records.specs.Script.{behind_preamble, first, may_come}
-use Rattle.nmf_records.specs.Reader.{text_after, text_read}
-use Rattle.nmf_records.proofs.Records.{read_record}
-use Rattle.nmf_records.proofs.Showing.{plain_head}
-use Rattle.stream_reader.specs.Stream.{Form, sized, chunked, last_chunk, Settings, direction_of}
-use Rattle.stream_reader.specs.Stream.{OpenPayload, Situation, Stage, beginning, record_due}
-use Rattle.stream_reader.specs.Stream.{chunk_due, payload_open, StreamUnit, due_behind, due_in}
-use Rattle.stream_reader.specs.Stream.{is_over_in, mode_of, on_open, on_payload, payload_by}
-use Rattle.stream_reader.specs.Stream.{unit_in, behind_payload, payload_begun, with_byte}
-use Rattle.stream_reader.specs.Stream.{after_bare, after_record, after, stream}
-use Rattle.stream_reader.proofs.DueRecords.{version_due, mode_due, via_due, encoding_due}
-use Rattle.stream_reader.proofs.DueRecords.{chunk_due as size_due}
-use Rattle.stream_reader.proofs.Grammar.{readable}
-use Rattle.stream_reader.proofs.Coming.{unit_of_record, unit_of_chunk, unit_of_payload}
-use Rattle.stream_reader.proofs.Outcomes.{goes_on, wants_chunk, is_whole, is_refused, outcome}
-use Rattle.stream_reader.proofs.Outcomes.{text_behind}
+use Rattle.stream_reader.specs.Stream.{after, after_bare, after_record, beginning, behind_payload}
+use Rattle.stream_reader.specs.Stream.{chunk_due, chunked, direction_of, due_behind, due_in, Form}
+use Rattle.stream_reader.specs.Stream.{is_over_in, last_chunk, mode_of, on_open, on_payload}
+use Rattle.stream_reader.specs.Stream.{OpenPayload, payload_begun, payload_by, payload_open}
+use Rattle.stream_reader.specs.Stream.{record_due, Settings, Situation, sized, Stage, stream}
+use Rattle.stream_reader.specs.Stream.{StreamUnit, unit_in, with_byte}
+use Rattle.stream_reader.proofs.Coming.{unit_of_chunk, unit_of_payload, unit_of_record}
+use Rattle.stream_reader.proofs.DueRecords.{chunk_due as size_due, encoding_due, mode_due}
+use Rattle.stream_reader.proofs.DueRecords.{version_due, via_due}
+use Rattle.stream_reader.proofs.{Grammar.readable, Outcomes.wants_chunk}
+use Rattle.stream_reader.proofs.Outcomes.{goes_on, is_refused, is_whole, outcome, text_behind}
+use Rattle.nmf_records.specs.declared.frame.Frame.TheVariants as frames
+use Rattle.nmf_records.specs.declared.script.Due.TheVariants as dues
 
 -- no Via was read yet
 abbrev pub before_via : Stage → Bool

@@ -1,34 +1,27 @@
 -- A session is the records of a script, with the payloads of documents.
-use Rattle.std.proofs.Common.{◌≡◌, ℕ, suc, ◌+◌, ◌<◌, ◌≤◌, List, [], ◌∷◌, ◌++◌, map, length, true}
-use Rattle.std.proofs.Common.{Option, None, refl, sym, ap, ◌∙◌, subst, inl, inr, append_assoc}
-use Rattle.std.proofs.Common.{length-append, arith}
-use Rattle.std.specs.Prelude.{All}
-use Rattle.std.proofs.lemmas.Bool.{le-ltb}
-use Rattle.std.proofs.lemmas.List.{append-nil}
-use Rattle.std.proofs.lemmas.List.Elements.{All-nil, All-cons}
-use Rattle.nbfx_values.specs.declared.content.Item.{Item}
-use Rattle.nbfx_values.specs.declared.session.Kind.{Kind}
-use Rattle.nbfx_values.specs.declared.session.Kind.TheVariants.{Plain, Session}
-use Rattle.nbfx_values.specs.declared.session.Mode.{Mode}
-use Rattle.nbfx_values.specs.declared.session.Mode.TheVariants.{Singleton, Duplex, Simplex}
-use Rattle.nbfx_values.specs.Session.{mode_number, kind_number}
-use Rattle.nbfx_decoder.specs.Laws.{IsWholePayload}
-use Rattle.nmf_records.specs.declared.frame.Frame.{Frame}
-use Rattle.nmf_records.specs.declared.frame.Frame.TheVariants as frames
-use Rattle.nmf_records.specs.declared.script.Direction.{Direction}
+use Rattle.std.proofs.Common.{◌≡◌, ℕ, suc, ◌+◌, ◌<◌, ◌≤◌, true, List, [], ◌∷◌, ◌++◌, map, length}
+use Rattle.std.proofs.Common.{None, All, Option, sym, refl, ap, ◌∙◌, subst, inl, inr, append_assoc}
+use Rattle.std.proofs.Common.{append-nil, arith, length-append, le-ltb}
+use Rattle.std.proofs.lemmas.List.Elements.{All-cons, All-nil}
+use Rattle.nbfx_values.specs.declared.{content.Item.Item, session.Mode.Mode}
+use Rattle.nbfx_values.specs.declared.session.Kind.{Kind, TheVariants.Plain, TheVariants.Session}
+use Rattle.nbfx_values.specs.declared.session.Mode.TheVariants.{Duplex, Simplex, Singleton}
+use Rattle.nbfx_values.specs.Session.{kind_number, mode_number}
+use Rattle.nmf_records.specs.declared.{frame.Frame.Frame, script.Direction.Direction}
 use Rattle.nmf_records.specs.declared.script.Direction.TheVariants.{FromInitiator, FromReceiver}
-use Rattle.nmf_records.specs.declared.script.Due.TheVariants as dues
-use Rattle.nmf_records.specs.Records.{IsRecordOf}
+use Rattle.{nmf_records.specs.Records.IsRecordOf, nbfx_decoder.specs.Laws.IsWholePayload}
 use Rattle.nmf_records.specs.Script.{AreEnvelopes, IsScript, IsUnsized as IsUnsizedScript}
-use Rattle.stream_reader.specs.Stream.{Settings, Side, initiators, receivers, direction_of}
-use Rattle.stream_reader.specs.Stream.{payloads, record_due, reason_in, serves, too_large}
-use Rattle.stream_reader.specs.Sessions.{AreChunks, Carried, CarriesAll, CarriesThen, HasParts}
-use Rattle.stream_reader.specs.Sessions.{IsAckThen, IsBare, IsEnvelopeIn, IsFault, IsSized}
-use Rattle.stream_reader.specs.Sessions.{IsWithin, MayCarry, Parts, answer, broken_off}
-use Rattle.stream_reader.specs.Sessions.{conversation, joined, lone_ack, turned_down}
-use Rattle.stream_reader.specs.Scripts.{BeginsWith, Context, HasScript, IsFollowedBy, IsModeOf}
-use Rattle.stream_reader.specs.Scripts.{IsShort, first_context, refused_there}
+use Rattle.stream_reader.specs.Scripts.{BeginsWith, Context, first_context, HasScript, IsFollowedBy}
+use Rattle.stream_reader.specs.Scripts.{IsModeOf, IsShort, refused_there}
+use Rattle.stream_reader.specs.Sessions.{answer, AreChunks, broken_off, Carried, CarriesAll}
+use Rattle.stream_reader.specs.Sessions.{CarriesThen, conversation, HasParts, IsAckThen, IsBare}
+use Rattle.stream_reader.specs.Sessions.{IsEnvelopeIn, IsFault, IsSized, IsWithin, joined, lone_ack}
+use Rattle.stream_reader.specs.Sessions.{MayCarry, Parts, turned_down}
+use Rattle.stream_reader.specs.Stream.{direction_of, initiators, payloads, reason_in, receivers}
+use Rattle.stream_reader.specs.Stream.{record_due, serves, Settings, Side, too_large}
 use Rattle.stream_reader.proofs.FromScript.{context_of, kind_is}
+use Rattle.nmf_records.specs.declared.frame.Frame.TheVariants as frames
+use Rattle.nmf_records.specs.declared.script.Due.TheVariants as dues
 
 -- records that are not refused
 known_mode : (x : Settings) (mode : Mode)

@@ -1,45 +1,35 @@
 -- What is left of a session at each stage of a stream, and that it is left where units lead to
 -- where
 -- the input may end.
-use Rattle.std.proofs.Common.{◌≡◌, ℕ, zero, suc, ◌+◌, ◌-◌, ◌<◌, ◌≤◌, ◌⊎◌, inl, inr, List, [], ◌∷◌}
-use Rattle.std.proofs.Common.{◌++◌, length, take, Bool, true, false, Option, Some, None, refl, sym}
-use Rattle.std.proofs.Common.{ap, ◌∙◌, subst, arith, append_assoc}
-use Rattle.std.specs.Option.{option_map, option_or}
-use Rattle.std.proofs.Math.Nat.{eq-or-lt_of_le}
-use Rattle.std.proofs.Math.Seq.{take-length}
-use Rattle.std.proofs.lemmas.Bool.{cases_lt}
-use Rattle.std.proofs.lemmas.List.{append-nil, take_all}
+use Rattle.std.proofs.Common.{◌≡◌, ℕ, zero, suc, ◌+◌, ◌-◌, ◌<◌, ◌≤◌, Bool, true, false, ◌⊎◌, List}
+use Rattle.std.proofs.Common.{[], ◌∷◌, ◌++◌, length, take, Some, None, Option, option_map, sym}
+use Rattle.std.proofs.Common.{refl, ap, ◌∙◌, subst, inl, inr, append_assoc, append-nil, arith}
+use Rattle.std.{proofs.Common.take_all, proofs.lemmas.Bool.cases_lt, specs.Option.option_or}
+use Rattle.std.proofs.Math.{Nat.eq-or-lt_of_le, Seq.take-length}
 use Rattle.unit_streams.specs.Grammar.{Grammar, standing}
 use Rattle.unit_streams.specs.Judging.{ending_at, refusal_at}
-use Rattle.nbfx_values.specs.Limits.{IsGood}
-use Rattle.nbfx_values.specs.declared.content.Item.{Item}
-use Rattle.nbfx_values.specs.declared.session.Mode.{Mode}
-use Rattle.nbfx_values.specs.declared.session.Mode.TheVariants.{Simplex}
-use Rattle.nbfx_values.specs.declared.session.Kind.{Kind}
-use Rattle.nbfx_values.specs.Session.{mode_number, kind_number}
-use Rattle.string_tables.specs.SessionStrings.{used_cost}
-use Rattle.nmf_records.specs.declared.frame.Frame.TheVariants as frames
-use Rattle.nmf_records.specs.declared.script.Direction.TheVariants.{FromReceiver}
-use Rattle.nmf_records.specs.declared.script.Due.{Due}
-use Rattle.nmf_records.specs.declared.script.Due.TheVariants as dues
-use Rattle.nmf_records.specs.Records.{IsRecordOf}
-use Rattle.nmf_records.specs.Script.{behind_preamble}
+use Rattle.{string_tables.specs.SessionStrings.used_cost, stream_reader.specs.Stream.with_byte}
+use Rattle.nbfx_values.specs.{declared.content.Item.Item, Limits.IsGood}
+use Rattle.nbfx_values.specs.declared.session.{Kind.Kind, Mode.Mode, Mode.TheVariants.Simplex}
+use Rattle.nbfx_values.specs.Session.{kind_number, mode_number}
+use Rattle.nmf_records.specs.declared.script.{Direction.TheVariants.FromReceiver, Due.Due}
+use Rattle.nmf_records.specs.{Records.IsRecordOf, Script.behind_preamble}
+use Rattle.nbfx_decoder.proofs.PayloadAnswers.{finished_where_whole, nothing_is_refused}
+use Rattle.nbfx_decoder.proofs.{PayloadAnswers.strings_behind, PayloadReasons.unrefused_nothing}
+use Rattle.nbfx_decoder.specs.DecoderState.{situation_of}
 use Rattle.nbfx_decoder.specs.Laws.{IsUnrefused, IsWholePayload, MayBegin, ShowsNothing}
 use Rattle.nbfx_decoder.specs.Payload.{NoEvent, PayloadUnit, Refusal, Situation as PayloadSituation}
-use Rattle.nbfx_decoder.specs.DecoderState.{situation_of}
-use Rattle.nbfx_decoder.proofs.PayloadAnswers.{finished_where_whole, nothing_is_refused}
-use Rattle.nbfx_decoder.proofs.PayloadAnswers.{strings_behind}
-use Rattle.nbfx_decoder.proofs.PayloadReasons.{unrefused_nothing}
-use Rattle.stream_reader.specs.Stream.{OpenPayload, PayloadStanding, Form, sized, chunked}
-use Rattle.stream_reader.specs.Stream.{last_chunk, Settings, direction_of, serves, Situation, Stage}
-use Rattle.stream_reader.specs.Stream.{record_due, chunk_due, payload_open, due_behind, is_chunked}
-use Rattle.stream_reader.specs.Stream.{behind_payload, payload_in, payloads, refusal_in, with_byte}
-use Rattle.stream_reader.specs.Sessions.{IsBare, AreChunks, joined, Carried, CarriesAll, IsFault}
-use Rattle.stream_reader.proofs.Situations.{IsBehind, byte_behind}
-use Rattle.stream_reader.proofs.Outcomes.{HasAll, goes_on, wants_chunk, is_whole, is_refused}
-use Rattle.stream_reader.proofs.Outcomes.{outcome}
+use Rattle.stream_reader.specs.Sessions.{AreChunks, Carried, CarriesAll, IsBare, IsFault, joined}
+use Rattle.stream_reader.specs.Stream.{behind_payload, chunk_due, chunked, direction_of, due_behind}
+use Rattle.stream_reader.specs.Stream.{Form, is_chunked, last_chunk, OpenPayload, payload_in}
+use Rattle.stream_reader.specs.Stream.{payload_open, payloads, PayloadStanding, record_due}
+use Rattle.stream_reader.specs.Stream.{refusal_in, serves, Settings, Situation, sized, Stage}
+use Rattle.stream_reader.proofs.Outcomes.{goes_on, HasAll, is_refused, is_whole, outcome}
+use Rattle.stream_reader.proofs.{Outcomes.wants_chunk, PayloadBytes.refusal_between}
 use Rattle.stream_reader.proofs.PayloadBytes.{behind_is, refusal_all, refusal_before}
-use Rattle.stream_reader.proofs.PayloadBytes.{refusal_between}
+use Rattle.stream_reader.proofs.Situations.{byte_behind, IsBehind}
+use Rattle.nmf_records.specs.declared.frame.Frame.TheVariants as frames
+use Rattle.nmf_records.specs.declared.script.Due.TheVariants as dues
 
 -- what closes a session: End, a Fault with a text, or, behind an Ack, nothing
 pub data Closing : Type 0 where

@@ -2,19 +2,14 @@
 -- in
 -- its payload, and the byte that shows it. Behind a preamble of 23 bytes stands an envelope of nine
 -- that brings a string.
-use Rattle.std.proofs.Common.{◌≡◌, ◌^◌, ℕ, List, [], ◌∷◌, ◌++◌, map, Some, None, refl}
-use Rattle.std.specs.Prelude.{codes}
-use Rattle.unit_streams.specs.Judging.{events}
-use Rattle.nbfx_values.specs.declared.content.Item.{Item}
-use Rattle.nbfx_values.specs.declared.content.Item.TheVariants.{Start, Close}
-use Rattle.nbfx_values.specs.declared.refusals.Reason.{Reason}
+use Rattle.std.proofs.Common.{◌≡◌, ℕ, ◌^◌, List, [], ◌∷◌, ◌++◌, map, Some, None, codes, refl}
+use Rattle.{unit_streams.specs.Judging.events, nbfx_values.specs.declared.refusals.Reason.Reason}
+use Rattle.nbfx_values.specs.declared.content.Item.{Item, TheVariants.Close, TheVariants.Start}
+use Rattle.{nbfx_decoder.specs.Payload.refusal, stream_reader.proofs.OnLiterals.streams_on_literals}
+use Rattle.stream_reader.specs.{Judging.offence, Stream.StreamEvent}
+use Rattle.stream_reader.specs.Stream.{message, offence_at, offence_in, Settings, stream}
+use Rattle.stream_reader.proofs.OnLiterals.{narrow, plain_preamble, preamble, set_to}
 use Rattle.nbfx_values.specs.declared.refusals.Reason.TheVariants as reasons
-use Rattle.nbfx_decoder.specs.Payload.{refusal}
-use Rattle.stream_reader.specs.Stream.{Settings, StreamEvent, message, offence_at, offence_in}
-use Rattle.stream_reader.specs.Stream.{stream}
-use Rattle.stream_reader.specs.Judging.{offence}
-use Rattle.stream_reader.proofs.OnLiterals.{streams_on_literals, narrow, plain_preamble, preamble}
-use Rattle.stream_reader.proofs.OnLiterals.{set_to}
 
 -- under quotas that are soon passed
 abbrev soon : Settings

@@ -1,15 +1,13 @@
 -- A worked stream for each refusal of a record, and of a stream's length and end, by computation:
 -- its
 -- place, and the byte that shows it.
-use Rattle.std.proofs.Common.{◌≡◌, ◌^◌, ℕ, List, [], ◌∷◌, ◌++◌, length, Some, None, refl}
-use Rattle.unit_streams.specs.Judging.{events}
-use Rattle.nbfx_values.specs.declared.refusals.Reason.{Reason}
+use Rattle.std.proofs.Common.{◌≡◌, ℕ, ◌^◌, List, [], ◌∷◌, ◌++◌, length, Some, None, refl}
+use Rattle.{unit_streams.specs.Judging.events, nbfx_values.specs.declared.refusals.Reason.Reason}
+use Rattle.stream_reader.specs.{Judging.offence, Stream.offence_at, Stream.Settings, Stream.stream}
+use Rattle.stream_reader.proofs.OnLiterals.{element, of_session, preamble, set_to}
+use Rattle.stream_reader.proofs.OnLiterals.{streams_on_literals, usual, version, with_encoding}
+use Rattle.stream_reader.proofs.OnLiterals.{with_mode, with_via}
 use Rattle.nbfx_values.specs.declared.refusals.Reason.TheVariants as reasons
-use Rattle.stream_reader.specs.Stream.{Settings, offence_at, stream}
-use Rattle.stream_reader.specs.Judging.{offence}
-use Rattle.stream_reader.proofs.OnLiterals.{streams_on_literals, element, of_session, preamble}
-use Rattle.stream_reader.proofs.OnLiterals.{set_to, usual, version, with_encoding, with_mode}
-use Rattle.stream_reader.proofs.OnLiterals.{with_via}
 
 -- the offence of a stream is that of a record at this offset
 abbrev Refuses : Settings → List ℕ → ℕ → Reason → Type 0

@@ -1,23 +1,19 @@
 -- Streams of either side in each mode, by computation: their events, and their offence with its
 -- place.
-use Rattle.std.proofs.Common.{◌≡◌, ℕ, List, [], ◌∷◌, ◌++◌, length, map, Option, Some, None, refl}
-use Rattle.std.specs.Prelude.{⊤, codes}
-use Rattle.multibyte_ints.specs.Text.{string_at, text_behind, text_at, text_ending_at}
-use Rattle.unit_streams.specs.Grammar.{resumed}
-use Rattle.unit_streams.specs.Judging.{history, history_from}
+use Rattle.std.proofs.Common.{◌≡◌, ℕ, List, [], ◌∷◌, ◌++◌, map, length, Some, None, codes, Option}
+use Rattle.{std.proofs.Common.refl, std.specs.Prelude.⊤, nbfx_decoder.specs.Payload.refusal}
+use Rattle.unit_streams.specs.{Grammar.resumed, Judging.history, Judging.history_from}
+use Rattle.multibyte_ints.specs.Text.{string_at, text_at, text_behind, text_ending_at}
+use Rattle.nbfx_values.specs.declared.{refusals.Offence.Offence, session.Mode.Mode}
+use Rattle.nbfx_values.specs.declared.session.Kind.{Kind, TheVariants.Plain, TheVariants.Session}
+use Rattle.nbfx_values.specs.declared.session.Mode.TheVariants.{Duplex, Simplex, Singleton}
 use Rattle.nbfx_values.specs.Limits.{Limits, limits, usual_limits}
-use Rattle.nbfx_values.specs.declared.refusals.Offence.{Offence}
+use Rattle.nbfx_decoder.proofs.OnLiterals.{envelope_strings, payloads_on_literals}
+use Rattle.stream_reader.specs.Stream.{accepted, after, completed, cut_off, ended, initiators}
+use Rattle.stream_reader.specs.Stream.{message, offence_at, offence_in, opened, peer_fault}
+use Rattle.stream_reader.specs.Stream.{receivers, refused, Settings, Side, stream, StreamEvent}
+use Rattle.stream_reader.specs.Stream.{too_long, unit_in}
 use Rattle.nbfx_values.specs.declared.refusals.Reason.TheVariants as reasons
-use Rattle.nbfx_values.specs.declared.session.Mode.{Mode}
-use Rattle.nbfx_values.specs.declared.session.Mode.TheVariants.{Singleton, Duplex, Simplex}
-use Rattle.nbfx_values.specs.declared.session.Kind.{Kind}
-use Rattle.nbfx_values.specs.declared.session.Kind.TheVariants.{Plain, Session}
-use Rattle.nbfx_decoder.specs.Payload.{refusal}
-use Rattle.nbfx_decoder.proofs.OnLiterals.{payloads_on_literals, envelope_strings}
-use Rattle.stream_reader.specs.Stream.{Settings, Side, initiators, receivers, StreamEvent, opened}
-use Rattle.stream_reader.specs.Stream.{accepted, message, ended, peer_fault, offence_at, offence_in}
-use Rattle.stream_reader.specs.Stream.{stream, unit_in, after, completed, refused, too_long}
-use Rattle.stream_reader.specs.Stream.{cut_off}
 
 -- what a proof unfolds to compute streams
 unfoldable sides_on_literals : ⊤

@@ -1,19 +1,17 @@
 -- Worked streams of an initiator under the usual quotas, by computation: their events, and their
 -- offence with its place; what prefixes show, and what pieces are answered with.
-use Rattle.std.proofs.Common.{◌≡◌, ℕ, List, [], ◌∷◌, ◌++◌, length, map, true, Option, refl}
-use Rattle.std.specs.Prelude.{codes, Some, None}
+use Rattle.std.proofs.Common.{◌≡◌, ℕ, true, List, [], ◌∷◌, ◌++◌, map, length, Some, None, codes}
+use Rattle.std.proofs.Common.{Option, refl}
 use Rattle.unit_streams.specs.Judging.{Answer, answer, completes, events, goes_on, is_over_at}
 use Rattle.unit_streams.specs.Judging.{offends, refusal_at}
+use Rattle.nbfx_values.specs.declared.content.Item.TheVariants.{Close, Start}
+use Rattle.nbfx_values.specs.declared.refusals.{Offence.Offence, Reason.Reason}
 use Rattle.nbfx_values.specs.Measures.{content_of, depth_of}
-use Rattle.nbfx_values.specs.declared.refusals.Offence.{Offence}
-use Rattle.nbfx_values.specs.declared.refusals.Reason.{Reason}
+use Rattle.{nbfx_decoder.specs.Payload.refusal, stream_reader.specs.Judging.offence}
+use Rattle.stream_reader.specs.Stream.{accepted, ended, Envelope, message, offence_at, offence_in}
+use Rattle.stream_reader.specs.Stream.{opened, peer_fault, stream, StreamEvent}
+use Rattle.stream_reader.proofs.OnLiterals.{plain_preamble, preamble, streams_on_literals, usual}
 use Rattle.nbfx_values.specs.declared.refusals.Reason.TheVariants as reasons
-use Rattle.nbfx_values.specs.declared.content.Item.TheVariants.{Start, Close}
-use Rattle.nbfx_decoder.specs.Payload.{refusal}
-use Rattle.stream_reader.specs.Stream.{Envelope, StreamEvent, opened, accepted, message, ended}
-use Rattle.stream_reader.specs.Stream.{peer_fault, offence_at, offence_in, stream}
-use Rattle.stream_reader.specs.Judging.{offence}
-use Rattle.stream_reader.proofs.OnLiterals.{streams_on_literals, usual, preamble, plain_preamble}
 
 -- what is shown of an event: of a message its number, the size of its payload, items, nesting,
 -- content and strings

@@ -1,10 +1,8 @@
 -- What bounds a reader in every state.
 use Rattle.std.specs.Prelude.{◌≡◌, ℕ, ◌+◌, ◌≤◌, ◌⊎◌, List, length}
-use Rattle.nbfx_values.specs.declared.limits.Quotas.{Quotas}
-use Rattle.nbfx_values.specs.QuotasOf.{limits_of}
-use Rattle.nbfx_decoder.specs.declared.decoder.Decoder.{Decoder}
-use Rattle.nbfx_decoder.specs.declared.faults.DecodeFault.{DecodeFault}
-use Rattle.nbfx_decoder.specs.DecoderState.{settings_of, StandsFor, FailedBehind}
+use Rattle.nbfx_values.specs.{declared.limits.Quotas.Quotas, QuotasOf.limits_of}
+use Rattle.nbfx_decoder.specs.declared.{decoder.Decoder.Decoder, faults.DecodeFault.DecodeFault}
+use Rattle.nbfx_decoder.specs.DecoderState.{FailedBehind, settings_of, StandsFor}
 use Rattle.stream_reader.specs.declared.awaited.Awaited.{Awaited}
 use Rattle.stream_reader.specs.declared.awaited.Awaited.TheVariants as awaits
 

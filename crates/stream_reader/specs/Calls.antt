@@ -1,24 +1,21 @@
 -- What the calls of a reader answer and leave, one record for each. A machine that is a reader set
 -- to
 -- one side cites them of its reader.
-use Rattle.std.specs.Prelude.{◌≡◌, ⊤, ℕ, ◌+◌, ◌≤◌, List, ◌++◌, length, take, false, true, Option}
-use Rattle.std.specs.Prelude.{Some, None, Result, Ok, Err, IfOk, IfErr, OnOk, IsErrOf}
-use Rattle.unit_streams.specs.Grammar.{standing}
-use Rattle.unit_streams.specs.Judging.{answer, event_at, is_over_at, ending_at}
+use Rattle.std.specs.Prelude.{◌≡◌, ℕ, ◌+◌, ◌≤◌, true, false, List, ◌++◌, length, take, IfOk, IfErr}
+use Rattle.std.specs.Prelude.{OnOk, Some, None, Ok, Err, Option, Result, IsErrOf, ⊤}
+use Rattle.{unit_streams.specs.Grammar.standing, string_tables.specs.SessionStrings.used_cost}
+use Rattle.unit_streams.specs.Judging.{answer, ending_at, event_at, is_over_at}
+use Rattle.nbfx_values.specs.declared.{limits.Kept.Kept, refusals.Offence.Offence}
 use Rattle.nbfx_values.specs.Measures.{content_of}
-use Rattle.nbfx_values.specs.declared.limits.Kept.{Kept}
-use Rattle.nbfx_values.specs.declared.refusals.Offence.{Offence}
-use Rattle.string_tables.specs.SessionStrings.{used_cost}
-use Rattle.stream_reader.specs.declared.reader.ReadRefusal.{ReadRefusal}
-use Rattle.stream_reader.specs.declared.reader.ReadRefusal.TheVariants as refusals
+use Rattle.stream_reader.specs.declared.reader.{ReadRefusal.ReadRefusal, StreamStep.StreamStep}
 use Rattle.stream_reader.specs.declared.reader.StreamReader.{StreamReader}
-use Rattle.stream_reader.specs.declared.reader.StreamStep.{StreamStep}
-use Rattle.stream_reader.specs.Saying.{Says, Repeats}
-use Rattle.stream_reader.specs.StreamReaderState.{settings_of, taken_of, held_of, content_held_of}
-use Rattle.stream_reader.specs.StreamReaderState.{failure_of, StandsFor, FailedBehind, ShowsText}
-use Rattle.stream_reader.specs.StreamReaderState.{ShowsStrings, WhereItStands, WhereItFailed}
-use Rattle.stream_reader.specs.StreamReaderState.{FailsBy, HasPayloads, begun_in, items_in}
+use Rattle.stream_reader.specs.Saying.{Repeats, Says}
 use Rattle.stream_reader.specs.Stream.{Situation, stream, strings_in}
+use Rattle.stream_reader.specs.StreamReaderState.{begun_in, content_held_of, FailedBehind, FailsBy}
+use Rattle.stream_reader.specs.StreamReaderState.{failure_of, HasPayloads, held_of, items_in}
+use Rattle.stream_reader.specs.StreamReaderState.{settings_of, ShowsStrings, ShowsText, StandsFor}
+use Rattle.stream_reader.specs.StreamReaderState.{taken_of, WhereItFailed, WhereItStands}
+use Rattle.stream_reader.specs.declared.reader.ReadRefusal.TheVariants as refusals
 
 -- the situation behind the bytes p
 abbrev pub situation_at : StreamReader → List ℕ → Situation

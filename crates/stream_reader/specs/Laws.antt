@@ -1,23 +1,19 @@
 -- What holds of streams of either side by their definitions alone, whatever the settings.
-use Rattle.std.specs.Prelude.{◌≡◌, ◌+◌, ◌≤◌, ◌<◌, ◌*◌, ◌-◌, ℕ, List, length, take, false, Option}
-use Rattle.std.specs.Prelude.{Some, None, ◌↔◌}
-use Rattle.unit_streams.specs.Grammar.{standing}
-use Rattle.unit_streams.specs.Judging.{event_at, refusal_at, is_over_at, ending_at}
-use Rattle.unit_streams.specs.Judging.{offence as offence_by, answer, offends}
+use Rattle.std.specs.Prelude.{◌≡◌, ℕ, ◌+◌, ◌-◌, ◌*◌, ◌<◌, ◌≤◌, false, ◌↔◌, List, length, take, Some}
+use Rattle.std.specs.Prelude.{None, Option}
+use Rattle.{unit_streams.specs.Grammar.standing, string_tables.specs.SessionStrings.used_cost}
+use Rattle.unit_streams.specs.Judging.{answer, ending_at, event_at, is_over_at}
+use Rattle.unit_streams.specs.Judging.{offence as offence_by, offends, refusal_at}
+use Rattle.nbfx_values.specs.declared.refusals.{Offence.Offence, Reason.Reason}
+use Rattle.nbfx_values.specs.declared.refusals.Reason.TheVariants.{SessionTooLong, Truncated}
+use Rattle.nbfx_values.specs.declared.session.{Kind.Kind, Mode.Mode}
 use Rattle.nbfx_values.specs.Limits.{IsGood, Limits}
 use Rattle.nbfx_values.specs.Measures.{content_of, depth_of, opened_by}
-use Rattle.nbfx_values.specs.declared.session.Kind.{Kind}
-use Rattle.nbfx_values.specs.declared.session.Mode.{Mode}
-use Rattle.nbfx_values.specs.declared.refusals.Offence.{Offence}
-use Rattle.nbfx_values.specs.declared.refusals.Reason.{Reason}
-use Rattle.nbfx_values.specs.declared.refusals.Reason.TheVariants.{Truncated, SessionTooLong}
-use Rattle.string_tables.specs.SessionStrings.{used_cost}
-use Rattle.nbfx_decoder.specs.Payload.{refusal}
-use Rattle.nbfx_decoder.specs.Values.{values_of}
-use Rattle.stream_reader.specs.Stream.{Settings, Stage, record_due, chunk_due, payload_open}
-use Rattle.stream_reader.specs.Stream.{Envelope, OpenPayload, message, opened, peer_fault, ended}
-use Rattle.stream_reader.specs.Stream.{offence_at, offence_in, stream, strings_in}
-use Rattle.stream_reader.specs.Reasons.{ShowsFrom, ShowsInPayload, IsTooLong, IsCutOff}
+use Rattle.nbfx_decoder.specs.{Payload.refusal, Values.values_of}
+use Rattle.stream_reader.specs.Reasons.{IsCutOff, IsTooLong, ShowsFrom, ShowsInPayload}
+use Rattle.stream_reader.specs.Stream.{chunk_due, ended, Envelope, message, offence_at, offence_in}
+use Rattle.stream_reader.specs.Stream.{opened, OpenPayload, payload_open, peer_fault, record_due}
+use Rattle.stream_reader.specs.Stream.{Settings, Stage, stream, strings_in}
 
 -- a document that an envelope brings, and the strings behind it, are within the quotas
 pub record FitsIn (quotas : Limits) (e : Envelope) : Type 0 where

@@ -1,37 +1,28 @@
 -- Which bytes of a stream of either side give each reason for refusing it in a record, or by its
 -- length, and where it is cut off.
-use Rattle.std.specs.Prelude.{◌≡◌, ◌≢◌, ℕ, ◌+◌, ◌<◌, ◌≤◌, ◌⊎◌, ◌==◌, List, [], ◌∷◌, ◌++◌, length}
-use Rattle.std.specs.Prelude.{drop, Bool, true, false, Some}
-use Rattle.unit_streams.specs.Grammar.{standing}
-use Rattle.unit_streams.specs.Judging.{is_over_at}
-use Rattle.unit_streams.specs.Going.{IsGoing}
-use Rattle.unit_streams.specs.Refusals.{AreUnits}
-use Rattle.multibyte_ints.specs.Integer.{Spells}
-use Rattle.multibyte_ints.specs.Laws.{FifthIsAbove}
-use Rattle.nbfx_values.specs.declared.session.Kind.{Kind}
-use Rattle.nbfx_values.specs.declared.session.Kind.TheVariants.{Plain, Session}
-use Rattle.nbfx_values.specs.declared.session.Mode.TheVariants.{Singleton, Duplex, Simplex}
-use Rattle.nbfx_values.specs.Session.{mode_number, kind_number}
+use Rattle.std.specs.Prelude.{◌≡◌, ℕ, ◌+◌, ◌<◌, ◌≤◌, Bool, true, false, ◌≢◌, ◌⊎◌, List, [], ◌∷◌}
+use Rattle.std.specs.Prelude.{◌++◌, length, drop, ◌==◌, Some}
+use Rattle.unit_streams.specs.{Going.IsGoing, Grammar.standing}
+use Rattle.unit_streams.specs.{Judging.is_over_at, Refusals.AreUnits}
+use Rattle.multibyte_ints.specs.{Integer.Spells, Laws.FifthIsAbove}
 use Rattle.nbfx_values.specs.declared.refusals.Reason.{Reason}
-use Rattle.nbfx_values.specs.declared.refusals.Reason.TheVariants as reasons
-use Rattle.nmf_records.specs.declared.script.Due.{Due}
-use Rattle.nmf_records.specs.declared.script.Due.TheVariants as dues
-use Rattle.nmf_records.specs.declared.record_types.TheConstants.{VERSION, MODE, KNOWN_ENCODING}
-use Rattle.nmf_records.specs.declared.record_types.TheConstants.{SIZED_ENVELOPE, PREAMBLE_ACK}
-use Rattle.nmf_records.specs.declared.frame.Frame.TheVariants.{Via, SizedEnvelope, UnsizedEnvelope}
-use Rattle.nmf_records.specs.declared.frame.Frame.TheVariants.{Chunk}
-use Rattle.nmf_records.specs.Records.{IsRecordOf}
-use Rattle.nmf_records.specs.RecordFronts.{MayCome}
-use Rattle.nmf_records.specs.Script.{may_come}
-use Rattle.nmf_records.specs.Laws.{BeginsUnknown, BeginsUnexpected, IntegerComes, HasLongText}
-use Rattle.nmf_records.specs.Laws.{HasBadText}
-use Rattle.nbfx_decoder.specs.Payload.{Settings as PayloadSettings}
+use Rattle.nbfx_values.specs.declared.session.Kind.{Kind, TheVariants.Plain, TheVariants.Session}
+use Rattle.nbfx_values.specs.declared.session.Mode.TheVariants.{Duplex, Simplex, Singleton}
+use Rattle.nbfx_values.specs.Session.{kind_number, mode_number}
+use Rattle.nmf_records.specs.declared.frame.Frame.TheVariants.{Chunk, SizedEnvelope}
+use Rattle.nmf_records.specs.declared.frame.Frame.TheVariants.{UnsizedEnvelope, Via}
+use Rattle.nmf_records.specs.declared.record_types.TheConstants.{KNOWN_ENCODING, MODE, PREAMBLE_ACK}
+use Rattle.nmf_records.specs.declared.record_types.TheConstants.{SIZED_ENVELOPE, VERSION}
+use Rattle.nmf_records.specs.{declared.script.Due.Due, Records.IsRecordOf, Script.may_come}
+use Rattle.nmf_records.specs.Laws.{BeginsUnexpected, BeginsUnknown, HasBadText, HasLongText}
+use Rattle.nmf_records.specs.{Laws.IntegerComes, RecordFronts.MayCome}
+use Rattle.nbfx_decoder.specs.{Laws.ShowsNothing, Payload.Settings as PayloadSettings}
 use Rattle.nbfx_decoder.specs.Reasons.{IsCutAt, ShowsFrom as ShowsAt}
-use Rattle.nbfx_decoder.specs.Laws.{ShowsNothing}
-use Rattle.stream_reader.specs.Sessions.{IsBare, joined}
-use Rattle.stream_reader.specs.Stream.{Settings, Situation, Stage, payloads, record_due, chunk_due}
-use Rattle.stream_reader.specs.Stream.{payload_open, initiators, receivers, direction_of, open_from}
-use Rattle.stream_reader.specs.Stream.{stream, unexpected}
+use Rattle.stream_reader.specs.{Sessions.IsBare, Sessions.joined, Stream.stream, Stream.unexpected}
+use Rattle.stream_reader.specs.Stream.{chunk_due, direction_of, initiators, open_from, payload_open}
+use Rattle.stream_reader.specs.Stream.{payloads, receivers, record_due, Settings, Situation, Stage}
+use Rattle.nbfx_values.specs.declared.refusals.Reason.TheVariants as reasons
+use Rattle.nmf_records.specs.declared.script.Due.TheVariants as dues
 
 -- a known type that may not come, which is answered so
 abbrev pub BeginsOtherwise : Settings → Due → List ℕ → Reason → Type 0

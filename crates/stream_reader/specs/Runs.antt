@@ -1,8 +1,7 @@
 -- Short chunks, whose sizes are one byte each, one after the other. Public contracts cite none of
 -- this.
-use Rattle.std.specs.Prelude.{◌≡◌, ⊤, ℕ, ◌+◌, ◌-◌, ◌<◌, List, [], ◌∷◌, ◌++◌, length, slice_index}
-use Rattle.std.specs.Prelude.{◌==◌, nat_le, if◌then◌else◌}
-use Rattle.std.specs.List.{concat}
+use Rattle.std.specs.Prelude.{◌≡◌, ℕ, ◌+◌, ◌-◌, ◌<◌, List, [], ◌∷◌, ◌++◌, length, if◌then◌else◌}
+use Rattle.std.specs.{Prelude.nat_le, Prelude.◌==◌, Prelude.slice_index, Prelude.⊤, List.concat}
 
 -- some content whose size is one byte
 pub record IsShort (content : List ℕ) : Type 0 where

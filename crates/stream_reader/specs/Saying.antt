@@ -1,13 +1,12 @@
 -- How a reader says what a stream's grammar answers.
-use Rattle.std.specs.Prelude.{◌≡◌, ℕ, length, Option, Some, None, Result, Ok, Err, ⊤}
-use Rattle.unit_streams.specs.Judging.{Answer, goes_on, completes, offends}
-use Rattle.nbfx_values.specs.declared.refusals.Offence.{Offence}
+use Rattle.std.specs.Prelude.{◌≡◌, ℕ, length, Some, None, Ok, Err, Option, Result, ⊤}
+use Rattle.unit_streams.specs.Judging.{Answer, completes, goes_on, offends}
 use Rattle.string_tables.specs.SessionStrings.{used_cost}
-use Rattle.stream_reader.specs.declared.reader.ReadRefusal.{ReadRefusal}
+use Rattle.nbfx_values.specs.declared.refusals.Offence.{Offence}
+use Rattle.stream_reader.specs.declared.reader.{ReadRefusal.ReadRefusal, StreamStep.StreamStep}
+use Rattle.stream_reader.specs.Stream.{accepted, ended, message, opened, peer_fault, StreamEvent}
 use Rattle.stream_reader.specs.declared.reader.ReadRefusal.TheVariants as refusals
-use Rattle.stream_reader.specs.declared.reader.StreamStep.{StreamStep}
 use Rattle.stream_reader.specs.declared.reader.StreamStep.TheVariants as steps
-use Rattle.stream_reader.specs.Stream.{StreamEvent, opened, accepted, message, ended, peer_fault}
 
 -- an event; the texts of a Via and of a Fault stay in the reader
 abbrev pub step_for : StreamEvent → StreamStep

@@ -1,22 +1,17 @@
 -- The bytes of a script: records of MC-NMF one after the other, each with what follows it, of an
 -- envelope or a chunk bytes of its payload.
-use Rattle.std.specs.Prelude.{◌≡◌, ⊤, ℕ, zero, suc, ◌+◌, ◌≤◌, ◌<◌, ◌↔◌, List, [], ◌∷◌, ◌++◌, length}
-use Rattle.std.specs.Prelude.{Option, None}
-use Rattle.nbfx_values.specs.declared.content.Item.{Item}
-use Rattle.nbfx_values.specs.declared.refusals.Reason.{Reason}
-use Rattle.nbfx_values.specs.declared.session.Kind.{Kind}
-use Rattle.nbfx_values.specs.declared.session.Mode.{Mode}
+use Rattle.std.specs.Prelude.{◌≡◌, ℕ, zero, suc, ◌+◌, ◌<◌, ◌≤◌, ◌↔◌, List, [], ◌∷◌, ◌++◌, length}
+use Rattle.std.specs.Prelude.{None, Option, ⊤}
+use Rattle.nbfx_values.specs.declared.{content.Item.Item, refusals.Reason.Reason}
+use Rattle.nbfx_values.specs.declared.session.{Kind.Kind, Mode.Mode}
+use Rattle.nmf_records.specs.{declared.frame.Frame.Frame, Records.IsRecordOf, Script.IsScript}
+use Rattle.nmf_records.specs.declared.frame.Frame.TheVariants.{Chunk, KnownEncoding, PreambleAck}
+use Rattle.nmf_records.specs.declared.frame.Frame.TheVariants.{SizedEnvelope, UnsizedEnvelope}
 use Rattle.nbfx_decoder.specs.Laws.{IsWholePayload}
-use Rattle.nmf_records.specs.declared.frame.Frame.{Frame}
-use Rattle.nmf_records.specs.declared.frame.Frame.TheVariants.{KnownEncoding, SizedEnvelope}
-use Rattle.nmf_records.specs.declared.frame.Frame.TheVariants.{UnsizedEnvelope, Chunk, PreambleAck}
+use Rattle.stream_reader.specs.Sessions.{IsSession, Parts}
+use Rattle.stream_reader.specs.Stream.{direction_of, first_kind, initiators, kind_of, payloads}
+use Rattle.stream_reader.specs.Stream.{reason_in, receivers, record_due, Settings, Side, too_large}
 use Rattle.nmf_records.specs.declared.script.Due.TheVariants as dues
-use Rattle.nmf_records.specs.Records.{IsRecordOf}
-use Rattle.nmf_records.specs.Script.{IsScript}
-use Rattle.stream_reader.specs.Sessions.{Parts, IsSession}
-use Rattle.stream_reader.specs.Stream.{Settings, Side, initiators, receivers, record_due}
-use Rattle.stream_reader.specs.Stream.{direction_of, first_kind, kind_of, payloads, reason_in}
-use Rattle.stream_reader.specs.Stream.{too_large}
 
 -- what payloads are read by behind some records: their kind, the strings of the direction so far,
 -- and of an envelope of chunks the bytes so far

@@ -1,24 +1,19 @@
 -- The sessions of MC-NMF in each direction and mode, as a grammar: an initiator's preamble or a
 -- receiver's Ack, envelopes whose payloads are documents, each under the strings that the ones
 -- before left, and what closes the session; and the events that these parts are.
-use Rattle.std.specs.Prelude.{◌≡◌, ⊤, ℕ, ◌<◌, ◌≤◌, ◌+◌, ◌↔◌, List, [], ◌∷◌, ◌++◌, length, true}
-use Rattle.std.specs.Prelude.{None}
+use Rattle.std.specs.Prelude.{◌≡◌, ℕ, ◌+◌, ◌<◌, ◌≤◌, true, ◌↔◌, List, [], ◌∷◌, ◌++◌, length, None}
+use Rattle.{std.specs.Prelude.⊤, nmf_records.specs.Records.IsRecordOf}
 use Rattle.unit_streams.specs.Judging.{history, offence as offence_by}
-use Rattle.nbfx_values.specs.Limits.{IsGood}
-use Rattle.nbfx_values.specs.declared.content.Item.{Item}
-use Rattle.nbfx_values.specs.declared.session.Kind.{Kind}
-use Rattle.nbfx_values.specs.declared.session.Mode.{Mode}
-use Rattle.nbfx_values.specs.declared.session.Mode.TheVariants.{Singleton, Simplex}
-use Rattle.nbfx_values.specs.Session.{mode_number, kind_number}
-use Rattle.nbfx_decoder.specs.Laws.{IsWholePayload}
-use Rattle.nmf_records.specs.declared.frame.Frame.{Frame}
-use Rattle.nmf_records.specs.declared.frame.Frame.TheVariants as frames
-use Rattle.nmf_records.specs.declared.script.Direction.{Direction}
+use Rattle.nbfx_values.specs.declared.{content.Item.Item, session.Kind.Kind, session.Mode.Mode}
+use Rattle.nbfx_values.specs.declared.session.Mode.TheVariants.{Simplex, Singleton}
+use Rattle.nbfx_values.specs.{Limits.IsGood, Session.kind_number, Session.mode_number}
+use Rattle.nmf_records.specs.declared.{frame.Frame.Frame, script.Direction.Direction}
 use Rattle.nmf_records.specs.declared.script.Direction.TheVariants.{FromInitiator, FromReceiver}
-use Rattle.nmf_records.specs.Records.{IsRecordOf}
-use Rattle.stream_reader.specs.Stream.{Envelope, Settings, Side, StreamEvent, initiators, receivers}
-use Rattle.stream_reader.specs.Stream.{opened, accepted, message, ended, peer_fault, payloads}
-use Rattle.stream_reader.specs.Stream.{serves, stream}
+use Rattle.nbfx_decoder.specs.Laws.{IsWholePayload}
+use Rattle.stream_reader.specs.Stream.{accepted, ended, Envelope, initiators, message, opened}
+use Rattle.stream_reader.specs.Stream.{payloads, peer_fault, receivers, serves, Settings, Side}
+use Rattle.stream_reader.specs.Stream.{stream, StreamEvent}
+use Rattle.nmf_records.specs.declared.frame.Frame.TheVariants as frames
 
 -- a record without a text
 abbrev pub IsBare : Frame → List ℕ → Type 0

@@ -1,11 +1,9 @@
 -- Whose stream a reader is set to, by its code's types.
-use Rattle.std.specs.Prelude.{ℕ, List, Bool, true, Option, Some, None}
-use Rattle.std.specs.Str.{bytes_eq}
-use Rattle.stream_reader.specs.declared.side.Endpoint.{Endpoint}
+use Rattle.std.specs.Prelude.{ℕ, Bool, true, List, Some, None, Option, bytes_eq}
+use Rattle.stream_reader.specs.declared.side.{Endpoint.Endpoint, Side.Side as SideRead}
+use Rattle.stream_reader.specs.Stream.{initiators, receivers, Side}
 use Rattle.stream_reader.specs.declared.side.Endpoint.TheVariants as endpoints
-use Rattle.stream_reader.specs.declared.side.Side.{Side as SideRead}
 use Rattle.stream_reader.specs.declared.side.Side.TheVariants as sides
-use Rattle.stream_reader.specs.Stream.{Side, initiators, receivers}
 
 abbrev pub endpoint_of : Endpoint → Option (List ℕ)
 endpoint_of endpoints.Any = None

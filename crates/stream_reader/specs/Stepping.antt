@@ -1,46 +1,37 @@
 -- What the parts of a reader's step answer. Public contracts cite none of this.
-use Rattle.std.specs.Prelude.{◌≡◌, ℕ, ◌+◌, ◌-◌, ◌<◌, ◌^◌, ◌==◌, ◌&&◌, List, [], ◌++◌, take, length}
-use Rattle.std.specs.Prelude.{Bool, true, false, Option, Some, None, Result, Ok, Err, if◌then◌else◌}
-use Rattle.unit_streams.specs.Grammar.{standing}
+use Rattle.std.specs.Prelude.{◌≡◌, ℕ, ◌+◌, ◌-◌, ◌^◌, ◌<◌, Bool, true, false, ◌&&◌, List, [], ◌++◌}
+use Rattle.std.specs.Prelude.{length, take, if◌then◌else◌, ◌==◌, Some, None, Ok, Err, Option}
+use Rattle.{std.specs.Prelude.Result, nbfx_values.specs.QuotasOf.limits_of}
+use Rattle.unit_streams.specs.{Going.IsQuiet, Going.IsQuietBefore, Grammar.standing}
 use Rattle.unit_streams.specs.Judging.{event_at, refusal_at}
-use Rattle.unit_streams.specs.Going.{IsQuietBefore, IsQuiet}
-use Rattle.nbfx_values.specs.declared.refusals.Offence.{Offence}
-use Rattle.nmf_records.specs.declared.frame.Frame.{Frame}
-use Rattle.nmf_records.specs.declared.frame.Frame.TheVariants as frames
-use Rattle.nmf_records.specs.declared.script.Direction.{Direction}
+use Rattle.nbfx_values.specs.declared.{refusals.Offence.Offence, session.Mode.Mode}
+use Rattle.nmf_records.specs.{declared.frame.Frame.Frame, RecordFronts.MayCome}
+use Rattle.nmf_records.specs.declared.script.{Direction.Direction, Due.Due}
 use Rattle.nmf_records.specs.Reader.{ShowsText as FramesShowText}
-use Rattle.nmf_records.specs.RecordFronts.{MayCome}
 use Rattle.nmf_records.specs.Script.{leads, may_come, may_end}
-use Rattle.stream_reader.specs.declared.reader.ReadRefusal.{ReadRefusal}
-use Rattle.stream_reader.specs.declared.reader.ReadRefusal.TheVariants.{Offence as Refused, Memory}
-use Rattle.stream_reader.specs.declared.reader.StreamReader.{StreamReader}
-use Rattle.stream_reader.specs.declared.reader.StreamStep.{StreamStep}
-use Rattle.stream_reader.specs.declared.reader.StreamStep.TheVariants as steps
-use Rattle.nbfx_decoder.specs.declared.faults.DecodeFault.{DecodeFault}
-use Rattle.nbfx_decoder.specs.declared.faults.DecodeFault.TheVariants as faults
-use Rattle.nmf_records.specs.declared.script.Due.{Due}
-use Rattle.nmf_records.specs.declared.script.Due.TheVariants as dues
-use Rattle.stream_reader.specs.declared.awaited.Awaited.{Awaited}
-use Rattle.stream_reader.specs.declared.awaited.Awaited.TheVariants as awaits
-use Rattle.stream_reader.specs.declared.awaited.Closing.{Closing}
-use Rattle.stream_reader.specs.declared.awaited.Closing.TheVariants as closings
-use Rattle.stream_reader.specs.declared.awaited.Form.{Form}
-use Rattle.stream_reader.specs.declared.awaited.Form.TheVariants as forms
-use Rattle.stream_reader.specs.declared.awaited.PayloadLeft.{PayloadLeft}
-use Rattle.nbfx_decoder.specs.Payload.{refusal}
-use Rattle.nbfx_decoder.specs.DecoderState.{StandsFor as DecoderStandsFor}
+use Rattle.nbfx_decoder.specs.{declared.faults.DecodeFault.DecodeFault, Payload.refusal}
 use Rattle.nbfx_decoder.specs.DecoderState.{settings_of as decoder_settings}
-use Rattle.nbfx_values.specs.QuotasOf.{limits_of}
-use Rattle.nbfx_values.specs.declared.session.Mode.{Mode}
-use Rattle.stream_reader.specs.Sides.{side_of}
-use Rattle.stream_reader.specs.Stream.{OpenPayload, Settings, Situation, StreamEvent, after_record}
-use Rattle.stream_reader.specs.Stream.{completed_record, refused_record, direction_of, due_behind}
-use Rattle.stream_reader.specs.Stream.{is_chunked, is_over_in, kind_of, mode_of, offence_in}
-use Rattle.stream_reader.specs.Stream.{payloads, stream, strings_in}
+use Rattle.nbfx_decoder.specs.DecoderState.{StandsFor as DecoderStandsFor}
+use Rattle.stream_reader.specs.declared.awaited.{Awaited.Awaited, Form.Form}
+use Rattle.stream_reader.specs.declared.awaited.{Closing.Closing, PayloadLeft.PayloadLeft}
+use Rattle.stream_reader.specs.declared.reader.{ReadRefusal.ReadRefusal, StreamStep.StreamStep}
+use Rattle.stream_reader.specs.declared.reader.ReadRefusal.TheVariants.{Memory, Offence as Refused}
+use Rattle.stream_reader.specs.{declared.reader.StreamReader.StreamReader, Sides.side_of}
 use Rattle.stream_reader.specs.Saying.{step_for}
-use Rattle.stream_reader.specs.StreamReaderState.{DecideNothing, Failed, HasPart, HasPayloads, IsIn}
-use Rattle.stream_reader.specs.StreamReaderState.{IsOpenSo, Reached, Recalls, ShowsTable, form_of}
-use Rattle.stream_reader.specs.StreamReaderState.{settings_of}
+use Rattle.stream_reader.specs.Stream.{after_record, completed_record, direction_of, due_behind}
+use Rattle.stream_reader.specs.Stream.{is_chunked, is_over_in, kind_of, mode_of, offence_in}
+use Rattle.stream_reader.specs.Stream.{OpenPayload, payloads, refused_record, Settings, Situation}
+use Rattle.stream_reader.specs.Stream.{stream, StreamEvent, strings_in}
+use Rattle.stream_reader.specs.StreamReaderState.{DecideNothing, Failed, form_of, HasPart}
+use Rattle.stream_reader.specs.StreamReaderState.{HasPayloads, IsIn, IsOpenSo, Reached, Recalls}
+use Rattle.stream_reader.specs.StreamReaderState.{settings_of, ShowsTable}
+use Rattle.nmf_records.specs.declared.frame.Frame.TheVariants as frames
+use Rattle.stream_reader.specs.declared.reader.StreamStep.TheVariants as steps
+use Rattle.nbfx_decoder.specs.declared.faults.DecodeFault.TheVariants as faults
+use Rattle.nmf_records.specs.declared.script.Due.TheVariants as dues
+use Rattle.stream_reader.specs.declared.awaited.Awaited.TheVariants as awaits
+use Rattle.stream_reader.specs.declared.awaited.Closing.TheVariants as closings
+use Rattle.stream_reader.specs.declared.awaited.Form.TheVariants as forms
 
 -- the step that an event is told by, where there is one
 abbrev pub step_of : Option StreamEvent → StreamStep

@@ -1,44 +1,34 @@
 -- A stream of either side as a grammar of units: a record, where an envelope's is its head, the
 -- size of a chunk, or a byte of an envelope's payload. What the payload is read by is nested in it:
 -- a byte of it, sized or of a chunk, leads on where the payload stands, by the grammar of payloads.
-use Rattle.std.specs.Prelude.{ℕ, ◌+◌, ◌-◌, List, [], ◌∷◌, Bool, true, false, Option, Some, None}
-use Rattle.std.specs.Prelude.{nat_lt, nat_le, ◌==◌, ◌&&◌, ◌||◌, not, if◌then◌else◌}
-use Rattle.std.specs.Option.{option_map, option_or}
-use Rattle.std.specs.Str.{bytes_eq}
-use Rattle.unit_streams.specs.Front.{Front, begun}
+use Rattle.std.specs.Prelude.{ℕ, ◌+◌, ◌-◌, Bool, true, false, not, ◌&&◌, ◌||◌, List, [], ◌∷◌}
+use Rattle.std.specs.Prelude.{if◌then◌else◌, nat_lt, nat_le, ◌==◌, Some, None, Option, option_map}
+use Rattle.std.specs.{Prelude.bytes_eq, Option.option_or}
+use Rattle.unit_streams.specs.{Front.begun, Front.Front, Judging.refusal_of}
+use Rattle.unit_streams.specs.Grammar.{at_start, Grammar, resumed, Standing}
 use Rattle.unit_streams.specs.Parts.{a_byte, seen}
-use Rattle.unit_streams.specs.Grammar.{Grammar, Standing, at_start, resumed}
-use Rattle.unit_streams.specs.Judging.{refusal_of}
-use Rattle.nbfx_values.specs.Limits.{Limits}
-use Rattle.nbfx_values.specs.Session.{mode_number, kind_number}
-use Rattle.nbfx_values.specs.declared.content.Item.{Item}
-use Rattle.nbfx_values.specs.declared.session.Mode.{Mode}
-use Rattle.nbfx_values.specs.declared.session.Mode.TheVariants.{Singleton, Duplex, Simplex}
-use Rattle.nbfx_values.specs.declared.session.Kind.{Kind}
-use Rattle.nbfx_values.specs.declared.session.Kind.TheVariants.{Plain, Session}
-use Rattle.nbfx_values.specs.declared.refusals.Place.TheVariants as places
-use Rattle.nbfx_values.specs.declared.refusals.Offence.{Offence}
-use Rattle.nbfx_values.specs.declared.refusals.Reason.{Reason}
-use Rattle.nbfx_values.specs.declared.refusals.Reason.TheVariants as reasons
-use Rattle.string_tables.specs.StaticStrings.{Entry}
-use Rattle.nbfx_decoder.specs.Payload.{NoEvent, PayloadUnit, Refusal, payload}
-use Rattle.nbfx_decoder.specs.Payload.{Settings as PayloadSettings, Situation as PayloadSituation}
-use Rattle.nmf_records.specs.declared.frame.Frame.{Frame}
-use Rattle.nmf_records.specs.declared.frame.Frame.TheVariants.{Version, Mode as ModeRecord, Via}
-use Rattle.nmf_records.specs.declared.frame.Frame.TheVariants.{KnownEncoding, UnsizedEnvelope}
-use Rattle.nmf_records.specs.declared.frame.Frame.TheVariants.{Chunk, SizedEnvelope, End, Fault}
-use Rattle.nmf_records.specs.declared.frame.Frame.TheVariants.{PreambleAck, PreambleEnd}
-use Rattle.nmf_records.specs.declared.frame.FrameFault.{FrameFault}
-use Rattle.nmf_records.specs.declared.frame.FrameFault.TheVariants as faults
-use Rattle.nmf_records.specs.declared.script.Direction.{Direction}
-use Rattle.nmf_records.specs.declared.script.Direction.TheVariants.{FromInitiator, FromReceiver}
-use Rattle.nmf_records.specs.declared.script.Due.{Due}
-use Rattle.nmf_records.specs.declared.script.Due.TheVariants as dues
-use Rattle.nmf_records.specs.declared.record_types.TheConstants.{EXTENSIBLE_ENCODING}
+use Rattle.{string_tables.specs.StaticStrings.Entry, nmf_records.specs.RecordFronts.frame_at}
+use Rattle.nbfx_values.specs.declared.{content.Item.Item, session.Mode.Mode}
+use Rattle.nbfx_values.specs.declared.refusals.{Offence.Offence, Reason.Reason}
+use Rattle.nbfx_values.specs.declared.session.Kind.{Kind, TheVariants.Plain, TheVariants.Session}
+use Rattle.nbfx_values.specs.declared.session.Mode.TheVariants.{Duplex, Simplex, Singleton}
+use Rattle.nbfx_values.specs.{Limits.Limits, Session.kind_number, Session.mode_number}
+use Rattle.nmf_records.specs.declared.frame.{Frame.Frame, FrameFault.FrameFault}
+use Rattle.nmf_records.specs.declared.frame.Frame.TheVariants.{Chunk, End, Fault, KnownEncoding}
+use Rattle.nmf_records.specs.declared.frame.Frame.TheVariants.{Mode as ModeRecord, PreambleAck}
+use Rattle.nmf_records.specs.declared.frame.Frame.TheVariants.{PreambleEnd, SizedEnvelope}
+use Rattle.nmf_records.specs.declared.frame.Frame.TheVariants.{UnsizedEnvelope, Version, Via}
+use Rattle.nmf_records.specs.{declared.record_types.TheConstants.EXTENSIBLE_ENCODING, Records.Read}
 use Rattle.nmf_records.specs.declared.record_types.TheConstants.{UPGRADE_REQUEST}
-use Rattle.nmf_records.specs.Records.{Read}
-use Rattle.nmf_records.specs.RecordFronts.{frame_at}
-use Rattle.nmf_records.specs.Script.{first, may_come, leads, may_end}
+use Rattle.nmf_records.specs.declared.script.{Direction.Direction, Due.Due}
+use Rattle.nmf_records.specs.declared.script.Direction.TheVariants.{FromInitiator, FromReceiver}
+use Rattle.nmf_records.specs.Script.{first, leads, may_come, may_end}
+use Rattle.nbfx_decoder.specs.Payload.{NoEvent, payload, PayloadUnit, Refusal}
+use Rattle.nbfx_decoder.specs.Payload.{Settings as PayloadSettings, Situation as PayloadSituation}
+use Rattle.nbfx_values.specs.declared.refusals.Place.TheVariants as places
+use Rattle.nbfx_values.specs.declared.refusals.Reason.TheVariants as reasons
+use Rattle.nmf_records.specs.declared.frame.FrameFault.TheVariants as faults
+use Rattle.nmf_records.specs.declared.script.Due.TheVariants as dues
 
 -- whose stream it is
 pub data Side : Type 0 where

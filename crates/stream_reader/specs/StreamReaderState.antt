@@ -1,44 +1,34 @@
 -- What a reader of a stream stands for, and what it shows. Of the bytes that it used it keeps the
 -- framing's text, and of an open payload what a decoder does.
-use Rattle.std.specs.Prelude.{◌≡◌, ⊤, ℕ, ◌+◌, ◌<◌, ◌≤◌, ◌⊎◌, List, [], ◌++◌, length, take, true}
-use Rattle.std.specs.Prelude.{Option, Some, None}
-use Rattle.unit_streams.specs.Grammar.{standing}
+use Rattle.std.specs.Prelude.{◌≡◌, ℕ, ◌+◌, ◌<◌, ◌≤◌, true, ◌⊎◌, List, [], ◌++◌, length, take, Some}
+use Rattle.std.specs.Prelude.{None, Option, ⊤}
+use Rattle.unit_streams.specs.{Going.IsGoing, Going.IsQuiet, Grammar.standing}
 use Rattle.unit_streams.specs.Judging.{Answer, event_at, is_over_at, refusal_at, used}
-use Rattle.unit_streams.specs.Going.{IsGoing, IsQuiet}
-use Rattle.nbfx_values.specs.Limits.{IsGood}
-use Rattle.nbfx_values.specs.QuotasOf.{limits_of}
-use Rattle.nbfx_values.specs.declared.refusals.Offence.{Offence}
-use Rattle.nbfx_values.specs.declared.content.Item.{Item}
 use Rattle.string_tables.specs.SessionStrings.{used_cost}
-use Rattle.nbfx_decoder.specs.declared.decoder.Decoder.{Decoder}
-use Rattle.nbfx_decoder.specs.declared.faults.DecodeFault.{DecodeFault}
-use Rattle.nbfx_decoder.specs.DecoderState.{settings_of as decoder_settings}
-use Rattle.nbfx_decoder.specs.DecoderState.{held_of as decoder_held_of}
+use Rattle.nbfx_values.specs.declared.{content.Item.Item, refusals.Offence.Offence}
+use Rattle.nbfx_values.specs.{Limits.IsGood, QuotasOf.limits_of}
+use Rattle.nmf_records.specs.declared.{frame.Expect.Expect, reader.FrameReader.FrameReader}
+use Rattle.nmf_records.specs.{declared.script.Direction.Direction, Script.may_come}
+use Rattle.nmf_records.specs.Reader.{held_of as frames_held_of, ShowsText as FramesShowText}
+use Rattle.nmf_records.specs.Reader.{StandsFor as FrameStandsFor}
+use Rattle.nbfx_decoder.specs.declared.{decoder.Decoder.Decoder, faults.DecodeFault.DecodeFault}
 use Rattle.nbfx_decoder.specs.DecoderState.{content_held_of as decoder_content_held_of}
-use Rattle.nbfx_decoder.specs.DecoderState.{situation_of, StandsFor as DecoderStandsFor}
 use Rattle.nbfx_decoder.specs.DecoderState.{FailedBehind as DecoderFailedBehind}
-use Rattle.nmf_records.specs.declared.frame.Expect.{Expect}
-use Rattle.nmf_records.specs.declared.reader.FrameReader.{FrameReader}
-use Rattle.nmf_records.specs.declared.script.Direction.{Direction}
+use Rattle.nbfx_decoder.specs.DecoderState.{held_of as decoder_held_of}
+use Rattle.nbfx_decoder.specs.DecoderState.{settings_of as decoder_settings, situation_of}
+use Rattle.nbfx_decoder.specs.DecoderState.{StandsFor as DecoderStandsFor}
+use Rattle.stream_reader.specs.declared.awaited.{Awaited.Awaited, Closing.Closing}
+use Rattle.stream_reader.specs.declared.awaited.{Form.Form as FormRead, PayloadLeft.PayloadLeft}
+use Rattle.stream_reader.specs.declared.reader.{ReadRefusal.ReadRefusal, StreamReader.StreamReader}
+use Rattle.stream_reader.specs.declared.reader.ReadRefusal.TheVariants.{Memory, Offence as Refused}
+use Rattle.stream_reader.specs.{Sides.side_of, Stream.StreamEvent, Stream.strings_in}
+use Rattle.stream_reader.specs.Stream.{chunk_due, chunked, direction_of, ended, Form, last_chunk}
+use Rattle.stream_reader.specs.Stream.{OpenPayload, payload_in, payload_open, payloads, peer_fault}
+use Rattle.stream_reader.specs.Stream.{record_due, Settings, Situation, sized, Stage, stream}
 use Rattle.nmf_records.specs.declared.script.Due.TheVariants as dues
-use Rattle.nmf_records.specs.Reader.{StandsFor as FrameStandsFor, ShowsText as FramesShowText}
-use Rattle.nmf_records.specs.Reader.{held_of as frames_held_of}
-use Rattle.nmf_records.specs.Script.{may_come}
-use Rattle.stream_reader.specs.declared.awaited.Awaited.{Awaited}
 use Rattle.stream_reader.specs.declared.awaited.Awaited.TheVariants as awaits
-use Rattle.stream_reader.specs.declared.awaited.Closing.{Closing}
 use Rattle.stream_reader.specs.declared.awaited.Closing.TheVariants as closings
-use Rattle.stream_reader.specs.declared.awaited.Form.{Form as FormRead}
 use Rattle.stream_reader.specs.declared.awaited.Form.TheVariants as forms
-use Rattle.stream_reader.specs.declared.awaited.PayloadLeft.{PayloadLeft}
-use Rattle.stream_reader.specs.declared.reader.ReadRefusal.{ReadRefusal}
-use Rattle.stream_reader.specs.declared.reader.ReadRefusal.TheVariants.{Offence as Refused, Memory}
-use Rattle.stream_reader.specs.declared.reader.StreamReader.{StreamReader}
-use Rattle.stream_reader.specs.Sides.{side_of}
-use Rattle.stream_reader.specs.Stream.{Settings, Situation, Stage, Form, sized, chunked, last_chunk}
-use Rattle.stream_reader.specs.Stream.{OpenPayload, StreamEvent, ended, peer_fault, record_due}
-use Rattle.stream_reader.specs.Stream.{chunk_due, payload_open, direction_of, payload_in, payloads}
-use Rattle.stream_reader.specs.Stream.{stream, strings_in}
 
 -- what the reader is set to
 unfoldable pub settings_of : StreamReader → Settings

@@ -1,19 +1,17 @@
 -- What follows for the identifier that a writer takes for a text.
-use Rattle.std.proofs.Common.{◌≡◌, ℕ, ◌+◌, ◌*◌, List, [], ◌∷◌, ◌++◌, length, Option, Some, None}
-use Rattle.std.proofs.Common.{refl, ◌∙◌, arith, inl, inr}
-use Rattle.std.specs.Option.{MatchOption, option_or}
-use Rattle.std.proofs.lemmas.Option.{slice_get_within}
+use Rattle.std.proofs.Common.{◌≡◌, ℕ, ◌+◌, ◌*◌, List, [], ◌∷◌, ◌++◌, length, Some, None, Option}
+use Rattle.std.proofs.Common.{MatchOption, refl, ◌∙◌, inl, inr, arith}
+use Rattle.std.{proofs.lemmas.Option.slice_get_within, specs.Option.option_or}
 use Rattle.string_tables.specs.Laws.{ChoosesAppended, FindsChosen, KeepsChosen, NamesChosen}
 use Rattle.string_tables.specs.Laws.{NamesSmall}
 use Rattle.string_tables.specs.SessionStrings.{least_session_id, session_text}
 use Rattle.string_tables.specs.StaticStrings.{IsStaticMap, least_static_id, static_text}
-use Rattle.string_tables.specs.StringTable.{IsChosenName, IsLeastName, IsUnnamed, Names}
-use Rattle.string_tables.specs.StringTable.{StringTable, chosen_id, named_text}
+use Rattle.string_tables.specs.StringTable.{chosen_id, IsChosenName, IsLeastName, IsUnnamed}
+use Rattle.string_tables.specs.StringTable.{named_text, Names, StringTable}
 use Rattle.string_tables.proofs.SessionFacts.{gives_least_session, least_session_id-append}
 use Rattle.string_tables.proofs.SessionFacts.{least_session_id-push, length-le-used_cost}
-use Rattle.string_tables.proofs.SessionFacts.{session_text-string}
+use Rattle.string_tables.proofs.{SessionFacts.session_text-string, TableFacts.named_text-names}
 use Rattle.string_tables.proofs.StaticFacts.{gives_least_static, static_text-stands}
-use Rattle.string_tables.proofs.TableFacts.{named_text-names}
 
 -- what names a text is in one half or in the other
 halves_name : (table : StringTable) (text : List ℕ) → IsUnnamed (static_text table.statics) text

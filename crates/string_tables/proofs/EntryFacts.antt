@@ -1,15 +1,13 @@
 -- What one more entry changes in a list of entries.
-use Rattle.std.proofs.Common.{◌≡◌, ℕ, ◌+◌, ◌<◌, ◌≤◌, Bool, true, false, List, [], ◌∷◌, ◌++◌, Option}
-use Rattle.std.proofs.Common.{Some, None, Ordering, refl, sym, ap, ◌∙◌, arith, inl, inr}
-use Rattle.std.specs.Prelude.{◌==◌, if◌then◌else◌}
-use Rattle.std.specs.Cmp.{ranks, unsigned_tied}
-use Rattle.std.specs.Option.{option_or}
-use Rattle.std.specs.Ordering.{MatchOrdering, is_eq, match_ordering, nat_cmp}
-use Rattle.std.specs.Str.{bytes_eq}
-use Rattle.std.specs.declared.cmp.Ordering.TheVariants.{Less, Equal, Greater}
-use Rattle.std.proofs.lemmas.Bool.{cases_Bool, eq-eqb, eqb-true, false≢true}
-use Rattle.string_tables.specs.StaticStrings.{Entry, IsStaticId, RisesFrom, least_static_id}
-use Rattle.string_tables.specs.StaticStrings.{least_with, static_text, with_entry}
+use Rattle.std.proofs.Common.{◌≡◌, ℕ, ◌+◌, ◌<◌, ◌≤◌, Bool, true, false, List, [], ◌∷◌, ◌++◌}
+use Rattle.std.proofs.Common.{if◌then◌else◌, ◌==◌, Some, None, Option, bytes_eq, nat_cmp, is_eq}
+use Rattle.std.proofs.Common.{Ordering, Less, Equal, Greater, sym, refl, ap, ◌∙◌, inl, inr, arith}
+use Rattle.std.proofs.Common.{eq-eqb, eqb-true}
+use Rattle.std.proofs.lemmas.Bool.{cases_Bool, false≢true}
+use Rattle.std.specs.{Cmp.ranks, Cmp.unsigned_tied, Option.option_or}
+use Rattle.std.specs.Ordering.{MatchOrdering, match_ordering}
+use Rattle.string_tables.specs.StaticStrings.{Entry, IsStaticId, least_static_id, least_with}
+use Rattle.string_tables.specs.StaticStrings.{RisesFrom, static_text, with_entry}
 
 -- two choices that exclude each other, in either order
 choices : {A : Type 0} (a b : Bool) (x y z : A) → (a ≡ true → b ≡ true → ⊥)

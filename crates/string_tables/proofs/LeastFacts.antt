@@ -1,8 +1,7 @@
 -- What follows of least identifiers, whichever look-up finds the texts.
-use Rattle.std.proofs.Common.{◌≡◌, ◌≢◌, ℕ, ◌≤◌, List, Option, Some, None, refl, arith}
-use Rattle.std.specs.Option.{IfNone, IfSome, MatchOption}
-use Rattle.string_tables.specs.Laws.{GivesLeast}
-use Rattle.string_tables.specs.StringTable.{IsLeastName}
+use Rattle.std.proofs.Common.{◌≡◌, ℕ, ◌≤◌, ◌≢◌, List, IfSome, IfNone, Some, None, Option}
+use Rattle.std.proofs.Common.{MatchOption, refl, arith}
+use Rattle.string_tables.specs.{Laws.GivesLeast, StringTable.IsLeastName}
 
 -- an identifier was found that is no greater than another
 pub record FindsAtMost (found : Option ℕ) (other : ℕ) : Type 0 where

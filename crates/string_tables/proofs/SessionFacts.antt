@@ -1,12 +1,9 @@
 -- What follows from the definitions of a session's strings alone.
 use Rattle.std.proofs.Common.{◌≡◌, ℕ, zero, suc, ◌+◌, ◌*◌, ◌/◌, ◌%◌, ◌⊎◌, List, [], ◌∷◌, ◌++◌}
-use Rattle.std.proofs.Common.{length, Option, Some, None, option_map, refl, sym, ap, ◌∙◌, arith}
-use Rattle.std.proofs.Common.{inl, inr}
-use Rattle.std.specs.Prelude.{◌==◌, slice_get}
+use Rattle.std.proofs.Common.{length, ◌==◌, slice_get, Some, None, Option, option_map, bytes_eq}
+use Rattle.std.proofs.Common.{sym, refl, ap, ◌∙◌, inl, inr, arith, eqb-true}
+use Rattle.std.proofs.lemmas.{Bool.cases_Bool, List.Sums.sum_by-append, List.Sums.sum_by-cons}
 use Rattle.std.specs.Cmp.Lexicographic.{bytes_decides}
-use Rattle.std.specs.Str.{bytes_eq}
-use Rattle.std.proofs.lemmas.Bool.{cases_Bool, eqb-true}
-use Rattle.std.proofs.lemmas.List.Sums.{sum_by-append, sum_by-cons}
 use Rattle.string_tables.specs.Laws.{AddsCosts, CountsWithin, FindsLeastSession, FindsStrings}
 use Rattle.string_tables.specs.Laws.{KeepsLeast, NamesFirst}
 use Rattle.string_tables.specs.SessionStrings.{cost, least_session_id, session_text}

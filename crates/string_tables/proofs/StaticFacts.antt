@@ -1,14 +1,12 @@
 -- What follows from the definitions of static strings alone.
 use Rattle.std.proofs.Common.{◌≡◌, ℕ, zero, suc, ◌+◌, ◌<◌, ◌≤◌, false, List, [], ◌∷◌, length}
-use Rattle.std.proofs.Common.{Option, Some, None, refl, sym, ap, subst, arith, inl, inr}
-use Rattle.std.specs.Prelude.{nat_eq, slice_index_or}
+use Rattle.std.proofs.Common.{nat_eq, slice_index_or, Some, None, Option, bytes_eq, sym, refl, ap}
+use Rattle.std.proofs.Common.{subst, inl, inr, arith, eq-eqb, ne_eqb, eqb-true}
+use Rattle.std.proofs.lemmas.{Bool.cases_Bool, Map.Views.Contains-from_lookup}
 use Rattle.std.specs.Cmp.Lexicographic.{bytes_decides}
-use Rattle.std.specs.Str.{bytes_eq}
-use Rattle.std.proofs.lemmas.Bool.{cases_Bool, eq-eqb, eqb-true, ne_eqb}
-use Rattle.std.proofs.lemmas.Map.Views.{Contains-from_lookup}
 use Rattle.string_tables.specs.Laws.{FindsEntries, FindsLeastStatic}
-use Rattle.string_tables.specs.StaticStrings.{Entry, IsStaticId, RisesFrom, least_static_id}
-use Rattle.string_tables.specs.StaticStrings.{least_with, static_text}
+use Rattle.string_tables.specs.StaticStrings.{Entry, IsStaticId, least_static_id, least_with}
+use Rattle.string_tables.specs.StaticStrings.{RisesFrom, static_text}
 use Rattle.string_tables.proofs.LeastFacts.{FindsAtMost, gives_least}
 
 -- an identifier that has a text, among entries that rise from another

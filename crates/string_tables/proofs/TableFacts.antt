@@ -1,17 +1,16 @@
 -- What follows from the definitions of a whole table alone.
-use Rattle.std.proofs.Common.{◌≡◌, ℕ, ◌+◌, ◌*◌, ◌%◌, ◌⊎◌, List, [], ◌∷◌, ◌++◌, length, Option, Some}
-use Rattle.std.proofs.Common.{None, refl, sym, ap, ◌∙◌, arith, inl, inr}
-use Rattle.std.proofs.lemmas.Bool.{cases_lt, eq-eqb, ne_eqb}
+use Rattle.std.proofs.Common.{◌≡◌, ℕ, ◌+◌, ◌*◌, ◌%◌, ◌⊎◌, List, [], ◌∷◌, ◌++◌, length, Some, None}
+use Rattle.std.proofs.Common.{Option, sym, refl, ap, ◌∙◌, inl, inr, arith, eq-eqb, ne_eqb}
+use Rattle.{std.proofs.lemmas.Bool.cases_lt, string_tables.proofs.SessionFacts.slice_get-pushed}
 use Rattle.string_tables.specs.Laws.{FindsLeast, FindsNamed, KeepsNames, NamesOneMore, NamesOneText}
 use Rattle.string_tables.specs.SessionStrings.{least_session_id, session_text}
 use Rattle.string_tables.specs.StaticStrings.{IsStaticMap, least_static_id, least_with, static_text}
-use Rattle.string_tables.specs.StringTable.{NamesString, Names, StringTable, least_id, lesser_id}
-use Rattle.string_tables.specs.StringTable.{named_text, with_strings}
+use Rattle.string_tables.specs.StringTable.{least_id, lesser_id, named_text, Names, NamesString}
+use Rattle.string_tables.specs.StringTable.{StringTable, with_strings}
 use Rattle.string_tables.proofs.LeastFacts.{FindsAtMost, gives_least}
 use Rattle.string_tables.proofs.SessionFacts.{least_session_id-lowest, least_session_id-named}
 use Rattle.string_tables.proofs.SessionFacts.{session_text-odd, session_text-string}
 use Rattle.string_tables.proofs.SessionFacts.{slice_get-append, slice_get-push_cases}
-use Rattle.string_tables.proofs.SessionFacts.{slice_get-pushed}
 use Rattle.string_tables.proofs.StaticFacts.{least_static_id-lowest, least_static_id-named}
 use Rattle.string_tables.proofs.StaticFacts.{least_with-le, static_text-stands}
 

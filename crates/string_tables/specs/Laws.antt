@@ -1,12 +1,11 @@
 -- What holds of string tables by their definitions alone.
 use Rattle.std.specs.Prelude.{◌≡◌, ℕ, ◌+◌, ◌*◌, ◌^◌, ◌<◌, ◌≤◌, ◌⊎◌, ◌↔◌, List, [], ◌∷◌, ◌++◌}
-use Rattle.std.specs.Prelude.{length, Option, Some, None, Contains, MatchOption}
-use Rattle.string_tables.specs.StaticStrings.{Entry, IsStaticId, IsStaticMap, least_static_id}
-use Rattle.string_tables.specs.StaticStrings.{static_text}
+use Rattle.std.specs.Prelude.{length, Some, None, Contains, Option, MatchOption}
 use Rattle.string_tables.specs.SessionStrings.{least_session_id, session_text, used_cost}
-use Rattle.string_tables.specs.StringTable.{IsChosenName, IsLeastName, IsUnnamed, Names}
-use Rattle.string_tables.specs.StringTable.{NamesString, StringTable, chosen_id, least_id}
-use Rattle.string_tables.specs.StringTable.{named_text, with_strings}
+use Rattle.string_tables.specs.StaticStrings.{Entry, IsStaticId, IsStaticMap, least_static_id}
+use Rattle.string_tables.specs.{StaticStrings.static_text, StringTable.with_strings}
+use Rattle.string_tables.specs.StringTable.{chosen_id, IsChosenName, IsLeastName, IsUnnamed}
+use Rattle.string_tables.specs.StringTable.{least_id, named_text, Names, NamesString, StringTable}
 
 -- the text that a look-up finds is the one that the identifier names
 abbrev pub FindsNamed : Type 0

@@ -1,8 +1,7 @@
 -- The strings of one direction of a session, in the order in which they came, each the list of its
 -- UTF-8 bytes.
-use Rattle.std.specs.Prelude.{ℕ, ◌+◌, ◌/◌, ◌%◌, ◌==◌, if◌then◌else◌, List, [], ◌∷◌, length, max}
-use Rattle.std.specs.Prelude.{Option, Some, None, option_map, slice_get, sum_by}
-use Rattle.std.specs.Str.{bytes_eq}
+use Rattle.std.specs.Prelude.{ℕ, ◌+◌, ◌/◌, ◌%◌, max, List, [], ◌∷◌, length, if◌then◌else◌, ◌==◌}
+use Rattle.std.specs.Prelude.{slice_get, Some, None, sum_by, Option, option_map, bytes_eq}
 
 -- the text of an identifier: 2i + 1 has that of string i
 abbrev pub session_text : List (List ℕ) → ℕ → Option (List ℕ)

@@ -1,11 +1,8 @@
 -- The static strings: a finite map from identifiers to texts, as the list of its entries. A text is
 -- the list of its UTF-8 bytes.
-use Rattle.std.specs.Prelude.{◌≡◌, ℕ, ◌+◌, ◌%◌, ◌^◌, ◌<◌, ◌≤◌, ⊤, nat_eq, if◌then◌else◌, List, []}
-use Rattle.std.specs.Prelude.{◌∷◌, min, Option, Some, None, fold}
-use Rattle.std.specs.Str.{bytes_eq}
-use Rattle.std.specs.Ordering.{nat_cmp}
-use Rattle.std.specs.Map.{lookup}
-use Rattle.std.specs.BTreeMap.{insert_entry}
+use Rattle.std.specs.Prelude.{◌≡◌, ℕ, ◌+◌, ◌%◌, ◌^◌, ◌<◌, ◌≤◌, min, List, [], ◌∷◌, if◌then◌else◌}
+use Rattle.std.specs.Prelude.{nat_eq, Some, None, fold, Option, bytes_eq, ⊤}
+use Rattle.std.specs.{BTreeMap.insert_entry, Map.lookup, Ordering.nat_cmp}
 
 -- an identifier and its text
 abbrev pub Entry : Type 0

@@ -1,20 +1,16 @@
 -- A stream has no offence exactly where unrefused units lead to where the input may end.
 use Rattle.std.proofs.Common.{◌≡◌, ℕ, zero, suc, ◌+◌, ◌≤◌, List, [], ◌∷◌, ◌++◌, length, take, drop}
-use Rattle.std.proofs.Common.{None, refl, sym, ap, ◌∙◌, subst, arith, length-drop}
-use Rattle.std.proofs.Math.Seq.{take-length}
-use Rattle.std.proofs.lemmas.List.{append-nil, length-take-le, take-append-drop}
-use Rattle.unit_streams.specs.Front.{begun}
-use Rattle.unit_streams.specs.Grammar.{Grammar, Standing, standing, with_more, IsReadable}
-use Rattle.unit_streams.specs.Judging.{refusal_at, ending_at, History, history_from, history}
-use Rattle.unit_streams.specs.Judging.{offence}
-use Rattle.unit_streams.specs.Units.{Counted, UnitsLead, size_of, IsAccepted}
-use Rattle.unit_streams.specs.Laws.{AcceptedOrOffended}
-use Rattle.unit_streams.proofs.Peeling.{Leaves}
-use Rattle.unit_streams.proofs.Fronts.{left_begun}
-use Rattle.unit_streams.proofs.Standing.{standing_length, standing_append, leaves_at, leaves_all}
-use Rattle.unit_streams.proofs.Passing.{going_at, refusal_from, going_refusal, begun_refusal}
+use Rattle.std.proofs.Common.{None, sym, refl, ap, ◌∙◌, subst, append-nil, arith, length-drop}
+use Rattle.std.proofs.{Common.take-append-drop, Common.length-take-le, Math.Seq.take-length}
+use Rattle.unit_streams.specs.{Front.begun, Judging.refusal_at, Laws.AcceptedOrOffended}
+use Rattle.unit_streams.specs.Grammar.{Grammar, IsReadable, Standing, standing, with_more}
+use Rattle.unit_streams.specs.Judging.{ending_at, History, history, history_from, offence}
+use Rattle.unit_streams.specs.Units.{Counted, IsAccepted, size_of, UnitsLead}
+use Rattle.unit_streams.proofs.{Fronts.left_begun, Peeling.Leaves}
 use Rattle.unit_streams.proofs.Offences.{no_offence, unrefused_from}
-use Rattle.unit_streams.proofs.Units.{IsBetween, between_going, between_first, between_place}
+use Rattle.unit_streams.proofs.Passing.{begun_refusal, going_at, going_refusal, refusal_from}
+use Rattle.unit_streams.proofs.Standing.{leaves_all, leaves_at, standing_append, standing_length}
+use Rattle.unit_streams.proofs.Units.{between_first, between_going, between_place, IsBetween}
 use Rattle.unit_streams.proofs.Units.{length_at, units_bring, units_of}
 
 module _ {Z U E R : Type 0} (g : Grammar Z U E R) (readable : IsReadable g) where

@@ -1,14 +1,12 @@
 -- Whole units by the bytes that they are, one part behind the other.
 use Rattle.std.proofs.Common.{◌≡◌, ℕ, ◌+◌, ◌<◌, ◌≤◌, List, [], ◌∷◌, ◌++◌, length, take, drop, None}
-use Rattle.std.proofs.Common.{refl, sym, ap, ◌∙◌, subst, arith, append_assoc, length-append}
-use Rattle.std.proofs.Math.Seq.{take-append_seam, drop-append_seam}
-use Rattle.std.proofs.lemmas.List.{append-nil}
-use Rattle.std.specs.Option.{option_to_list}
-use Rattle.unit_streams.specs.Front.{whole}
-use Rattle.unit_streams.specs.Grammar.{Grammar, IsReadable}
-use Rattle.unit_streams.specs.Judging.{led_by, history_from, history}
-use Rattle.unit_streams.specs.Units.{Counted, UnitsLead, events_along, size_of}
-use Rattle.unit_streams.proofs.Units.{IsBetween, between_first, units_bring, Brings, short_below}
+use Rattle.std.proofs.Common.{option_to_list, sym, refl, ap, ◌∙◌, subst, append_assoc, append-nil}
+use Rattle.std.proofs.Common.{arith, length-append}
+use Rattle.std.proofs.Math.Seq.{drop-append_seam, take-append_seam}
+use Rattle.unit_streams.specs.{Front.whole, Grammar.Grammar, Grammar.IsReadable}
+use Rattle.unit_streams.specs.Judging.{history, history_from, led_by}
+use Rattle.unit_streams.specs.Units.{Counted, events_along, size_of, UnitsLead}
+use Rattle.unit_streams.proofs.Units.{between_first, Brings, IsBetween, short_below, units_bring}
 
 module _ {Z U E R : Type 0} (g : Grammar Z U E R) where
   -- the bytes are whole units that lead from one situation, at an offset, to another, and complete

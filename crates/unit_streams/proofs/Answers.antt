@@ -1,13 +1,11 @@
 -- What a piece of a stream is answered, byte by byte, and what an answer means.
 use Rattle.std.proofs.Common.{◌≡◌, ℕ, zero, suc, ◌+◌, ◌<◌, ◌≤◌, List, [], ◌∷◌, ◌++◌, length, take}
-use Rattle.std.proofs.Common.{drop, Option, Some, None, refl, sym, ap, ◌∙◌, subst, arith}
-use Rattle.std.proofs.Common.{append_assoc}
-use Rattle.std.proofs.lemmas.List.{append-nil, take_all, drop_all}
-use Rattle.unit_streams.specs.Grammar.{Grammar}
-use Rattle.unit_streams.specs.Judging.{event_at, refusal_at, unless_completed, Answer, goes_on}
-use Rattle.unit_streams.specs.Judging.{completes, offends, answer_from, answer}
-use Rattle.unit_streams.specs.Going.{IsQuietBefore, IsQuiet, Means}
-use Rattle.unit_streams.specs.Laws.{AnswersAreFirst}
+use Rattle.std.proofs.Common.{drop, Some, None, Option, sym, refl, ap, ◌∙◌, subst, append_assoc}
+use Rattle.std.proofs.{Common.append-nil, Common.arith, Common.take_all, lemmas.List.drop_all}
+use Rattle.unit_streams.specs.Going.{IsQuiet, IsQuietBefore, Means}
+use Rattle.unit_streams.specs.{Grammar.Grammar, Laws.AnswersAreFirst}
+use Rattle.unit_streams.specs.Judging.{Answer, answer, answer_from, completes, event_at, goes_on}
+use Rattle.unit_streams.specs.Judging.{offends, refusal_at, unless_completed}
 
 module _ {Z U E R : Type 0} (g : Grammar Z U E R) where
   -- the rest of an answer, where the prefix before it isn't refused

@@ -1,13 +1,12 @@
 -- Where pieces are cut changes nothing.
-use Rattle.std.proofs.Common.{◌≡◌, ℕ, suc, ◌+◌, ◌≤◌, List, [], ◌∷◌, ◌++◌, length, take, Option}
-use Rattle.std.proofs.Common.{Some, None, refl, ap, ◌∙◌, arith, length-append}
-use Rattle.std.proofs.Math.Seq.{take-append_seam, drop-append_seam}
+use Rattle.std.proofs.Common.{◌≡◌, ℕ, suc, ◌+◌, ◌≤◌, List, [], ◌∷◌, ◌++◌, length, take, Some, None}
+use Rattle.std.proofs.Common.{Option, refl, ap, ◌∙◌, arith, length-append}
+use Rattle.std.proofs.Math.Seq.{drop-append_seam, take-append_seam}
 use Rattle.std.proofs.lemmas.List.{take-append-le}
-use Rattle.unit_streams.specs.Grammar.{Grammar}
-use Rattle.unit_streams.specs.Judging.{event_at, refusal_at, unless_offended, unless_completed}
-use Rattle.unit_streams.specs.Judging.{Answer, goes_on, completes, offends, answer_from, answer}
-use Rattle.unit_streams.specs.Going.{IsQuietBefore, IsQuiet, Means}
-use Rattle.unit_streams.specs.Laws.{raised, unless_decided, CutsChangeNothing}
+use Rattle.unit_streams.specs.{Going.IsQuiet, Going.IsQuietBefore, Going.Means, Grammar.Grammar}
+use Rattle.unit_streams.specs.Judging.{Answer, answer, answer_from, completes, event_at, goes_on}
+use Rattle.unit_streams.specs.Judging.{offends, refusal_at, unless_completed, unless_offended}
+use Rattle.unit_streams.specs.Laws.{CutsChangeNothing, raised, unless_decided}
 use Rattle.unit_streams.proofs.Answers.{answer_skips, answers_are_first}
 
 -- bytes counted with more before them

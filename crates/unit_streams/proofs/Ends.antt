@@ -1,22 +1,17 @@
 -- How a stream ends: with an event, and with nothing judged behind it.
-use Rattle.std.proofs.Common.{◌≡◌, ℕ, zero, suc, ◌<◌, ◌≤◌, ◌⊎◌, inl, inr, List, [], ◌∷◌, ◌++◌}
-use Rattle.std.proofs.Common.{length, take, Bool, true, false, Some, None, refl, sym, ap, ◌∙◌}
-use Rattle.std.proofs.Common.{subst, arith, append_assoc, length-append}
-use Rattle.std.proofs.lemmas.List.{append-nil}
-use Rattle.unit_streams.specs.Front.{Front, begun, whole, wrong}
-use Rattle.unit_streams.specs.Grammar.{Grammar, Standing, next_unit, behind_unit, standing, resumed}
-use Rattle.unit_streams.specs.Grammar.{with_more, IsReadable, IsQuietWhenOver, TellsItsEnd}
-use Rattle.unit_streams.specs.Judging.{event_at, refusal_at, is_over_at, ending_at, only}
-use Rattle.unit_streams.specs.Judging.{history_from}
-use Rattle.unit_streams.specs.Going.{IsGoing}
-use Rattle.unit_streams.specs.Laws.{EndsAreClosed}
-use Rattle.unit_streams.proofs.Peeling.{Decides}
-use Rattle.unit_streams.proofs.Fronts.{leaves_or_decides, begun_open, wrong_open}
-use Rattle.unit_streams.proofs.Standing.{standing_nothing, standing_append, leaves_all, whole_at}
-use Rattle.unit_streams.proofs.Standing.{peel_open}
-use Rattle.unit_streams.proofs.Histories.{history_next, history_ends}
-use Rattle.unit_streams.proofs.Passing.{given_none, event_from, refusal_from, going_refusal}
-use Rattle.unit_streams.proofs.Passing.{going_at, open_cases}
+use Rattle.std.proofs.Common.{◌≡◌, ℕ, zero, suc, ◌<◌, ◌≤◌, Bool, true, false, ◌⊎◌, List, [], ◌∷◌}
+use Rattle.std.proofs.Common.{◌++◌, length, take, Some, None, sym, refl, ap, ◌∙◌, subst, inl, inr}
+use Rattle.std.proofs.Common.{append_assoc, append-nil, arith, length-append}
+use Rattle.unit_streams.specs.Front.{begun, Front, whole, wrong}
+use Rattle.unit_streams.specs.{Going.IsGoing, Judging.refusal_at, Laws.EndsAreClosed}
+use Rattle.unit_streams.specs.Grammar.{behind_unit, Grammar, IsQuietWhenOver, IsReadable, next_unit}
+use Rattle.unit_streams.specs.Grammar.{resumed, Standing, standing, TellsItsEnd, with_more}
+use Rattle.unit_streams.specs.Judging.{ending_at, event_at, history_from, is_over_at, only}
+use Rattle.unit_streams.proofs.Fronts.{begun_open, leaves_or_decides, wrong_open}
+use Rattle.unit_streams.proofs.Histories.{history_ends, history_next}
+use Rattle.unit_streams.proofs.Passing.{event_from, given_none, going_at, going_refusal, open_cases}
+use Rattle.unit_streams.proofs.{Passing.refusal_from, Peeling.Decides, Standing.whole_at}
+use Rattle.unit_streams.proofs.Standing.{leaves_all, peel_open, standing_append, standing_nothing}
 
 module _ {Z U E R : Type 0} (g : Grammar Z U E R) (readable : IsReadable g) where
   -- one byte more leaves the situation, or completes a unit behind which it stands

@@ -1,12 +1,10 @@
 -- What follows for a front that rests on its own bytes.
-use Rattle.std.proofs.Common.{◌≡◌, ℕ, ◌+◌, ◌-◌, ◌<◌, ◌≤◌, ◌⊎◌, inl, inr, List, [], ◌++◌, length}
-use Rattle.std.proofs.Common.{take, drop, refl, sym, ap, ◌∙◌, subst, arith, append_assoc}
-use Rattle.std.proofs.Common.{length-append}
-use Rattle.std.proofs.lemmas.Bool.{cases_lt}
-use Rattle.std.proofs.Math.Seq.{take-append-add}
-use Rattle.std.proofs.lemmas.List.{take-append-le, take-append-drop}
-use Rattle.unit_streams.specs.Front.{Front, begun, whole, wrong, IsOpen, ReadsFront}
-use Rattle.unit_streams.proofs.Peeling.{extent, Decides, Leaves}
+use Rattle.std.proofs.Common.{◌≡◌, ℕ, ◌+◌, ◌-◌, ◌<◌, ◌≤◌, ◌⊎◌, List, [], ◌++◌, length, take, drop}
+use Rattle.std.proofs.Common.{sym, refl, ap, ◌∙◌, subst, inl, inr, append_assoc, arith}
+use Rattle.std.proofs.{Common.length-append, Common.take-append-drop, Math.Seq.take-append-add}
+use Rattle.std.proofs.lemmas.{Bool.cases_lt, List.take-append-le}
+use Rattle.unit_streams.specs.Front.{begun, Front, IsOpen, ReadsFront, whole, wrong}
+use Rattle.unit_streams.proofs.Peeling.{Decides, extent, Leaves}
 
 -- a front that is decided is so by its first bytes, whatever follows
 pub record IsDecided {A R : Type 0} (f : List ℕ → Front A R) (b : List ℕ) (n : ℕ) : Type 0 where

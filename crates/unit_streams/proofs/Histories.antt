@@ -1,16 +1,13 @@
 -- What comes behind a prefix, by its parts and by what pieces are answered.
 use Rattle.std.proofs.Common.{◌≡◌, ℕ, suc, ◌<◌, ◌≤◌, List, [], ◌∷◌, ◌++◌, length, take, drop, Some}
-use Rattle.std.proofs.Common.{None, refl, sym, ap, ◌∙◌, arith, append_assoc}
-use Rattle.std.proofs.lemmas.List.{append-nil, take_all, drop_all, take-append-le, take-append-drop}
-use Rattle.std.proofs.lemmas.List.{length-take-le}
-use Rattle.std.specs.Option.{option_to_list}
-use Rattle.unit_streams.specs.Grammar.{Grammar}
-use Rattle.unit_streams.specs.Judging.{event_at, refusal_at, ending_at, History, only, led_by}
-use Rattle.unit_streams.specs.Judging.{history_from, events_in, Answer, goes_on, completes, offends}
-use Rattle.unit_streams.specs.Judging.{answer}
-use Rattle.unit_streams.specs.Going.{IsQuietBefore, IsQuiet, Means, history_by}
-use Rattle.unit_streams.specs.Laws.{HistoryIsAnswers}
-use Rattle.unit_streams.proofs.Answers.{shifted, none_taken, answers_are_first}
+use Rattle.std.proofs.Common.{None, option_to_list, sym, refl, ap, ◌∙◌, append_assoc, append-nil}
+use Rattle.std.proofs.Common.{arith, take-append-drop, length-take-le, take_all}
+use Rattle.std.proofs.lemmas.List.{drop_all, take-append-le}
+use Rattle.unit_streams.specs.Going.{history_by, IsQuiet, IsQuietBefore, Means}
+use Rattle.unit_streams.specs.{Grammar.Grammar, Judging.refusal_at, Laws.HistoryIsAnswers}
+use Rattle.unit_streams.specs.Judging.{Answer, answer, completes, ending_at, event_at, events_in}
+use Rattle.unit_streams.specs.Judging.{goes_on, History, history_from, led_by, offends, only}
+use Rattle.unit_streams.proofs.Answers.{answers_are_first, none_taken, shifted}
 
 -- nothing before
 pub led_by_none : {E R : Type 0} (h : History E R) → led_by [] h ≡ h

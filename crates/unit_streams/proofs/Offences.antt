@@ -1,14 +1,12 @@
 -- The offence of a stream is the first refusal of a prefix, or else its end's.
-use Rattle.std.proofs.Common.{◌≡◌, ℕ, zero, suc, ◌<◌, ◌≤◌, ◌⊎◌, inl, inr, List, [], ◌∷◌, ◌++◌}
-use Rattle.std.proofs.Common.{length, take, drop, Option, Some, None, refl, sym, ap, ◌∙◌, arith}
-use Rattle.std.proofs.Math.Seq.{take-nil}
-use Rattle.std.proofs.lemmas.List.{append-nil, take_all, drop_all}
-use Rattle.unit_streams.specs.Grammar.{Grammar}
-use Rattle.unit_streams.specs.Judging.{refusal_at, ending_at, History, history_from, history}
-use Rattle.unit_streams.specs.Judging.{offence}
+use Rattle.std.proofs.Common.{◌≡◌, ℕ, zero, suc, ◌<◌, ◌≤◌, ◌⊎◌, List, [], ◌∷◌, ◌++◌, length, take}
+use Rattle.std.proofs.Common.{drop, Some, None, Option, sym, refl, ap, ◌∙◌, inl, inr, append-nil}
+use Rattle.std.proofs.{Common.arith, Common.take_all, Math.Seq.take-nil, lemmas.List.drop_all}
+use Rattle.unit_streams.specs.{Grammar.Grammar, Judging.refusal_at}
+use Rattle.unit_streams.specs.Judging.{ending_at, History, history, history_from, offence}
 use Rattle.unit_streams.specs.Laws.{IsRefusedAt, IsRefusedAtEnd, OffencesAreFirst}
-use Rattle.unit_streams.proofs.Answers.{shifted, none_taken}
-use Rattle.unit_streams.proofs.Histories.{history_behind, history_refused, history_ends}
+use Rattle.unit_streams.proofs.Answers.{none_taken, shifted}
+use Rattle.unit_streams.proofs.Histories.{history_behind, history_ends, history_refused}
 
 module _ {Z U E R : Type 0} (g : Grammar Z U E R) where
   -- the first of the bytes behind p that are refused

@@ -1,16 +1,13 @@
 -- Things that are made of parts are known by their own bytes where their parts are.
-use Rattle.std.proofs.Common.{◌≡◌, ◌≢◌, ℕ, ◌+◌, ◌-◌, ◌<◌, ◌≤◌, ◌⊎◌, inl, inr, List, [], ◌∷◌, ◌++◌}
-use Rattle.std.proofs.Common.{length, take, drop, Result, Ok, Err, refl, sym, ap, ◌∙◌, subst, arith}
-use Rattle.std.proofs.Common.{length-append, length-drop}
-use Rattle.std.proofs.Math.Seq.{take-add}
-use Rattle.std.proofs.lemmas.Bool.{cases_lt, lt-ltb, le-ltb}
-use Rattle.std.proofs.lemmas.List.{drop-append-le, drop-take, take-append-le, take-append-drop}
-use Rattle.std.proofs.lemmas.List.{length-take-le}
-use Rattle.unit_streams.specs.Front.{Front, begun, whole, wrong, ReadsFront}
-use Rattle.unit_streams.specs.Parts.{Reader, given, refuse, a_byte, some_bytes, further, ◌>>=◌}
-use Rattle.unit_streams.specs.Parts.{seen, judged_whole, judged}
-use Rattle.unit_streams.proofs.Peeling.{extent}
-use Rattle.unit_streams.proofs.Fronts.{IsDecided, reads_by, decided}
+use Rattle.std.proofs.Common.{◌≡◌, ℕ, ◌+◌, ◌-◌, ◌<◌, ◌≤◌, ◌≢◌, ◌⊎◌, List, [], ◌∷◌, ◌++◌, length}
+use Rattle.std.proofs.Common.{take, drop, Ok, Err, Result, sym, refl, ap, ◌∙◌, subst, inl, inr}
+use Rattle.std.proofs.Common.{arith, length-append, length-drop, take-append-drop, length-take-le}
+use Rattle.std.proofs.{Common.le-ltb, Common.lt-ltb, Math.Seq.take-add, lemmas.Bool.cases_lt}
+use Rattle.std.proofs.lemmas.List.{drop-append-le, drop-take, take-append-le}
+use Rattle.unit_streams.specs.Front.{begun, Front, ReadsFront, whole, wrong}
+use Rattle.unit_streams.specs.Parts.{a_byte, further, given, judged, judged_whole, Reader, refuse}
+use Rattle.unit_streams.specs.Parts.{seen, some_bytes, ◌>>=◌}
+use Rattle.unit_streams.proofs.{Fronts.decided, Fronts.IsDecided, Fronts.reads_by, Peeling.extent}
 
 -- what is said at once, whatever the bytes
 reads_at_once : {A R : Type 0} (v : Front A R) → v ≢ begun → extent v ≡ 0 → ReadsFront (λ b. v)

@@ -1,17 +1,15 @@
 -- What the bytes of one unit decide behind a prefix that goes on.
-use Rattle.std.proofs.Common.{◌≡◌, ℕ, zero, suc, ◌+◌, ◌<◌, ◌≤◌, ◌⊎◌, inl, inr, List, [], ◌∷◌, ◌++◌}
-use Rattle.std.proofs.Common.{length, take, Option, Some, None, refl, sym, ap, ◌∙◌, subst, arith}
-use Rattle.std.proofs.Common.{length-append}
-use Rattle.std.proofs.Math.Nat.{eq-or-lt_of_le}
-use Rattle.std.proofs.lemmas.List.{append-nil, length-take-le}
-use Rattle.std.specs.Option.{option_or}
-use Rattle.unit_streams.specs.Front.{Front, begun, whole, wrong, wrong_of, IsOpen}
-use Rattle.unit_streams.specs.Grammar.{Grammar, Standing, next_unit, behind_unit, standing, resumed}
-use Rattle.unit_streams.specs.Grammar.{with_more, IsReadable}
-use Rattle.unit_streams.specs.Judging.{given_at, event_of, refusal_of, event_at, refusal_at}
-use Rattle.unit_streams.specs.Going.{IsGoing, IsQuietBefore, IsQuiet}
+use Rattle.std.proofs.Common.{◌≡◌, ℕ, zero, suc, ◌+◌, ◌<◌, ◌≤◌, ◌⊎◌, List, [], ◌∷◌, ◌++◌, length}
+use Rattle.std.proofs.Common.{take, Some, None, Option, sym, refl, ap, ◌∙◌, subst, inl, inr}
+use Rattle.std.proofs.Common.{append-nil, arith, length-append, length-take-le}
+use Rattle.std.{proofs.Math.Nat.eq-or-lt_of_le, specs.Option.option_or}
+use Rattle.unit_streams.specs.Front.{begun, Front, IsOpen, whole, wrong, wrong_of}
+use Rattle.unit_streams.specs.Going.{IsGoing, IsQuiet, IsQuietBefore}
+use Rattle.unit_streams.specs.Grammar.{behind_unit, Grammar, IsReadable, next_unit, resumed}
+use Rattle.unit_streams.specs.Grammar.{Standing, standing, with_more}
+use Rattle.unit_streams.specs.Judging.{event_at, event_of, given_at, refusal_at, refusal_of}
 use Rattle.unit_streams.proofs.Peeling.{Decides, Leaves}
-use Rattle.unit_streams.proofs.Standing.{standing_append, standing_open, leaves_at, leaves_all}
+use Rattle.unit_streams.proofs.Standing.{leaves_all, leaves_at, standing_append, standing_open}
 use Rattle.unit_streams.proofs.Standing.{undecided_at, whole_at, wrong_at}
 
 -- behind some bytes the last unit gave nothing

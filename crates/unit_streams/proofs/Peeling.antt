@@ -1,10 +1,9 @@
 -- Readings of the front of some bytes that go byte by byte: each is decided at one byte, and stays
 -- so.
-use Rattle.std.proofs.Common.{◌≡◌, ℕ, zero, suc, ◌+◌, ◌<◌, ◌≤◌, ◌⊎◌, inl, inr, List, [], ◌∷◌, ◌++◌}
-use Rattle.std.proofs.Common.{length, take, sym, ap, ◌∙◌, append_assoc, arith, length-append}
-use Rattle.std.proofs.Math.Seq.{take-nil}
-use Rattle.std.proofs.lemmas.List.{append-nil}
-use Rattle.unit_streams.specs.Front.{Front, begun, whole, wrong, ReadsFront}
+use Rattle.std.proofs.Common.{◌≡◌, ℕ, zero, suc, ◌+◌, ◌<◌, ◌≤◌, ◌⊎◌, List, [], ◌∷◌, ◌++◌, length}
+use Rattle.std.proofs.Common.{take, sym, ap, ◌∙◌, inl, inr, append_assoc, append-nil, arith}
+use Rattle.std.proofs.{Common.length-append, Math.Seq.take-nil}
+use Rattle.unit_streams.specs.Front.{begun, Front, ReadsFront, whole, wrong}
 
 -- how many bytes decide it, and 0 where they don't
 abbrev pub extent : {A R : Type 0} → Front A R → ℕ

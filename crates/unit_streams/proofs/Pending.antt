@@ -1,18 +1,16 @@
 -- Streams that may still come to their end, as their pieces are answered.
-use Rattle.std.proofs.Common.{◌≡◌, ℕ, ◌+◌, ◌-◌, ◌<◌, ◌≤◌, inl, inr, List, [], ◌++◌, length, take}
-use Rattle.std.proofs.Common.{drop, Bool, false, Some, None, refl, sym, ap, ◌∙◌, arith}
-use Rattle.std.proofs.Common.{length-append}
+use Rattle.std.proofs.Common.{◌≡◌, ℕ, ◌+◌, ◌-◌, ◌<◌, ◌≤◌, Bool, false, List, [], ◌++◌, length, take}
+use Rattle.std.proofs.Common.{drop, Some, None, sym, refl, ap, ◌∙◌, inl, inr, append-nil, arith}
+use Rattle.std.proofs.Common.{length-append, take-append-drop, length-take-le, take_all}
 use Rattle.std.proofs.Math.Seq.{take-append-add, take-nil}
-use Rattle.std.proofs.lemmas.Bool.{cases_lt}
-use Rattle.std.proofs.lemmas.List.{append-nil, take-append-le, take-append-drop, take_all}
-use Rattle.std.proofs.lemmas.List.{length-take-le}
+use Rattle.std.proofs.lemmas.{Bool.cases_lt, List.take-append-le}
+use Rattle.unit_streams.specs.Going.{IsOpenAt, IsPending, IsQuiet, IsQuietBefore}
 use Rattle.unit_streams.specs.Grammar.{Grammar, IsReadable, TellsItsEnd}
-use Rattle.unit_streams.specs.Judging.{event_at, refusal_at, is_over_at, ending_at, only, led_by}
-use Rattle.unit_streams.specs.Judging.{history_from, history, events_in, events_of}
-use Rattle.unit_streams.specs.Going.{IsQuietBefore, IsQuiet, IsPending, IsOpenAt}
-use Rattle.unit_streams.proofs.Histories.{history_along, history_ends, events_in_append, front_at}
-use Rattle.unit_streams.proofs.Histories.{front_length}
-use Rattle.unit_streams.proofs.Ends.{not_over_first, not_over_along, over_along_event}
+use Rattle.unit_streams.specs.Judging.{ending_at, event_at, events_in, events_of, history}
+use Rattle.unit_streams.specs.Judging.{history_from, is_over_at, led_by, only, refusal_at}
+use Rattle.unit_streams.proofs.Ends.{not_over_along, not_over_first, over_along_event}
+use Rattle.unit_streams.proofs.Histories.{events_in_append, front_at, front_length, history_along}
+use Rattle.unit_streams.proofs.Histories.{history_ends}
 
 module _ {Z U E R : Type 0} (g : Grammar Z U E R) where
   -- what a pending stream is

@@ -1,17 +1,14 @@
 -- How a piece is told of that is used up event by event, whatever is told.
-use Rattle.std.proofs.Common.{◌≡◌, ℕ, ◌+◌, ◌-◌, ◌≤◌, ◌<◌, List, [], ◌∷◌, ◌++◌, length, take, drop}
-use Rattle.std.proofs.Common.{Bool, true, Some, None, refl, sym, ap, ◌∙◌, subst, append_assoc}
-use Rattle.std.proofs.Common.{length-drop}
-use Rattle.std.specs.List.{flat_map}
-use Rattle.std.proofs.Math.Seq.{take-add}
-use Rattle.std.proofs.lemmas.List.{append-nil, take_rest, take-append-drop}
-use Rattle.unit_streams.specs.Grammar.{Grammar}
-use Rattle.unit_streams.specs.Judging.{event_at, history_from, goes_on, completes, offends, answer}
-use Rattle.unit_streams.specs.Going.{IsPending, IsOpenAt}
-use Rattle.unit_streams.specs.Tellers.{Teller, told_along, told_of_history, report, told_so_far}
-use Rattle.unit_streams.specs.Tellers.{state_at, Closes, StaysOpen, AreDue, IsReport}
-use Rattle.unit_streams.proofs.Telling.{open_report, means, goes_on_adds, completes_adds}
-use Rattle.unit_streams.proofs.Telling.{completes_due, offends_adds}
+use Rattle.std.proofs.Common.{◌≡◌, ℕ, ◌+◌, ◌-◌, ◌<◌, ◌≤◌, Bool, true, List, [], ◌∷◌, ◌++◌, length}
+use Rattle.std.proofs.Common.{take, drop, Some, None, flat_map, sym, refl, ap, ◌∙◌, subst}
+use Rattle.std.proofs.Common.{append_assoc, append-nil, length-drop, take-append-drop}
+use Rattle.std.proofs.{Math.Seq.take-add, lemmas.List.take_rest}
+use Rattle.unit_streams.specs.{Going.IsOpenAt, Going.IsPending, Grammar.Grammar}
+use Rattle.unit_streams.specs.Judging.{answer, completes, event_at, goes_on, history_from, offends}
+use Rattle.unit_streams.specs.Tellers.{AreDue, Closes, IsReport, report, state_at, StaysOpen}
+use Rattle.unit_streams.specs.Tellers.{Teller, told_along, told_of_history, told_so_far}
+use Rattle.unit_streams.proofs.Telling.{completes_adds, completes_due, goes_on_adds, means}
+use Rattle.unit_streams.proofs.Telling.{offends_adds, open_report}
 
 -- where the state says nothing, what is told of events is what is told of each
 pub told_flat : {S E R : Type 0} (t : Teller S E R) (f : E → List ℕ)

@@ -1,12 +1,9 @@
 -- Bytes that decide nothing, in two parts, and before more.
-use Rattle.std.proofs.Common.{◌≡◌, ℕ, ◌+◌, ◌-◌, ◌<◌, ◌≤◌, inl, inr, List, ◌++◌, length, take, drop}
-use Rattle.std.proofs.Common.{None, sym, ap, ◌∙◌, arith, append_assoc, length-append, length-drop}
-use Rattle.std.proofs.lemmas.List.{take-append-le}
-use Rattle.std.proofs.Math.Seq.{take-add}
-use Rattle.std.proofs.lemmas.Bool.{cases_lt}
-use Rattle.unit_streams.specs.Grammar.{Grammar}
+use Rattle.std.proofs.Common.{◌≡◌, ℕ, ◌+◌, ◌-◌, ◌<◌, ◌≤◌, List, ◌++◌, length, take, drop, None, sym}
+use Rattle.std.proofs.Common.{ap, ◌∙◌, inl, inr, append_assoc, arith, length-append, length-drop}
+use Rattle.std.proofs.{Math.Seq.take-add, lemmas.Bool.cases_lt, lemmas.List.take-append-le}
+use Rattle.unit_streams.specs.{Going.IsQuiet, Going.IsQuietBefore, Grammar.Grammar}
 use Rattle.unit_streams.specs.Judging.{event_at, refusal_at}
-use Rattle.unit_streams.specs.Going.{IsQuietBefore, IsQuiet}
 
 module _ {Z U E R : Type 0} (g : Grammar Z U E R) (p y : List ℕ) (k m : ℕ) (first : IsQuiet g p y k)
   where

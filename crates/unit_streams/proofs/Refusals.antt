@@ -1,20 +1,17 @@
 -- What refuses a prefix: its last whole unit, the bytes behind its whole units, or its length.
-use Rattle.std.proofs.Common.{◌≡◌, ℕ, ◌<◌, ◌≤◌, ◌⊎◌, inl, inr, List, [], ◌∷◌, ◌++◌, length, take}
-use Rattle.std.proofs.Common.{drop, Option, Some, None, refl, sym, ap, ◌∙◌, subst, arith}
-use Rattle.std.proofs.Common.{append_assoc}
-use Rattle.std.proofs.lemmas.List.{append-nil, take-append-drop, length-take-le}
+use Rattle.std.proofs.Common.{◌≡◌, ℕ, ◌<◌, ◌≤◌, ◌⊎◌, List, [], ◌∷◌, ◌++◌, length, take, drop, Some}
+use Rattle.std.proofs.Common.{None, Option, sym, refl, ap, ◌∙◌, subst, inl, inr, append_assoc}
+use Rattle.std.proofs.Common.{append-nil, arith, take-append-drop, length-take-le}
 use Rattle.std.specs.Option.{option_or}
-use Rattle.unit_streams.specs.Front.{Front, begun, whole, wrong, wrong_of}
-use Rattle.unit_streams.specs.Grammar.{Grammar, Standing, next_unit, behind_unit, at_start}
-use Rattle.unit_streams.specs.Grammar.{standing, with_more, resumed, IsReadable}
+use Rattle.unit_streams.specs.Front.{begun, Front, whole, wrong, wrong_of}
+use Rattle.unit_streams.specs.Grammar.{at_start, behind_unit, Grammar, IsReadable, next_unit}
+use Rattle.unit_streams.specs.Grammar.{resumed, Standing, standing, with_more}
 use Rattle.unit_streams.specs.Judging.{given_at, refusal_at}
-use Rattle.unit_streams.specs.Refusals.{AreUnits, IsRefusedByUnit, IsRefusedByBytes}
-use Rattle.unit_streams.specs.Refusals.{IsRefusedByLength, RefusalsAreThree}
-use Rattle.unit_streams.proofs.Fronts.{wrong_open}
-use Rattle.unit_streams.proofs.Standing.{peel_by, peel_open, peel_all, standing_nothing}
-use Rattle.unit_streams.proofs.Standing.{standing_append}
-use Rattle.unit_streams.proofs.Passing.{given_none, given_some, refusal_from, going_refusal}
-use Rattle.unit_streams.proofs.Passing.{open_cases}
+use Rattle.unit_streams.specs.Refusals.{AreUnits, IsRefusedByBytes, IsRefusedByLength}
+use Rattle.unit_streams.specs.Refusals.{IsRefusedByUnit, RefusalsAreThree}
+use Rattle.unit_streams.proofs.{Fronts.wrong_open, Passing.refusal_from, Standing.standing_nothing}
+use Rattle.unit_streams.proofs.Passing.{given_none, given_some, going_refusal, open_cases}
+use Rattle.unit_streams.proofs.Standing.{peel_all, peel_by, peel_open, standing_append}
 
 module _ {Z U E R : Type 0} (g : Grammar Z U E R) (readable : IsReadable g) where
   -- a standing with nothing begun

@@ -1,16 +1,15 @@
 -- Any number of things and an end are known by their own bytes where each is.
-use Rattle.std.proofs.Common.{◌≡◌, ℕ, zero, suc, ◌+◌, ◌<◌, ◌≤◌, ◌⊎◌, inl, inr, List, [], ◌∷◌, ◌++◌}
-use Rattle.std.proofs.Common.{length, take, drop, refl, sym, ap, ◌∙◌, subst, arith, append_assoc}
-use Rattle.std.proofs.Common.{length-append, length-drop}
-use Rattle.std.proofs.Math.Seq.{take-add, take-append_seam, drop-append_seam}
-use Rattle.std.proofs.lemmas.List.{take_all, take-append-drop, length-take-le}
-use Rattle.unit_streams.specs.Front.{Front, begun, whole, wrong, ReadsFront}
-use Rattle.unit_streams.specs.Parts.{Reader, further, ◌>>=◌, seen, Turn, more, stop, Many}
-use Rattle.unit_streams.specs.Parts.{with_first, turned, repeated, many, AreMany, ReadsJust}
-use Rattle.unit_streams.proofs.Peeling.{extent}
-use Rattle.unit_streams.proofs.Fronts.{IsDecided, reads_by, decided, whole_some}
-use Rattle.unit_streams.proofs.Parts.{reads_given, reads_then, reads_seen, then_begun, then_wrong}
-use Rattle.unit_streams.proofs.Parts.{then_whole, then_parts}
+use Rattle.std.proofs.Common.{◌≡◌, ℕ, zero, suc, ◌+◌, ◌<◌, ◌≤◌, ◌⊎◌, List, [], ◌∷◌, ◌++◌, length}
+use Rattle.std.proofs.Common.{take, drop, sym, refl, ap, ◌∙◌, subst, inl, inr, append_assoc, arith}
+use Rattle.std.proofs.Common.{length-append, length-drop, take-append-drop, length-take-le}
+use Rattle.std.proofs.Common.{take_all}
+use Rattle.std.proofs.Math.Seq.{drop-append_seam, take-add, take-append_seam}
+use Rattle.unit_streams.specs.Front.{begun, Front, ReadsFront, whole, wrong}
+use Rattle.unit_streams.specs.Parts.{AreMany, further, Many, many, more, Reader, ReadsJust}
+use Rattle.unit_streams.specs.Parts.{repeated, seen, stop, Turn, turned, with_first, ◌>>=◌}
+use Rattle.unit_streams.proofs.Fronts.{decided, IsDecided, reads_by, whole_some}
+use Rattle.unit_streams.proofs.Parts.{reads_given, reads_seen, reads_then, then_begun, then_parts}
+use Rattle.unit_streams.proofs.{Parts.then_whole, Parts.then_wrong, Peeling.extent}
 
 module _ {A B R : Type 0} (turn : Reader (Turn A B) R) (reads : ReadsFront turn)
     (nothing : turn [] ≡ begun) where

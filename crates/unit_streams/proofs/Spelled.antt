@@ -1,14 +1,13 @@
 -- What is read of parts is what bytes there are.
-use Rattle.std.proofs.Common.{◌≡◌, ℕ, zero, suc, ◌+◌, ◌≤◌, inl, inr, List, [], ◌∷◌, ◌++◌, length}
-use Rattle.std.proofs.Common.{take, drop, Result, Ok, Err, refl, sym, ap, ◌∙◌, subst, arith}
-use Rattle.std.proofs.Common.{append_assoc, length-append, length-drop}
-use Rattle.std.proofs.Math.Seq.{take-add, take-append_seam, drop-append_seam}
-use Rattle.std.proofs.lemmas.Bool.{cases_lt, lt-ltb, le-ltb}
-use Rattle.std.proofs.lemmas.List.{take-append-drop, length-take-le}
-use Rattle.unit_streams.specs.Front.{Front, begun, whole, wrong}
-use Rattle.unit_streams.specs.Parts.{Reader, given, refuse, a_byte, some_bytes, further, ◌>>=◌}
-use Rattle.unit_streams.specs.Parts.{seen, judged_whole, judged, ReadsJust, Joined}
-use Rattle.unit_streams.proofs.Parts.{then_whole, then_parts}
+use Rattle.std.proofs.Common.{◌≡◌, ℕ, zero, suc, ◌+◌, ◌≤◌, List, [], ◌∷◌, ◌++◌, length, take, drop}
+use Rattle.std.proofs.Common.{Ok, Err, Result, sym, refl, ap, ◌∙◌, subst, inl, inr, append_assoc}
+use Rattle.std.proofs.Common.{arith, length-append, length-drop, take-append-drop, length-take-le}
+use Rattle.std.proofs.{Common.le-ltb, Common.lt-ltb, lemmas.Bool.cases_lt}
+use Rattle.std.proofs.Math.Seq.{drop-append_seam, take-add, take-append_seam}
+use Rattle.unit_streams.specs.Front.{begun, Front, whole, wrong}
+use Rattle.unit_streams.specs.Parts.{a_byte, further, given, Joined, judged, judged_whole, Reader}
+use Rattle.unit_streams.specs.Parts.{ReadsJust, refuse, seen, some_bytes, ◌>>=◌}
+use Rattle.unit_streams.proofs.Parts.{then_parts, then_whole}
 
 -- nothing is taken where nothing is
 none_taken : (n : ℕ) (b : List ℕ) → n ≤ length b → take n b ≡ [] → n ≡ 0

@@ -1,26 +1,21 @@
 -- What is told of pieces, of ends and of prefixes, for any grammar and teller.
-use Rattle.std.proofs.Common.{◌≡◌, ℕ, ◌+◌, List, [], ◌∷◌, ◌++◌, length, take, drop, Bool, true}
-use Rattle.std.proofs.Common.{Option, Some, None, refl, sym, ap, ◌∙◌, append_assoc}
-use Rattle.std.specs.Option.{option_to_list}
-use Rattle.std.proofs.lemmas.List.{append-nil}
-use Rattle.unit_streams.specs.Grammar.{Grammar, standing}
-use Rattle.unit_streams.specs.Judging.{event_at, refusal_at, is_over_at, ending_at, History, only}
-use Rattle.unit_streams.specs.Judging.{led_by, history_from, history, events, offence, events_in}
-use Rattle.unit_streams.specs.Judging.{events_of, Answer, goes_on, completes, offends, answer}
-use Rattle.unit_streams.specs.Going.{IsGoing, Means, IsOpenAt, history_by}
-use Rattle.unit_streams.specs.Laws.{raised, unless_decided}
-use Rattle.unit_streams.proofs.Answers.{answers_are_first}
-use Rattle.unit_streams.proofs.Cuts.{cuts_change_nothing}
-use Rattle.unit_streams.proofs.Ends.{over_closed}
-use Rattle.unit_streams.proofs.Passing.{given_some}
-use Rattle.unit_streams.proofs.Standing.{standing_last}
-use Rattle.unit_streams.proofs.Histories.{events_in_none, completed_events, history_is_answers}
-use Rattle.unit_streams.proofs.Histories.{history_refused, history_ends, history_next}
-use Rattle.unit_streams.proofs.Pending.{open_history, pending_history, events_of_append}
-use Rattle.unit_streams.proofs.Pending.{open_goes_on, open_completes, over_behind}
-use Rattle.unit_streams.specs.Tellers.{Teller, told_along, state_behind, told_of_history, report}
-use Rattle.unit_streams.specs.Tellers.{told_so_far, state_at, Closes, Adds, PiecesAdd, EndsAdd}
-use Rattle.unit_streams.specs.Tellers.{PrefixesTellFronts, OpenTellFronts}
+use Rattle.std.proofs.Common.{◌≡◌, ℕ, ◌+◌, Bool, true, List, [], ◌∷◌, ◌++◌, length, take, drop}
+use Rattle.std.proofs.Common.{Some, None, Option, option_to_list, sym, refl, ap, ◌∙◌, append_assoc}
+use Rattle.std.proofs.Common.{append-nil}
+use Rattle.unit_streams.specs.Going.{history_by, IsGoing, IsOpenAt, Means}
+use Rattle.unit_streams.specs.{Grammar.Grammar, Grammar.standing, Laws.raised, Laws.unless_decided}
+use Rattle.unit_streams.specs.Judging.{Answer, answer, completes, ending_at, event_at, events}
+use Rattle.unit_streams.specs.Judging.{events_in, events_of, goes_on, History, history, refusal_at}
+use Rattle.unit_streams.specs.Judging.{history_from, is_over_at, led_by, offence, offends, only}
+use Rattle.unit_streams.specs.Tellers.{Adds, Closes, EndsAdd, OpenTellFronts, PiecesAdd}
+use Rattle.unit_streams.specs.Tellers.{PrefixesTellFronts, report, state_at, state_behind, Teller}
+use Rattle.unit_streams.specs.Tellers.{told_along, told_of_history, told_so_far}
+use Rattle.unit_streams.proofs.{Answers.answers_are_first, Ends.over_closed, Standing.standing_last}
+use Rattle.unit_streams.proofs.{Cuts.cuts_change_nothing, Passing.given_some}
+use Rattle.unit_streams.proofs.Histories.{completed_events, events_in_none, history_ends}
+use Rattle.unit_streams.proofs.Histories.{history_is_answers, history_next, history_refused}
+use Rattle.unit_streams.proofs.Pending.{events_of_append, open_completes, open_goes_on}
+use Rattle.unit_streams.proofs.Pending.{open_history, over_behind, pending_history}
 
 module _ {S E R : Type 0} (t : Teller S E R) where
   pub told_append : (a b : List E) (s : S) → told_along t s (a ++ b) ≡ told_along t s a

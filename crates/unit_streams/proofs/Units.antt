@@ -1,25 +1,23 @@
 -- What whole units bring to a stream, and which units it has.
-use Rattle.std.proofs.Common.{◌≡◌, ℕ, zero, suc, ◌+◌, ◌-◌, ◌<◌, ◌≤◌, ◌⊎◌, inl, inr, List, [], ◌∷◌}
-use Rattle.std.proofs.Common.{◌++◌, length, take, drop, Some, None, Option, refl, sym, ap, ◌∙◌}
-use Rattle.std.proofs.Common.{subst, arith, append_assoc, length-append, length-drop}
-use Rattle.std.proofs.Math.Seq.{take-add}
-use Rattle.std.proofs.lemmas.List.{append-nil, drop-drop, take-append-drop}
-use Rattle.std.specs.Option.{option_or, option_to_list}
-use Rattle.unit_streams.specs.Front.{Front, begun, whole, wrong}
-use Rattle.unit_streams.specs.Grammar.{Grammar, Standing, standing, resumed, with_more, IsReadable}
-use Rattle.unit_streams.specs.Judging.{given_at, event_at, refusal_at, led_by, history_from}
-use Rattle.unit_streams.specs.Going.{IsGoing, IsQuietBefore, IsQuiet}
-use Rattle.unit_streams.specs.Units.{Counted, UnitsLead, AreShort, events_along, size_of}
-use Rattle.unit_streams.specs.Laws.{NoUnitGoesOn}
-use Rattle.unit_streams.proofs.Peeling.{extent, Decides, Leaves}
+use Rattle.std.proofs.Common.{◌≡◌, ℕ, zero, suc, ◌+◌, ◌-◌, ◌<◌, ◌≤◌, ◌⊎◌, List, [], ◌∷◌, ◌++◌}
+use Rattle.std.proofs.Common.{length, take, drop, Some, None, Option, option_to_list, sym, refl, ap}
+use Rattle.std.proofs.Common.{◌∙◌, subst, inl, inr, append_assoc, append-nil, arith, length-append}
+use Rattle.std.proofs.Common.{length-drop, take-append-drop, drop-drop}
+use Rattle.std.{proofs.Math.Seq.take-add, specs.Option.option_or}
+use Rattle.unit_streams.specs.Front.{begun, Front, whole, wrong}
+use Rattle.unit_streams.specs.{Going.IsGoing, Going.IsQuiet, Going.IsQuietBefore, Laws.NoUnitGoesOn}
+use Rattle.unit_streams.specs.Grammar.{Grammar, IsReadable, resumed, Standing, standing, with_more}
+use Rattle.unit_streams.specs.Judging.{event_at, given_at, history_from, led_by, refusal_at}
+use Rattle.unit_streams.specs.Units.{AreShort, Counted, events_along, size_of, UnitsLead}
 use Rattle.unit_streams.proofs.Fronts.{leaves_or_decides}
-use Rattle.unit_streams.proofs.Standing.{standing_nothing, standing_append, standing_length}
-use Rattle.unit_streams.proofs.Standing.{leaves_at, leaves_all, undecided_at}
-use Rattle.unit_streams.proofs.Histories.{history_behind, led_by_none, led_by_append}
-use Rattle.unit_streams.proofs.Histories.{completed_events, quiet_events}
-use Rattle.unit_streams.proofs.Passing.{refusal_from, going_refusal, begun_refusal, decides_quiet}
-use Rattle.unit_streams.proofs.Passing.{whole_standing, whole_size, whole_event, whole_refusal}
-use Rattle.unit_streams.proofs.Passing.{whole_quiet, wrong_refusal}
+use Rattle.unit_streams.proofs.Histories.{completed_events, history_behind, led_by_append}
+use Rattle.unit_streams.proofs.Histories.{led_by_none, quiet_events}
+use Rattle.unit_streams.proofs.Passing.{begun_refusal, decides_quiet, going_refusal, refusal_from}
+use Rattle.unit_streams.proofs.Passing.{whole_event, whole_quiet, whole_refusal, whole_size}
+use Rattle.unit_streams.proofs.Passing.{whole_standing, wrong_refusal}
+use Rattle.unit_streams.proofs.Peeling.{Decides, extent, Leaves}
+use Rattle.unit_streams.proofs.Standing.{leaves_all, leaves_at, standing_append, standing_length}
+use Rattle.unit_streams.proofs.Standing.{standing_nothing, undecided_at}
 
 module _ {Z U E R : Type 0} (g : Grammar Z U E R) (readable : IsReadable g) where
   -- p stands at the beginning of a unit, in this situation

@@ -1,16 +1,15 @@
 -- Things that are judged with their size, or must be whole within so many bytes, are known by their
 -- own bytes.
-use Rattle.std.proofs.Common.{◌≡◌, ℕ, ◌+◌, ◌-◌, ◌<◌, ◌≤◌, ◌⊎◌, inl, inr, List, [], ◌++◌, length}
-use Rattle.std.proofs.Common.{take, drop, Result, Ok, Err, refl, sym, ap, ◌∙◌, subst, arith}
-use Rattle.std.proofs.Common.{length-append, length-take}
+use Rattle.std.proofs.Common.{◌≡◌, ℕ, ◌+◌, ◌-◌, ◌<◌, ◌≤◌, ◌⊎◌, List, [], ◌++◌, length, take, drop}
+use Rattle.std.proofs.Common.{Ok, Err, Result, sym, refl, ap, ◌∙◌, subst, inl, inr, append-nil}
+use Rattle.std.proofs.Common.{arith, length-append, take-append-drop, length-take, length-take-le}
+use Rattle.std.proofs.Common.{take_all, take-take, le-leb}
 use Rattle.std.proofs.Math.Seq.{take-append-add, take-nil}
-use Rattle.std.proofs.lemmas.Bool.{cases_lt, le-leb, lt-leb}
-use Rattle.std.proofs.lemmas.List.{append-nil, take-take, take-append-le, take-append-drop}
-use Rattle.std.proofs.lemmas.List.{take_all, length-take-le}
-use Rattle.unit_streams.specs.Front.{Front, begun, whole, wrong, ReadsFront}
-use Rattle.unit_streams.specs.Parts.{Reader, judged_whole, judged_at, closed_at, within}
+use Rattle.std.proofs.lemmas.{Bool.cases_lt, Bool.lt-leb, List.take-append-le}
+use Rattle.unit_streams.specs.Front.{begun, Front, ReadsFront, whole, wrong}
+use Rattle.unit_streams.specs.Parts.{closed_at, judged_at, judged_whole, Reader, within}
+use Rattle.unit_streams.proofs.Fronts.{begun_before, decided, IsDecided, reads_by}
 use Rattle.unit_streams.proofs.Peeling.{extent}
-use Rattle.unit_streams.proofs.Fronts.{IsDecided, reads_by, decided, begun_before}
 
 -- judged by what it says and by its size
 module _ {A B R : Type 0} (judge : A → ℕ → Result B R) (f : Reader A R) where

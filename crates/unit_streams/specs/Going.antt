@@ -1,11 +1,10 @@
 -- That a stream goes on: nothing has refused it, nothing of a piece has decided its answer.
-use Rattle.std.specs.Prelude.{◌≡◌, ℕ, ◌<◌, ◌≤◌, List, [], ◌∷◌, ◌++◌, length, take, drop, false}
+use Rattle.std.specs.Prelude.{◌≡◌, ℕ, ◌<◌, ◌≤◌, false, List, [], ◌∷◌, ◌++◌, length, take, drop}
 use Rattle.std.specs.Prelude.{Some, None}
-use Rattle.unit_streams.specs.Front.{begun}
-use Rattle.unit_streams.specs.Grammar.{Grammar, Standing, next_unit}
-use Rattle.unit_streams.specs.Judging.{given_at, event_at, refusal_at, is_over_at, ending_at}
-use Rattle.unit_streams.specs.Judging.{history_from, History, only, led_by, Answer, goes_on}
-use Rattle.unit_streams.specs.Judging.{completes, offends}
+use Rattle.unit_streams.specs.{Front.begun, Judging.refusal_at}
+use Rattle.unit_streams.specs.Grammar.{Grammar, next_unit, Standing}
+use Rattle.unit_streams.specs.Judging.{Answer, completes, ending_at, event_at, given_at, goes_on}
+use Rattle.unit_streams.specs.Judging.{History, history_from, is_over_at, led_by, offends, only}
 
 module _ {Z U E R : Type 0} (g : Grammar Z U E R) where
   -- nothing but its length can refuse what stands so

@@ -1,13 +1,11 @@
 -- What holds of every grammar whose units are known by their own bytes.
-use Rattle.std.specs.Prelude.{◌≡◌, ℕ, ◌+◌, ◌<◌, ◌≤◌, List, [], ◌++◌, length, take, true, Some, None}
-use Rattle.std.specs.Prelude.{◌↔◌, ◌⊎◌}
-use Rattle.unit_streams.specs.Front.{whole}
-use Rattle.unit_streams.specs.Grammar.{Grammar, standing, resumed}
-use Rattle.unit_streams.specs.Judging.{Answer, goes_on, completes, offends, answer, history}
-use Rattle.unit_streams.specs.Judging.{history_from, events_of, led_by, only, refusal_at, ending_at}
-use Rattle.unit_streams.specs.Judging.{is_over_at, offence}
-use Rattle.unit_streams.specs.Going.{Means, IsPending, history_by}
-use Rattle.unit_streams.specs.Units.{IsAccepted}
+use Rattle.std.specs.Prelude.{◌≡◌, ℕ, ◌+◌, ◌<◌, ◌≤◌, true, ◌⊎◌, ◌↔◌, List, [], ◌++◌, length, take}
+use Rattle.std.specs.Prelude.{Some, None}
+use Rattle.unit_streams.specs.{Front.whole, Judging.only, Judging.refusal_at, Units.IsAccepted}
+use Rattle.unit_streams.specs.Going.{history_by, IsPending, Means}
+use Rattle.unit_streams.specs.Grammar.{Grammar, resumed, standing}
+use Rattle.unit_streams.specs.Judging.{Answer, answer, completes, ending_at, events_of, goes_on}
+use Rattle.unit_streams.specs.Judging.{history, history_from, is_over_at, led_by, offence, offends}
 
 -- an answer, its bytes counted with so many before them
 abbrev pub raised : {E R : Type 0} → ℕ → Answer E R → Answer E R

@@ -1,9 +1,7 @@
 -- The ways in which a prefix of a stream is refused.
-use Rattle.std.specs.Prelude.{◌≡◌, ℕ, List, [], ◌++◌, length, Some, ◌↔◌, ◌⊎◌}
-use Rattle.unit_streams.specs.Front.{whole, wrong}
+use Rattle.std.specs.Prelude.{◌≡◌, ℕ, ◌⊎◌, ◌↔◌, List, [], ◌++◌, length, Some}
+use Rattle.unit_streams.specs.{Front.whole, Front.wrong, Going.IsGoing, Judging.refusal_at}
 use Rattle.unit_streams.specs.Grammar.{Grammar, standing}
-use Rattle.unit_streams.specs.Judging.{refusal_at}
-use Rattle.unit_streams.specs.Going.{IsGoing}
 
 module _ {Z U E R : Type 0} (g : Grammar Z U E R) where
   -- the bytes are whole units, one behind the other

@@ -1,8 +1,7 @@
 -- Whole units, one behind the other, at the front of some bytes, and where they lead.
 use Rattle.std.specs.Prelude.{◌≡◌, ℕ, ◌+◌, ◌<◌, ◌≤◌, List, [], ◌∷◌, ◌++◌, length, drop, None}
-use Rattle.std.specs.Option.{option_to_list}
-use Rattle.unit_streams.specs.Front.{begun, whole}
-use Rattle.unit_streams.specs.Grammar.{Grammar}
+use Rattle.std.specs.Prelude.{option_to_list}
+use Rattle.unit_streams.specs.{Front.begun, Front.whole, Grammar.Grammar}
 
 -- a unit and its bytes
 pub record Counted (U : Type 0) : Type 0 where

@@ -1,8 +1,8 @@
 // A request that is kept, and services that are asked through their trait.
 use action_dispatch::{Answer, EchoService, Served, Service, answer};
-use document_lists::read_documents;
+use document_lines::read_documents;
+use duplex_server::Responder;
 use nbfx_values::{Docs, Items, Quotas};
-use session_replay::Responder;
 use std::alloc::Global;
 use std::test::Fail;
 use unit_streams::Memory;

@@ -1,6 +1,6 @@
 // A peer that is called with documents.
 use client::{CallOutcome, ClientIn, ClientOut, Reported, call_one};
-use document_lists::read_documents;
+use document_lines::read_documents;
 use io_edges::{MemorySink, MemorySource};
 use nbfx_values::{Docs, Kind, Mode, Quotas};
 use static_dictionary::StaticTable;

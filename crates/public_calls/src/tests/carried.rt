@@ -1,7 +1,7 @@
 // A document from one end of a session to the other.
 use super::answers::requests;
 use nbfx_values::{Doc, Kind, Quotas};
-use payload_ends::{carry, new_ends, tables};
+use session_ends::{carry, new_ends, tables};
 use static_dictionary::StaticTable;
 use std::alloc::Global;
 use std::test::Fail;

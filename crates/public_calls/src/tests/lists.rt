@@ -1,5 +1,5 @@
 // A long line.
-use document_lists::take_documents;
+use document_lines::take_documents;
 use io_edges::MemorySource;
 use nbfx_values::{Docs, Quotas};
 use std::alloc::{AllocError, Global};

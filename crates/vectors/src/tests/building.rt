@@ -9,9 +9,9 @@ pub const BUILD: Row = Row {
     ..CHECK
 };
 
-pub const BUILD_TWO: &[&str] = &["nettcp", "build", "--static", "S", "--via", "net.tcp://h/e"];
+pub const BUILD_TWO: &str = "nettcp build --static S --via net.tcp://h/e";
 
-pub const BUILD_ONE: &[&str] = &["nettcp", "build", "--static=S", "--via=net.tcp://h/e"];
+pub const BUILD_ONE: &str = "nettcp build --static=S --via=net.tcp://h/e";
 
 pub const NOT_LINES: Row = Row {
     status: 6,
@@ -29,7 +29,7 @@ pub const UNFIT: Row = Row {
 
 const SINGLETON: Row = Row {
     words: BUILD_ONE,
-    options: &["--mode=singleton", "--encoding=7", "--depth=4"],
+    options: "--mode=singleton --encoding=7 --depth=4",
     pieces: ANY,
     ..BUILD
 };
@@ -49,8 +49,6 @@ pub const NEXT: &[u8] = b"\x06\x04\x00\x42\x01\x01";
 pub const START: &[u8] = b"start \"\" \"x\"\n";
 
 pub const CLOSE: &[u8] = b"close\n";
-
-const SIXTY_FOUR: &[u8] = b"yyyyyyyyyyyyyyyyyyyyyyyyyyyyyyyyyyyyyyyyyyyyyyyyyyyyyyyyyyyyyyyy";
 
 const LINED: &[Row] = &[
     Row {
@@ -89,6 +87,9 @@ const LINED: &[Row] = &[
         note: "input: line 2 Cut\n",
         ..NOT_LINES
     },
+];
+
+const LINED_2: &[Row] = &[
     Row {
         name: "lines are built in any pieces: no last line feed",
         input: &[b"start \"\" \"x\"\nclose"],
@@ -134,6 +135,9 @@ const LINED: &[Row] = &[
         note: "input: line 3 NotALine\n",
         ..NOT_LINES
     },
+];
+
+const LINED_3: &[Row] = &[
     Row {
         name: "lines are built in any pieces: a text that is not UTF-8",
         input: &[b"start \"\" \"\\ff\"\n"],
@@ -173,6 +177,9 @@ const LINED: &[Row] = &[
         note: "input: line 1 WrongCount\n",
         ..NOT_SINGLETON
     },
+];
+
+const LINED_4: &[Row] = &[
     Row {
         name: "a session in singleton mode has one document: none among empty lines",
         input: &[b"\n\n"],
@@ -220,7 +227,7 @@ const LINED: &[Row] = &[
 const UNFITTING: &[Row] = &[
     Row {
         name: "what does not fit is named: a depth",
-        options: &["--depth=4"],
+        options: "--depth=4",
         input: &[
             X, START, START, START, START, START, CLOSE, CLOSE, CLOSE, CLOSE, CLOSE,
         ],
@@ -230,7 +237,7 @@ const UNFITTING: &[Row] = &[
     },
     Row {
         name: "what does not fit is named: a QName",
-        options: &["--dictionary=1"],
+        options: "--dictionary=1",
         input: &[b"start \"\" \"x\"\ntext qname a \"y\"\nclose\n"],
         note: "document 0 does not fit: qname at item 1\n",
         ..UNFIT
@@ -239,39 +246,42 @@ const UNFITTING: &[Row] = &[
         name: "a line of a megabyte is read: its content does not fit",
         words: BUILD_TWO,
         input: &[b"start \"\" \"x\"\ntext string \"", LONG, b"\"\nclose\n"],
-        long: (16_384, SIXTY_FOUR),
+        long: (1_048_576, b'y'),
         note: "document 0 does not fit: content 1048577\n",
         ..UNFIT
     },
     Row {
         name: "a line of a megabyte is read: its payload does not fit",
-        options: &["--payload=1048576"],
+        options: "--payload=1048576",
         input: &[b"start \"\" \"x\"\ntext string \"", LONG, b"\"\nclose\n"],
-        long: (16_384, SIXTY_FOUR),
+        long: (1_048_576, b'y'),
         note: "document 0 does not fit: payload 1048586\n",
         ..UNFIT
     },
     Row {
         name: "input is as long as the session quota of 20",
         words: BUILD_ONE,
-        options: &["--session=20"],
+        options: "--session=20",
         pieces: ANY,
         ..BUILD
     },
     Row {
         name: "input is as long as the session quota of 19: its document is written first",
         words: BUILD_ONE,
-        options: &["--session=19"],
+        options: "--session=19",
         pieces: ANY,
         status: 10,
         output: &[PREAMBLE, FIRST],
         note: "input too long\n",
         ..BUILD
     },
+];
+
+const UNFITTING_2: &[Row] = &[
     Row {
         name: "input is as long as the session quota of 18",
         words: BUILD_ONE,
-        options: &["--session=18"],
+        options: "--session=18",
         pieces: &[(65_536, 0), (1, 1)],
         status: 10,
         output: &[PREAMBLE],
@@ -281,7 +291,7 @@ const UNFITTING: &[Row] = &[
     Row {
         name: "input is as long as the session quota of 1",
         words: BUILD_ONE,
-        options: &["--session=1"],
+        options: "--session=1",
         pieces: &[(65_536, 0), (1, 18)],
         status: 10,
         output: &[PREAMBLE],
@@ -292,7 +302,7 @@ const UNFITTING: &[Row] = &[
         name: "a fault leaves the envelopes before: a take in the second document",
         input: &[X, X],
         pieces: &[(19, 19)],
-        takes: &[1],
+        take: Some(1),
         status: 3,
         output: &[PREAMBLE, FIRST],
         note: "read fault\n",
@@ -302,7 +312,7 @@ const UNFITTING: &[Row] = &[
         name: "a fault leaves the envelopes before: a take at the end",
         input: &[X, X],
         pieces: WHOLE,
-        takes: &[1],
+        take: Some(1),
         status: 3,
         output: &[PREAMBLE, FIRST, NEXT],
         note: "read fault\n",
@@ -312,7 +322,7 @@ const UNFITTING: &[Row] = &[
         name: "a fault leaves the envelopes before: a put of the first envelope",
         input: &[X, X],
         pieces: &[(19, 19)],
-        puts: &[1],
+        put: Some(1),
         kept: 3,
         status: 4,
         output: &[PREAMBLE, b"\x06\x06\x02"],
@@ -323,7 +333,7 @@ const UNFITTING: &[Row] = &[
         name: "a fault leaves the envelopes before: the first put",
         input: &[X, X],
         pieces: &[(65_536, 38)],
-        puts: &[0],
+        put: Some(0),
         kept: 2,
         status: 4,
         output: &[b"\x00\x01"],
@@ -333,7 +343,7 @@ const UNFITTING: &[Row] = &[
     Row {
         name: "the preamble is written before the first line is read",
         pieces: &[(65_536, 19)],
-        takes: &[0],
+        take: Some(0),
         status: 3,
         output: &[PREAMBLE],
         note: "read fault\n",
@@ -341,12 +351,35 @@ const UNFITTING: &[Row] = &[
     },
 ];
 
-#[test]
-fn lines_are_built_in_any_pieces(rt: HostRuntime) -> Result<(), Fail> {
-    assert_rows(&rt, LINED)
+fn lined_rows() -> &'static [Row] {
+    LINED
 }
 
-#[test]
-fn what_is_not_built_and_why(rt: HostRuntime) -> Result<(), Fail> {
-    assert_rows(&rt, UNFITTING)
+fn lined_rows_2() -> &'static [Row] {
+    LINED_2
+}
+
+fn lined_rows_3() -> &'static [Row] {
+    LINED_3
+}
+
+fn lined_rows_4() -> &'static [Row] {
+    LINED_4
+}
+
+fn unfitting_rows() -> &'static [Row] {
+    UNFITTING
+}
+
+fn unfitting_rows_2() -> &'static [Row] {
+    UNFITTING_2
+}
+
+pub fn assert_all(rt: &(impl Abort + AllocGlobal)) -> Result<(), AllocError> {
+    assert_rows(rt, lined_rows())?;
+    assert_rows(rt, lined_rows_2())?;
+    assert_rows(rt, lined_rows_3())?;
+    assert_rows(rt, lined_rows_4())?;
+    assert_rows(rt, unfitting_rows())?;
+    assert_rows(rt, unfitting_rows_2())
 }

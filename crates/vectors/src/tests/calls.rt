@@ -6,8 +6,8 @@ use super::*;
 // A peer that takes the session of one element, and one that is never called.
 const CALLED: Peer = Peer {
     sends: &[ACK, END],
-    reads: &[],
-    writes: &[],
+    read: None,
+    write: None,
     got: Some(&[ONE_ENVELOPE]),
 };
 
@@ -18,14 +18,8 @@ const UNASKED: Peer = Peer {
 
 // A put that fails keeps three bytes.
 const CALL_ONE: Row = Row {
-    words: &[
-        "nettcp",
-        "call",
-        "--static=S",
-        "--connect=h:808",
-        "--via=net.tcp://h/e",
-    ],
-    options: &["--depth=4"],
+    words: "nettcp call --static=S --connect=h:808 --via=net.tcp://h/e",
+    options: "--depth=4",
     files: &[("T", X)],
     input: &[X],
     pieces: WHOLE,
@@ -92,7 +86,7 @@ const STATUSES: &[Row] = &[
     },
     Row {
         name: "each status of a call has its cause: words that are not understood",
-        options: &["--mode=none"],
+        options: "--mode=none",
         pieces: &[(65_536, 19)],
         status: 2,
         note: "words not understood\n",
@@ -101,14 +95,14 @@ const STATUSES: &[Row] = &[
     Row {
         name: "each status of a call has its cause: a take that fails",
         pieces: &[(65_536, 19)],
-        takes: &[0],
+        take: Some(0),
         status: 3,
         note: "read fault\n",
         ..UNSENT
     },
     Row {
         name: "each status of a call has its cause: a put that fails",
-        puts: &[0],
+        put: Some(0),
         status: 4,
         output: &[b"acc"],
         note: "write fault\n",
@@ -123,12 +117,15 @@ const STATUSES: &[Row] = &[
     },
     Row {
         name: "each status of a call has its cause: no document in singleton mode",
-        options: &["--mode=singleton"],
+        options: "--mode=singleton",
         input: &[],
         status: 6,
         note: "input: line 1 WrongCount\n",
         ..UNSENT
     },
+];
+
+const STATUSES_2: &[Row] = &[
     Row {
         name: "each status of a call has its cause: a document that does not fit",
         input: &[
@@ -144,7 +141,7 @@ const STATUSES: &[Row] = &[
     },
     Row {
         name: "a connection fails at each call: the connect",
-        connects: &[0],
+        connect: Some(0),
         status: 8,
         note: "wire fault\n",
         ..UNSENT
@@ -152,7 +149,7 @@ const STATUSES: &[Row] = &[
     Row {
         name: "a connection fails at each call: the first read",
         peers: &[Peer {
-            reads: &[0],
+            read: Some(0),
             got: Some(&[PREAMBLE]),
             ..CALLED
         }],
@@ -164,7 +161,7 @@ const STATUSES: &[Row] = &[
     Row {
         name: "a connection fails at each call: the first write",
         peers: &[Peer {
-            writes: &[0],
+            write: Some(0),
             got: Some(&[b"\x00\x01\x00"]),
             ..CALLED
         }],
@@ -176,7 +173,7 @@ const STATUSES: &[Row] = &[
     Row {
         name: "a connection fails at each call: the second write",
         peers: &[Peer {
-            writes: &[1],
+            write: Some(1),
             got: Some(&[PREAMBLE, b"\x06\x06\x02"]),
             ..CALLED
         }],
@@ -185,11 +182,14 @@ const STATUSES: &[Row] = &[
         note: "wire fault\n",
         ..CALL_ONE
     },
+];
+
+const STATUSES_3: &[Row] = &[
     Row {
         name: "a connection fails at each call: the second read",
         peers: &[Peer {
             sends: &[ACK],
-            reads: &[1],
+            read: Some(1),
             ..CALLED
         }],
         status: 8,
@@ -210,14 +210,14 @@ const STATUSES: &[Row] = &[
     },
     Row {
         name: "streams beyond the session quota: the input",
-        options: &["--session=19"],
+        options: "--session=19",
         status: 10,
         note: "input too long\n",
         ..UNSENT
     },
     Row {
         name: "streams beyond the session quota: the peer's, and no input",
-        options: &["--session=1"],
+        options: "--session=1",
         input: &[],
         peers: &[Peer {
             got: Some(&[SESSION]),
@@ -232,7 +232,7 @@ const STATUSES: &[Row] = &[
     },
     Row {
         name: "streams beyond the session quota: the peer's, where the input is within it",
-        options: &["--session=20"],
+        options: "--session=20",
         peers: &[Peer {
             sends: &[b"\x0B\x06\x26\x00\x40\x01x\x99\x20yyyyyyyyyyyyyyyy"],
             ..CALLED
@@ -249,7 +249,7 @@ const STATUSES: &[Row] = &[
 const SESSIONS: &[Row] = &[
     Row {
         name: "calls in the other modes: one-way",
-        options: &["--mode=simplex"],
+        options: "--mode=simplex",
         peers: &[Peer {
             got: Some(&[ONE_WAY, FIRST, END]),
             ..CALLED
@@ -258,9 +258,9 @@ const SESSIONS: &[Row] = &[
     },
     Row {
         name: "calls in the other modes: one-way, with a write that fails",
-        options: &["--mode=simplex"],
+        options: "--mode=simplex",
         peers: &[Peer {
-            writes: &[1],
+            write: Some(1),
             got: Some(&[ONE_WAY, b"\x06\x06\x02"]),
             ..CALLED
         }],
@@ -271,7 +271,7 @@ const SESSIONS: &[Row] = &[
     },
     Row {
         name: "calls in the other modes: in one chunk",
-        options: &["--mode=singleton"],
+        options: "--mode=singleton",
         peers: &[Peer {
             got: Some(&[CHUNKS, b"\x05\x06\x02\x01x\x42\x01\x01\x00", END]),
             ..CALLED
@@ -280,9 +280,9 @@ const SESSIONS: &[Row] = &[
     },
     Row {
         name: "calls in the other modes: in one chunk, with a write that fails",
-        options: &["--mode=singleton"],
+        options: "--mode=singleton",
         peers: &[Peer {
-            writes: &[1],
+            write: Some(1),
             got: Some(&[CHUNKS, b"\x05\x06\x02"]),
             ..CALLED
         }],
@@ -291,6 +291,9 @@ const SESSIONS: &[Row] = &[
         note: "wire fault\n",
         ..CALL_ONE
     },
+];
+
+const SESSIONS_2: &[Row] = &[
     Row {
         name: "lines behind a document that does not fit are read: one that is none",
         input: &[
@@ -315,14 +318,14 @@ const SESSIONS: &[Row] = &[
     },
     Row {
         name: "one document in all in singleton mode: one of each list",
-        options: &["--mode=singleton", "--second=T"],
+        options: "--mode=singleton --second=T",
         status: 6,
         note: "input: line 1 WrongCount\n",
         ..UNSENT
     },
     Row {
         name: "one document in all in singleton mode: two, of which the first does not fit",
-        options: &["--mode=singleton"],
+        options: "--mode=singleton",
         input: &[
             START, START, START, START, START, CLOSE, CLOSE, CLOSE, CLOSE, CLOSE, X,
         ],
@@ -330,28 +333,31 @@ const SESSIONS: &[Row] = &[
         note: "input: line 1 WrongCount\n",
         ..UNSENT
     },
+];
+
+const SESSIONS_3: &[Row] = &[
     Row {
         name: "the second file is read before the input: there is none",
-        options: &["--second=A"],
+        options: "--second=A",
         pieces: &[(65_536, 19)],
-        takes: &[0],
+        take: Some(0),
         status: 6,
         note: "A: not found\n",
         ..UNSENT
     },
     Row {
         name: "the second file is read before the input: a line that is none",
-        options: &["--second=S"],
+        options: "--second=S",
         pieces: &[(65_536, 19)],
-        takes: &[0],
+        take: Some(0),
         status: 6,
         note: "S: line 1 NotALine\n",
         ..UNSENT
     },
     Row {
         name: "the second file is read before the input: a fetch that fails",
-        options: &["--second=S"],
-        fetches: &[1],
+        options: "--second=S",
+        fetch: Some(1),
         pieces: &[(65_536, 19)],
         status: 3,
         note: "read fault\n",
@@ -359,14 +365,14 @@ const SESSIONS: &[Row] = &[
     },
     Row {
         name: "the second file is sent after the input, which is empty",
-        options: &["--second=T"],
+        options: "--second=T",
         input: &[],
         output: &[b"accepted\nended 2\n", b"sent 1 tags b\n"],
         ..CALL_ONE
     },
     Row {
         name: "the second file is sent after the input",
-        options: &["--second=T"],
+        options: "--second=T",
         peers: &[Peer {
             got: Some(&[PREAMBLE, FIRST, NEXT, END]),
             ..CALLED
@@ -400,13 +406,40 @@ const DOCUMENTS: &[Row] = &[
     },
 ];
 
-#[test]
-fn each_status_of_a_call_has_its_cause(rt: HostRuntime) -> Result<(), Fail> {
-    assert_rows(&rt, STATUSES)
+fn statuses_rows() -> &'static [Row] {
+    STATUSES
 }
 
-#[test]
-fn sessions_are_sent_in_each_mode(rt: HostRuntime) -> Result<(), Fail> {
-    assert_rows(&rt, SESSIONS)?;
-    assert_rows(&rt, DOCUMENTS)
+fn statuses_rows_2() -> &'static [Row] {
+    STATUSES_2
+}
+
+fn statuses_rows_3() -> &'static [Row] {
+    STATUSES_3
+}
+
+fn sessions_rows() -> &'static [Row] {
+    SESSIONS
+}
+
+fn sessions_rows_2() -> &'static [Row] {
+    SESSIONS_2
+}
+
+fn sessions_rows_3() -> &'static [Row] {
+    SESSIONS_3
+}
+
+fn documents_rows() -> &'static [Row] {
+    DOCUMENTS
+}
+
+pub fn assert_all(rt: &(impl Abort + AllocGlobal)) -> Result<(), AllocError> {
+    assert_rows(rt, statuses_rows())?;
+    assert_rows(rt, statuses_rows_2())?;
+    assert_rows(rt, statuses_rows_3())?;
+    assert_rows(rt, sessions_rows())?;
+    assert_rows(rt, sessions_rows_2())?;
+    assert_rows(rt, sessions_rows_3())?;
+    assert_rows(rt, documents_rows())
 }

@@ -13,14 +13,14 @@ const TAKES: &[Row] = &[
         name: "a take that fails leaves the lines before: first",
         input: &[ONE_ENVELOPE],
         pieces: &[(65_536, 32)],
-        takes: &[0],
+        take: Some(0),
         ..READ_FAULT
     },
     Row {
         name: "a take that fails leaves the lines before: in the envelope",
         input: &[ONE_ENVELOPE],
         pieces: &[(29, 3)],
-        takes: &[1],
+        take: Some(1),
         output: &[OPEN],
         ..READ_FAULT
     },
@@ -28,7 +28,7 @@ const TAKES: &[Row] = &[
         name: "a take that fails leaves the lines before: behind it, in large pieces",
         input: &[ONE_ENVELOPE],
         pieces: &[(31, 1)],
-        takes: &[1],
+        take: Some(1),
         output: &[OPEN, MESSAGE],
         ..READ_FAULT
     },
@@ -36,7 +36,7 @@ const TAKES: &[Row] = &[
         name: "a take that fails leaves the lines before: behind it, in small pieces",
         input: &[ONE_ENVELOPE],
         pieces: &[(1, 1)],
-        takes: &[31],
+        take: Some(31),
         output: &[OPEN, MESSAGE],
         ..READ_FAULT
     },
@@ -44,7 +44,7 @@ const TAKES: &[Row] = &[
         name: "a take that fails leaves the lines before: behind the session's end",
         input: &[ONE_ENVELOPE],
         pieces: &[(65_536, 0)],
-        takes: &[1],
+        take: Some(1),
         output: &[OPEN, MESSAGE, b"ended 32\n"],
         ..CHECK
     },
@@ -52,15 +52,18 @@ const TAKES: &[Row] = &[
         name: "a take that fails is no end of input: behind a preamble, in large pieces",
         input: &[PREAMBLE],
         pieces: &[(65_536, 0)],
-        takes: &[1],
+        take: Some(1),
         output: &[OPEN],
         ..READ_FAULT
     },
+];
+
+const TAKES_2: &[Row] = &[
     Row {
         name: "a take that fails is no end of input: behind a preamble, in small pieces",
         input: &[PREAMBLE],
         pieces: &[(1, 0)],
-        takes: &[23],
+        take: Some(23),
         output: &[OPEN],
         ..READ_FAULT
     },
@@ -68,21 +71,21 @@ const TAKES: &[Row] = &[
         name: "a take that fails is no end of input: first",
         input: &[],
         pieces: &[(65_536, 0)],
-        takes: &[0],
+        take: Some(0),
         ..READ_FAULT
     },
     Row {
         name: "a take that fails is no end of input: within a record",
         input: &[SESSION],
         pieces: &[(10, 14)],
-        takes: &[1],
+        take: Some(1),
         ..READ_FAULT
     },
     Row {
         name: "a take that fails is no end of input: behind a refusal",
         input: &[BAD_MODE],
         pieces: &[(65_536, 0)],
-        takes: &[1],
+        take: Some(1),
         output: &[b"offence frame 3 5 BadMode\n"],
         ..REFUSED
     },
@@ -90,13 +93,13 @@ const TAKES: &[Row] = &[
         name: "a take at the end is asked once",
         input: &[PREAMBLE],
         pieces: WHOLE,
-        takes: &[2],
+        take: Some(2),
         output: &[OPEN, b"offence frame 23 24 Truncated\n"],
         ..REFUSED
     },
     Row {
         name: "a file is fetched once",
-        fetches: &[1],
+        fetch: Some(1),
         pieces: WHOLE,
         ..CHECK
     },
@@ -142,6 +145,9 @@ const PUTS: &[Row] = &[
         output: &[OPEN, b"offence frame 23"],
         ..WRITE_FAULT
     },
+];
+
+const PUTS_2: &[Row] = &[
     Row {
         name: "a put that fails ends the run: within the only line",
         input: &[],
@@ -158,28 +164,28 @@ const PUTS: &[Row] = &[
     },
     Row {
         name: "a note that words are not understood fails and nothing is kept: no other status",
-        words: &["nettcp", "build", "--static", "S"],
+        words: "nettcp build --static S",
         noted: Some(0),
         note: "",
         ..REFUSED_WORDS
     },
     Row {
         name: "a note that words are not understood fails and its front is kept: no other status",
-        words: &["nettcp", "build", "--static", "S"],
+        words: "nettcp build --static S",
         noted: Some(5),
         note: "words",
         ..REFUSED_WORDS
     },
     Row {
         name: "a note that words are not understood fails and all is kept: no other status",
-        words: &["nettcp", "build", "--static", "S"],
+        words: "nettcp build --static S",
         noted: Some(99),
         ..REFUSED_WORDS
     },
     Row {
         name: "a note of a failing take fails and nothing is kept: no other status",
         pieces: UNREAD,
-        takes: &[0],
+        take: Some(0),
         noted: Some(0),
         note: "",
         ..READ_FAULT
@@ -187,15 +193,18 @@ const PUTS: &[Row] = &[
     Row {
         name: "a note of a failing take fails and its front is kept: no other status",
         pieces: UNREAD,
-        takes: &[0],
+        take: Some(0),
         noted: Some(5),
         note: "read ",
         ..READ_FAULT
     },
+];
+
+const PUTS_3: &[Row] = &[
     Row {
         name: "a note of a failing take fails and all is kept: no other status",
         pieces: UNREAD,
-        takes: &[0],
+        take: Some(0),
         noted: Some(99),
         ..READ_FAULT
     },
@@ -242,13 +251,13 @@ const PUTS: &[Row] = &[
 const FILES: &[Row] = &[
     Row {
         name: "a file without a table takes nothing: no such file",
-        words: &["nettcp", "check", "--static", "T"],
+        words: "nettcp check --static T",
         note: "T: not found\n",
         ..UNREAD_FILE
     },
     Row {
         name: "a file without a table takes nothing: a name in other letters",
-        words: &["nettcp", "check", "--static", "s"],
+        words: "nettcp check --static s",
         note: "s: not found\n",
         ..UNREAD_FILE
     },
@@ -270,6 +279,9 @@ const FILES: &[Row] = &[
         note: "S: row 1 Fields\n",
         ..UNREAD_FILE
     },
+];
+
+const FILES_2: &[Row] = &[
     Row {
         name: "a file without a table takes nothing: a text that is not UTF-8",
         files: &[("S", b"id,string\n0,\xFF\n")],
@@ -296,20 +308,47 @@ const FILES: &[Row] = &[
     },
     Row {
         name: "a file without a table takes nothing: a fetch that fails",
-        fetches: &[0],
+        fetch: Some(0),
         status: 3,
         note: "read fault\n",
         ..UNREAD_FILE
     },
 ];
 
-#[test]
-fn takes_and_puts_that_fail(rt: HostRuntime) -> Result<(), Fail> {
-    assert_rows(&rt, TAKES)?;
-    assert_rows(&rt, PUTS)
+fn takes_rows() -> &'static [Row] {
+    TAKES
 }
 
-#[test]
-fn files_without_a_table(rt: HostRuntime) -> Result<(), Fail> {
-    assert_rows(&rt, FILES)
+fn takes_rows_2() -> &'static [Row] {
+    TAKES_2
+}
+
+fn puts_rows() -> &'static [Row] {
+    PUTS
+}
+
+fn puts_rows_2() -> &'static [Row] {
+    PUTS_2
+}
+
+fn puts_rows_3() -> &'static [Row] {
+    PUTS_3
+}
+
+fn files_rows() -> &'static [Row] {
+    FILES
+}
+
+fn files_rows_2() -> &'static [Row] {
+    FILES_2
+}
+
+pub fn assert_all(rt: &(impl Abort + AllocGlobal)) -> Result<(), AllocError> {
+    assert_rows(rt, takes_rows())?;
+    assert_rows(rt, takes_rows_2())?;
+    assert_rows(rt, puts_rows())?;
+    assert_rows(rt, puts_rows_2())?;
+    assert_rows(rt, puts_rows_3())?;
+    assert_rows(rt, files_rows())?;
+    assert_rows(rt, files_rows_2())
 }

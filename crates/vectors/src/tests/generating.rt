@@ -3,7 +3,7 @@ use super::*;
 
 // The input isn't read.
 const GEN: Row = Row {
-    words: &["nettcp", "gen", "--static=S", "--seed=0"],
+    words: "nettcp gen --static=S --seed=0",
     pieces: UNREAD,
     ..CHECK
 };
@@ -11,19 +11,19 @@ const GEN: Row = Row {
 const MADE: &[Row] = &[
     Row {
         name: "a session that is made has a line: one document",
-        options: &["--count=1", "--session=1000"],
+        options: "--count=1 --session=1000",
         output: &[b"gen documents 1 bytes 345 strings 3 used 5\n"],
         ..GEN
     },
     Row {
         name: "a session that is made has a line: no documents",
-        options: &["--count=0", "--session=1000"],
+        options: "--count=0 --session=1000",
         output: &[b"gen documents 0 bytes 24 strings 0 used 0\n"],
         ..GEN
     },
     Row {
         name: "a session that is made beyond its quota",
-        options: &["--count=1", "--session=344"],
+        options: "--count=1 --session=344",
         status: 10,
         output: &[],
         note: "offence frame 344 25 SessionTooLong\n",
@@ -31,7 +31,10 @@ const MADE: &[Row] = &[
     },
 ];
 
-#[test]
-fn a_session_that_is_made_has_a_line(rt: HostRuntime) -> Result<(), Fail> {
-    assert_rows(&rt, MADE)
+fn made_rows() -> &'static [Row] {
+    MADE
+}
+
+pub fn assert_all(rt: &(impl Abort + AllocGlobal)) -> Result<(), AllocError> {
+    assert_rows(rt, made_rows())
 }

@@ -61,10 +61,13 @@ const MODES: &[Row] = &[
         ],
         ..REFUSED
     },
+];
+
+const MODES_2: &[Row] = &[
     Row {
         name: "chunks are judged together: beyond the payload quota",
         words: CHECK_ONE,
-        options: &["--payload=4096"],
+        options: "--payload=4096",
         input: &[b"\x00\x01\x00\x01\x01\x02\x01a\x03\x07\x0C\x05\x01\x40\x80\x20"],
         pieces: WHOLE,
         output: &[b"open singleton 7 \"a\"\noffence frame 14 11 MessageTooLarge\n"],
@@ -110,7 +113,15 @@ const MODES: &[Row] = &[
     },
 ];
 
-#[test]
-fn streams_in_other_modes(rt: HostRuntime) -> Result<(), Fail> {
-    assert_rows(&rt, MODES)
+fn modes_rows() -> &'static [Row] {
+    MODES
+}
+
+fn modes_rows_2() -> &'static [Row] {
+    MODES_2
+}
+
+pub fn assert_all(rt: &(impl Abort + AllocGlobal)) -> Result<(), AllocError> {
+    assert_rows(rt, modes_rows())?;
+    assert_rows(rt, modes_rows_2())
 }

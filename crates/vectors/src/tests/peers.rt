@@ -8,8 +8,8 @@ use super::*;
 // where the connection was made and ended.
 pub struct Peer {
     pub sends: Parts,
-    pub reads: &'static [u64],
-    pub writes: &'static [u64],
+    pub read: Option<u64>,
+    pub write: Option<u64>,
     pub got: Option<Parts>,
 }
 
@@ -21,22 +21,22 @@ fn ends_of(
     ensures { IfOk result Untouched }
 {
     let sends = joined(alloc, peer.sends, NO_TEXT)?;
-    let source = MemorySource::new(sends, 65_536, peer.reads.to_vec(alloc)?);
+    let source = MemorySource::new(sends, 65_536, failing(alloc, peer.read)?);
     Ok((
         source,
-        MemorySink::new(alloc, peer.writes.to_vec(alloc)?, kept),
+        MemorySink::new(alloc, failing(alloc, peer.write)?, kept),
     ))
 }
 
 fn wire_over(
     alloc: Global,
     ends: Vec<(MemorySource, MemorySink)>,
-    connects: &[u64],
+    connect: Option<u64>,
 ) -> Result<MemoryWire, AllocError>
     requires { All Untouched ends.items }
     ensures { IfOk result (λ wire. wire.out ≡ 0) }
 {
-    match MemoryWire::new(alloc, ends, connects.to_vec(alloc)?) {
+    match MemoryWire::new(alloc, ends, failing(alloc, connect)?) {
         Ok(wire) => Ok(wire),
         Err(_) => Err(AllocError),
     }
@@ -47,7 +47,7 @@ fn wire_of_one(alloc: Global, peer: &Peer, row: &Row) -> Result<MemoryWire, Allo
 {
     let mut ends = Vec::new(alloc);
     ends.push(ends_of(alloc, peer, row.kept)?)?;
-    wire_over(alloc, ends, row.connects)
+    wire_over(alloc, ends, row.connect)
 }
 
 fn wire_of_two(alloc: Global, peers: [&Peer; 2], row: &Row) -> Result<MemoryWire, AllocError>
@@ -56,7 +56,7 @@ fn wire_of_two(alloc: Global, peers: [&Peer; 2], row: &Row) -> Result<MemoryWire
     let mut ends = Vec::new(alloc);
     ends.push(ends_of(alloc, peers[0], row.kept)?)?;
     ends.push(ends_of(alloc, peers[1], row.kept)?)?;
-    wire_over(alloc, ends, row.connects)
+    wire_over(alloc, ends, row.connect)
 }
 
 fn wire_of_three(alloc: Global, peers: [&Peer; 3], row: &Row) -> Result<MemoryWire, AllocError>
@@ -66,7 +66,7 @@ fn wire_of_three(alloc: Global, peers: [&Peer; 3], row: &Row) -> Result<MemoryWi
     ends.push(ends_of(alloc, peers[0], row.kept)?)?;
     ends.push(ends_of(alloc, peers[1], row.kept)?)?;
     ends.push(ends_of(alloc, peers[2], row.kept)?)?;
-    wire_over(alloc, ends, row.connects)
+    wire_over(alloc, ends, row.connect)
 }
 
 // A row has three peers at most.
@@ -77,17 +77,28 @@ pub fn wire_of(alloc: Global, row: &Row) -> Result<MemoryWire, AllocError>
         [peer] => wire_of_one(alloc, peer, row),
         [first, second] => wire_of_two(alloc, [first, second], row),
         [first, second, third] => wire_of_three(alloc, [first, second, third], row),
-        _ => wire_over(alloc, Vec::new(alloc), row.connects),
+        _ => wire_over(alloc, Vec::new(alloc), row.connect),
     }
 }
 
+// Asserts that these bytes were written to a peer, or that it was never met.
 fn assert_written(
     rt: &(impl Abort + AllocGlobal),
-    name: &str,
+    row: &Row,
     got: Option<&[u8]>,
-    due: Option<&[u8]>,
-) {
-    assert_eq!(rt; got, due, "{name}");
+    due: Option<Parts>,
+) -> Result<(), AllocError> {
+    match (got, due) {
+        (Some(got), Some(due)) => {
+            let due = joined(rt.alloc(), due, NO_TEXT)?;
+            assert_bytes(rt, row, got, &due);
+        }
+        (got, due) => {
+            let name = row.name;
+            assert!(rt; got.is_none() && due.is_none(), "{name}");
+        }
+    }
+    Ok(())
 }
 
 // Asserts what was written to each peer.
@@ -95,16 +106,10 @@ pub fn assert_got(
     rt: &(impl Abort + AllocGlobal),
     row: &Row,
     wire: &MemoryWire,
-) -> Result<(), Fail> {
+) -> Result<(), AllocError> {
     for (number, peer) in row.peers.iter().enumerate() {
         let got = wire.pair(number).map(|pair| pair.1);
-        match peer.got {
-            Some(parts) => {
-                let due = joined(rt.alloc(), parts, NO_TEXT)?;
-                assert_written(rt, row.name, got, Some(due.as_slice()));
-            }
-            None => assert_written(rt, row.name, got, None),
-        }
+        assert_written(rt, row, got, peer.got)?;
     }
     Ok(())
 }

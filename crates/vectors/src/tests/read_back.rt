@@ -3,7 +3,7 @@ use super::captures::{
     ONE, ONE_REPLIES, ONEWAY5, ONEWAY5_REPLIES, STREAMED, STREAMED_REPLIES, TWENTY, TWENTY_REPLIES,
 };
 use super::*;
-use document_lists::read_documents;
+use document_lines::read_documents;
 use io_edges::SinkFault;
 use line_notation::print;
 use nbfx_values::Docs;
@@ -41,7 +41,7 @@ fn printed(alloc: Global, docs: &Docs) -> Result<MemorySink, SinkFault> {
 fn ran(alloc: Global, row: &Row) -> Result<Ran<MemorySource, MemorySink>, AllocError> {
     let words = listed(alloc, row.words, row.options)?;
     let input = joined(alloc, row.input, row.long)?;
-    let source = source_of(alloc, &input, 65_536, row.takes)?;
+    let source = source_of(alloc, &input, 65_536, row.take)?;
     let mut notes = notes_of(alloc, row)?;
     let mut wire = wire_of(alloc, row)?;
     run_on_fakes(alloc, row, &words, source, &mut notes, &mut wire)
@@ -86,7 +86,7 @@ const SENT: Row = Row {
 
 // The server of the captured sessions never sends End.
 const SENT_BACK: Row = Row {
-    options: &["--replies=duplex"],
+    options: "--replies=duplex",
     status: 1,
     ..SENT
 };
@@ -154,7 +154,7 @@ const ANSWERS: &[(Row, usize)] = &[
     (
         Row {
             name: "a streamed answer",
-            options: &["--replies=singleton", "--encoding=7"],
+            options: "--replies=singleton --encoding=7",
             input: &[STREAMED_REPLIES],
             ..SENT
         },
@@ -162,9 +162,17 @@ const ANSWERS: &[(Row, usize)] = &[
     ),
 ];
 
+fn calls_rows() -> &'static [(Row, usize)] {
+    CALLS
+}
+
+fn answers_rows() -> &'static [(Row, usize)] {
+    ANSWERS
+}
+
 #[test]
 fn captured_documents_are_read_back(rt: HostRuntime) -> Result<(), Fail> {
-    for table in [CALLS, ANSWERS] {
+    for table in [calls_rows(), answers_rows()] {
         for (row, documents) in table {
             assert_read_back(&rt, row, *documents)?;
         }

@@ -46,6 +46,9 @@ const PREAMBLES: &[Row] = &[
         output: &[b"offence frame 3 5 BadMode\n"],
         ..SHOWN
     },
+];
+
+const PREAMBLES_2: &[Row] = &[
     Row {
         name: "preambles are refused by name: a Via that is too long",
         input: &[b"\x00\x01\x00\x01\x02\x02\x81\x10", BEHIND],
@@ -115,6 +118,9 @@ const AFTER_PREAMBLES: &[Row] = &[
         output: &[OPEN, b"offence frame 23 3 OutOfOrder\n"],
         ..SHOWN
     },
+];
+
+const AFTER_PREAMBLES_2: &[Row] = &[
     Row {
         name: "records of messages are refused by name: a length beyond 31 bits",
         input: &[PREAMBLE, b"\x06\xFF\xFF\xFF\xFF\x08", BEHIND],
@@ -124,7 +130,7 @@ const AFTER_PREAMBLES: &[Row] = &[
     Row {
         name: "records of replies are refused by name: a byte of no record",
         words: CHECK_ONE,
-        options: &["--replies=duplex", "--encoding=7"],
+        options: "--replies=duplex --encoding=7",
         input: &[b"\x0D", BEHIND],
         output: &[b"offence frame 0 2 UnknownRecord\n"],
         ..SHOWN
@@ -132,7 +138,7 @@ const AFTER_PREAMBLES: &[Row] = &[
     Row {
         name: "records of replies are refused by name: a version, of an initiator's direction",
         words: CHECK_ONE,
-        options: &["--replies=duplex", "--encoding=7"],
+        options: "--replies=duplex --encoding=7",
         input: &[b"\x00", BEHIND],
         output: &[b"offence frame 0 3 OutOfOrder\n"],
         ..SHOWN
@@ -140,7 +146,7 @@ const AFTER_PREAMBLES: &[Row] = &[
     Row {
         name: "records of replies are refused by name: an End before the Ack",
         words: CHECK_ONE,
-        options: &["--replies=simplex", "--encoding=7"],
+        options: "--replies=simplex --encoding=7",
         input: &[b"\x07", BEHIND],
         output: &[b"offence frame 0 3 OutOfOrder\n"],
         ..SHOWN
@@ -148,15 +154,18 @@ const AFTER_PREAMBLES: &[Row] = &[
     Row {
         name: "records of replies are refused by name: a text that is too long",
         words: CHECK_ONE,
-        options: &["--replies=duplex", "--encoding=7"],
+        options: "--replies=duplex --encoding=7",
         input: &[b"\x08\x81\x10", BEHIND],
         output: &[b"offence frame 0 6 TextTooLong\n"],
         ..SHOWN
     },
+];
+
+const AFTER_PREAMBLES_3: &[Row] = &[
     Row {
         name: "records of replies are refused by name: a text that is not UTF-8",
         words: CHECK_ONE,
-        options: &["--replies=singleton", "--encoding=7"],
+        options: "--replies=singleton --encoding=7",
         input: &[b"\x08\x01\xFF", BEHIND],
         output: &[b"offence frame 0 7 TextNotUtf8\n"],
         ..SHOWN
@@ -164,7 +173,7 @@ const AFTER_PREAMBLES: &[Row] = &[
     Row {
         name: "records of replies are refused by name: an unsized envelope in duplex mode",
         words: CHECK_ONE,
-        options: &["--replies=duplex", "--encoding=7"],
+        options: "--replies=duplex --encoding=7",
         input: &[b"\x0B\x05", BEHIND],
         output: &[b"accepted\noffence frame 1 3 OutOfOrder\n"],
         ..SHOWN
@@ -172,7 +181,7 @@ const AFTER_PREAMBLES: &[Row] = &[
     Row {
         name: "records of replies are refused by name: a message in simplex mode",
         words: CHECK_ONE,
-        options: &["--replies=simplex", "--encoding=7"],
+        options: "--replies=simplex --encoding=7",
         input: &[b"\x0B\x06", BEHIND],
         output: &[b"accepted\noffence frame 1 3 OutOfOrder\n"],
         ..SHOWN
@@ -180,7 +189,7 @@ const AFTER_PREAMBLES: &[Row] = &[
     Row {
         name: "records of replies are refused by name: a sized envelope in singleton mode",
         words: CHECK_ONE,
-        options: &["--replies=singleton", "--encoding=7"],
+        options: "--replies=singleton --encoding=7",
         input: &[b"\x0B\x06", BEHIND],
         output: &[b"accepted\noffence frame 1 3 OutOfOrder\n"],
         ..SHOWN
@@ -188,15 +197,37 @@ const AFTER_PREAMBLES: &[Row] = &[
     Row {
         name: "records of replies are refused by name: a length beyond 31 bits",
         words: CHECK_ONE,
-        options: &["--replies=singleton", "--encoding=7"],
+        options: "--replies=singleton --encoding=7",
         input: &[b"\x0B\x05\xFF\xFF\xFF\xFF\x08", BEHIND],
         output: &[b"accepted\noffence frame 2 1 BadInt\n"],
         ..SHOWN
     },
 ];
 
-#[test]
-fn records_are_refused_by_name(rt: HostRuntime) -> Result<(), Fail> {
-    assert_rows(&rt, PREAMBLES)?;
-    assert_rows(&rt, AFTER_PREAMBLES)
+fn preambles_rows() -> &'static [Row] {
+    PREAMBLES
+}
+
+fn preambles_rows_2() -> &'static [Row] {
+    PREAMBLES_2
+}
+
+fn after_preambles_rows() -> &'static [Row] {
+    AFTER_PREAMBLES
+}
+
+fn after_preambles_rows_2() -> &'static [Row] {
+    AFTER_PREAMBLES_2
+}
+
+fn after_preambles_rows_3() -> &'static [Row] {
+    AFTER_PREAMBLES_3
+}
+
+pub fn assert_all(rt: &(impl Abort + AllocGlobal)) -> Result<(), AllocError> {
+    assert_rows(rt, preambles_rows())?;
+    assert_rows(rt, preambles_rows_2())?;
+    assert_rows(rt, after_preambles_rows())?;
+    assert_rows(rt, after_preambles_rows_2())?;
+    assert_rows(rt, after_preambles_rows_3())
 }

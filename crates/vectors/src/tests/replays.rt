@@ -2,8 +2,8 @@
 use super::*;
 
 pub const REPLAY: Row = Row {
-    words: &["nettcp", "replay", "--static=S"],
-    options: &["--depth=32"],
+    words: "nettcp replay --static=S",
+    options: "--depth=32",
     pieces: WHOLE,
     output: &[ACK, END],
     ..CHECK
@@ -23,14 +23,14 @@ const BROKEN: Row = Row {
 };
 
 const UNWRITTEN: Row = Row {
-    puts: &[0],
+    put: Some(0),
     status: 4,
     note: "write fault\n",
     ..REPLAY
 };
 
 pub const BY_ACTION: Row = Row {
-    options: &["--actions=A"],
+    options: "--actions=A",
     files: &[("A", ACTIONS)],
     input: TWO_CALLS,
     pieces: &[(65_536, 146)],
@@ -100,19 +100,22 @@ const ANSWERED: &[Row] = &[
     },
     Row {
         name: "the line of an offence is a note: a Via of another endpoint",
-        options: &["--endpoint=net.tcp://h/z"],
+        options: "--endpoint=net.tcp://h/z",
         output: &[b"\x08\x47", FAULTS, b"EndpointNotFound"],
         note: "offence frame 5 8 EndpointNotFound\n",
         ..OFFENCE
     },
     Row {
         name: "the line of an offence is a note: a Via of the endpoint has none",
-        options: &["--endpoint=net.tcp://h/e"],
+        options: "--endpoint=net.tcp://h/e",
         ..REPLAY
     },
+];
+
+const ANSWERED_2: &[Row] = &[
     Row {
         name: "the line of an offence is a note: a session beyond its quota",
-        options: &["--session=23"],
+        options: "--session=23",
         input: &[SESSION],
         status: 10,
         note: "offence frame 23 25 SessionTooLong\n",
@@ -126,14 +129,14 @@ const ANSWERED: &[Row] = &[
     Row {
         name: "faults go before offences: a failed take",
         pieces: &[(23, 1)],
-        takes: &[1],
+        take: Some(1),
         output: &[ACK],
         ..BROKEN
     },
     Row {
         name: "faults go before offences: a failed put before a failed take",
         pieces: &[(23, 1)],
-        takes: &[1],
+        take: Some(1),
         output: &[],
         ..UNWRITTEN
     },
@@ -147,7 +150,7 @@ const ANSWERED: &[Row] = &[
         name: "the first answer is written before a take that fails",
         input: TWO_CALLS,
         pieces: &[(85, 61)],
-        takes: &[1],
+        take: Some(1),
         output: &[ACK, b"\x06\x44\x02\x01x", ANSWER, HI],
         ..BROKEN
     },
@@ -155,7 +158,7 @@ const ANSWERED: &[Row] = &[
         name: "the first answer is written before a put that fails",
         input: TWO_CALLS,
         pieces: &[(85, 0)],
-        puts: &[1],
+        put: Some(1),
         kept: 3,
         output: &[ACK, b"\x06\x44\x02\x01x", ANSWER, HI, b"\x06\x42\x00"],
         ..UNWRITTEN
@@ -203,12 +206,20 @@ const ACTIONS_FIRST: &[Row] = &[
     },
 ];
 
-#[test]
-fn calls_are_echoed_up_to_an_offence(rt: HostRuntime) -> Result<(), Fail> {
-    assert_rows(&rt, ANSWERED)
+fn answered_rows() -> &'static [Row] {
+    ANSWERED
 }
 
-#[test]
-fn a_file_of_actions_is_read_first(rt: HostRuntime) -> Result<(), Fail> {
-    assert_rows(&rt, ACTIONS_FIRST)
+fn answered_rows_2() -> &'static [Row] {
+    ANSWERED_2
+}
+
+fn actions_first_rows() -> &'static [Row] {
+    ACTIONS_FIRST
+}
+
+pub fn assert_all(rt: &(impl Abort + AllocGlobal)) -> Result<(), AllocError> {
+    assert_rows(rt, answered_rows())?;
+    assert_rows(rt, answered_rows_2())?;
+    assert_rows(rt, actions_first_rows())
 }

@@ -8,14 +8,14 @@ const FAULT_LINE: &[u8] =
     b"fault 73 \"http://schemas.microsoft.com/ws/2006/05/framing/faults/EndpointNotFound\"\n";
 
 const REPLIES: Row = Row {
-    words: &["nettcp", "check", "--static=S", "--replies"],
+    words: "nettcp check --static=S --replies",
     ..CHECK
 };
 
 const ENDED: &[Row] = &[
     Row {
         name: "a Fault in place of the Ack: duplex",
-        options: &["duplex"],
+        options: "duplex",
         input: &[b"\x08\x47", FAULTS, b"EndpointNotFound"],
         status: 9,
         output: &[FAULT_LINE],
@@ -23,7 +23,7 @@ const ENDED: &[Row] = &[
     },
     Row {
         name: "a Fault in place of the Ack: simplex",
-        options: &["simplex"],
+        options: "simplex",
         input: &[b"\x08\x47", FAULTS, b"EndpointNotFound"],
         status: 9,
         output: &[FAULT_LINE],
@@ -31,7 +31,7 @@ const ENDED: &[Row] = &[
     },
     Row {
         name: "a Fault in place of the Ack: singleton",
-        options: &["singleton"],
+        options: "singleton",
         input: &[b"\x08\x47", FAULTS, b"EndpointNotFound"],
         status: 9,
         output: &[FAULT_LINE],
@@ -39,35 +39,38 @@ const ENDED: &[Row] = &[
     },
     Row {
         name: "sessions end in each mode: no messages",
-        options: &["duplex"],
+        options: "duplex",
         input: &[b"\x0B\x07"],
         output: &[b"accepted\nended 2\n"],
         ..REPLIES
     },
     Row {
         name: "sessions end in each mode: no messages, one-way",
-        options: &["simplex"],
+        options: "simplex",
         input: &[b"\x0B\x07"],
         output: &[b"accepted\nended 2\n"],
         ..REPLIES
     },
+];
+
+const ENDED_2: &[Row] = &[
     Row {
         name: "sessions end in each mode: no messages, in chunks",
-        options: &["singleton"],
+        options: "singleton",
         input: &[b"\x0B\x07"],
         output: &[b"accepted\nended 2\n"],
         ..REPLIES
     },
     Row {
         name: "sessions end in each mode: one-way messages and no End",
-        options: &["simplex"],
+        options: "simplex",
         input: &[b"\x0B"],
         output: &[b"accepted\nended 1\n"],
         ..REPLIES
     },
     Row {
         name: "sessions end in each mode: a Fault after the Ack, one-way",
-        options: &["simplex"],
+        options: "simplex",
         input: &[b"\x0B\x08\x01a"],
         status: 9,
         output: &[b"accepted\nfault 4 \"a\"\n"],
@@ -75,22 +78,25 @@ const ENDED: &[Row] = &[
     },
     Row {
         name: "sessions end in each mode: a message",
-        options: &["duplex"],
+        options: "duplex",
         input: &[b"\x0B\x06\x06\x02\x01x\x42\x01\x01\x07"],
         output: &[b"accepted\n", MESSAGE, b"ended 10\n"],
         ..REPLIES
     },
     Row {
         name: "sessions end in each mode: a Fault after a message",
-        options: &["duplex"],
+        options: "duplex",
         input: &[b"\x0B\x06\x06\x02\x01x\x42\x01\x01\x08\x01a"],
         status: 9,
         output: &[b"accepted\n", MESSAGE, b"fault 12 \"a\"\n"],
         ..REPLIES
     },
+];
+
+const ENDED_3: &[Row] = &[
     Row {
         name: "sessions end in each mode: a length in more bytes than it needs",
-        options: &["duplex"],
+        options: "duplex",
         input: &[b"\x0B\x08\x81\x00a"],
         status: 9,
         output: &[b"accepted\nfault 5 \"a\"\n"],
@@ -98,7 +104,7 @@ const ENDED: &[Row] = &[
     },
     Row {
         name: "sessions end in each mode: a message of two chunks",
-        options: &["singleton"],
+        options: "singleton",
         input: &[b"\x0B\x05\x01\x02\x05\x01x\x42\x01\x01\x00\x07"],
         output: &[
             b"accepted\n",
@@ -109,7 +115,7 @@ const ENDED: &[Row] = &[
     },
     Row {
         name: "an answer and the End",
-        options: &["duplex"],
+        options: "duplex",
         input: ONE_ANSWER,
         output: &[
             b"accepted\n",
@@ -120,7 +126,7 @@ const ENDED: &[Row] = &[
     },
     Row {
         name: "two answers and the End",
-        options: &["duplex"],
+        options: "duplex",
         input: TWO_ANSWERS,
         output: &[
             b"accepted\n",
@@ -133,7 +139,7 @@ const ENDED: &[Row] = &[
     Row {
         name: "an answer in one chunk and the End",
         words: CHECK_ONE,
-        options: &["--replies=singleton", "--encoding=7"],
+        options: "--replies=singleton --encoding=7",
         input: IN_ONE_CHUNK,
         pieces: WHOLE,
         output: &[
@@ -149,7 +155,7 @@ const ENDED: &[Row] = &[
 const CUT: &[Row] = &[
     Row {
         name: "replies that are cut: before the Ack",
-        options: &["simplex"],
+        options: "simplex",
         input: &[],
         status: 1,
         output: &[b"offence frame 0 24 Truncated\n"],
@@ -157,7 +163,7 @@ const CUT: &[Row] = &[
     },
     Row {
         name: "replies that are cut: after the Ack",
-        options: &["duplex"],
+        options: "duplex",
         input: &[b"\x0B"],
         status: 1,
         output: &[b"accepted\noffence frame 1 24 Truncated\n"],
@@ -165,7 +171,7 @@ const CUT: &[Row] = &[
     },
     Row {
         name: "replies that are cut: after the Ack, in chunks",
-        options: &["singleton"],
+        options: "singleton",
         input: &[b"\x0B"],
         status: 1,
         output: &[b"accepted\noffence frame 1 24 Truncated\n"],
@@ -173,7 +179,7 @@ const CUT: &[Row] = &[
     },
     Row {
         name: "replies that are cut: a Fault that has begun after the Ack",
-        options: &["simplex"],
+        options: "simplex",
         input: &[b"\x0B\x08\x05A"],
         status: 1,
         output: &[b"accepted\noffence frame 1 24 Truncated\n"],
@@ -181,7 +187,7 @@ const CUT: &[Row] = &[
     },
     Row {
         name: "replies that are cut: within a message",
-        options: &["duplex"],
+        options: "duplex",
         input: &[b"\x0B\x06\x06\x02\x01x"],
         status: 1,
         output: &[b"accepted\noffence frame 1 24 Truncated\n"],
@@ -189,7 +195,7 @@ const CUT: &[Row] = &[
     },
     Row {
         name: "replies that are cut: within a chunk",
-        options: &["singleton"],
+        options: "singleton",
         input: &[b"\x0B\x05\x01\x02\x05\x01x"],
         status: 1,
         output: &[b"accepted\noffence frame 1 24 Truncated\n"],
@@ -198,17 +204,20 @@ const CUT: &[Row] = &[
     Row {
         name: "the Ack alone has the quota of one byte, and more may come",
         words: CHECK_ONE,
-        options: &["--replies=simplex", "--session=1"],
+        options: "--replies=simplex --session=1",
         input: &[ACK],
         pieces: WHOLE,
         status: 10,
         output: &[b"accepted\noffence frame 1 25 SessionTooLong\n"],
         ..REPLIES
     },
+];
+
+const CUT_2: &[Row] = &[
     Row {
         name: "the Ack alone is within the quota",
         words: CHECK_ONE,
-        options: &["--replies=simplex", "--session=2"],
+        options: "--replies=simplex --session=2",
         input: &[ACK],
         pieces: WHOLE,
         output: &[b"accepted\nended 1\n"],
@@ -217,7 +226,7 @@ const CUT: &[Row] = &[
     Row {
         name: "what comes after a Fault is not judged",
         words: CHECK_ONE,
-        options: &["--replies=duplex"],
+        options: "--replies=duplex",
         input: &[b"\x0B\x08\x01a\xFF\xFF"],
         pieces: WHOLE,
         status: 9,
@@ -227,10 +236,10 @@ const CUT: &[Row] = &[
     Row {
         name: "nothing is taken after a Fault",
         words: CHECK_ONE,
-        options: &["--replies=duplex"],
+        options: "--replies=duplex",
         input: &[b"\x0B\x08\x01a\xFF\xFF"],
         pieces: &[(2, 2)],
-        takes: &[2],
+        take: Some(2),
         status: 9,
         output: &[b"accepted\nfault 4 \"a\"\n"],
         ..REPLIES
@@ -238,7 +247,7 @@ const CUT: &[Row] = &[
     Row {
         name: "a failing put goes before a Fault",
         words: CHECK_ONE,
-        options: &["--replies=duplex"],
+        options: "--replies=duplex",
         input: &[b"\x0B\x08\x01a\xFF\xFF"],
         kept: 9,
         output: &[b"accepted\n"],
@@ -246,7 +255,7 @@ const CUT: &[Row] = &[
     },
     Row {
         name: "captured answers are reported",
-        options: &["duplex"],
+        options: "duplex",
         input: &[ONE_REPLIES],
         status: 1,
         output: &[
@@ -259,7 +268,7 @@ const CUT: &[Row] = &[
     Row {
         name: "a captured streamed answer is reported",
         words: CHECK_ONE,
-        options: &["--replies=singleton", "--encoding=7"],
+        options: "--replies=singleton --encoding=7",
         input: &[STREAMED_REPLIES],
         pieces: WHOLE,
         output: &[
@@ -271,12 +280,30 @@ const CUT: &[Row] = &[
     },
 ];
 
-#[test]
-fn replies_that_end(rt: HostRuntime) -> Result<(), Fail> {
-    assert_rows(&rt, ENDED)
+fn ended_rows() -> &'static [Row] {
+    ENDED
 }
 
-#[test]
-fn replies_that_are_cut(rt: HostRuntime) -> Result<(), Fail> {
-    assert_rows(&rt, CUT)
+fn ended_rows_2() -> &'static [Row] {
+    ENDED_2
+}
+
+fn ended_rows_3() -> &'static [Row] {
+    ENDED_3
+}
+
+fn cut_rows() -> &'static [Row] {
+    CUT
+}
+
+fn cut_rows_2() -> &'static [Row] {
+    CUT_2
+}
+
+pub fn assert_all(rt: &(impl Abort + AllocGlobal)) -> Result<(), AllocError> {
+    assert_rows(rt, ended_rows())?;
+    assert_rows(rt, ended_rows_2())?;
+    assert_rows(rt, ended_rows_3())?;
+    assert_rows(rt, cut_rows())?;
+    assert_rows(rt, cut_rows_2())
 }

@@ -7,31 +7,31 @@ pub type Parts = &'static [&'static [u8]];
 // The part that stands for a row's long text.
 pub const LONG: &[u8] = b"LONG";
 
-pub const NO_TEXT: (usize, &[u8]) = (0, b"");
+pub const NO_TEXT: (usize, u8) = (0, b' ');
 
 // A run of the program: what it is asked, what comes in and what fails, and what it leaves.
 pub struct Row {
     pub name: &'static str,
-    pub words: &'static [&'static str],
-    // More words, behind these.
-    pub options: &'static [&'static str],
+    pub words: &'static str,
+    // More words, behind these; both with a space between two words.
+    pub options: &'static str,
     // The files of the shelf beside S, which has the static strings, or in its place.
     pub files: &'static [(&'static str, &'static [u8])],
     pub input: Parts,
-    // How many times the long text of the row has which bytes.
-    pub long: (usize, &'static [u8]),
+    // How many times the long text of the row has which byte.
+    pub long: (usize, u8),
     // At most how many bytes come at a take, and how many are left of the input then: a run each.
     pub pieces: &'static [(usize, usize)],
-    // The fetches, takes, and puts of the output that fail.
-    pub fetches: &'static [u64],
-    pub takes: &'static [u64],
-    pub puts: &'static [u64],
+    // The fetch, the take, and the put of the output that fail, by their numbers.
+    pub fetch: Option<u64>,
+    pub take: Option<u64>,
+    pub put: Option<u64>,
     // How many bytes a failing put keeps, and one of a note where it fails.
     pub kept: usize,
     pub noted: Option<usize>,
     pub peers: &'static [Peer],
-    // The accepts or connects that fail.
-    pub connects: &'static [u64],
+    // The accept or the connect that fails.
+    pub connect: Option<u64>,
     pub status: u8,
     pub output: Parts,
     pub note: &'static str,
@@ -48,29 +48,29 @@ pub const UNREAD: &[(usize, usize)] = &[(65_536, 24)];
 // The report of a session.
 pub const CHECK: Row = Row {
     name: "",
-    words: &["nettcp", "check", "--static", "S"],
-    options: &[],
+    words: "nettcp check --static S",
+    options: "",
     files: &[],
     input: &[SESSION],
     long: NO_TEXT,
     pieces: ANY,
-    fetches: &[],
-    takes: &[],
-    puts: &[],
+    fetch: None,
+    take: None,
+    put: None,
     kept: 0,
     noted: None,
     peers: &[],
-    connects: &[],
+    connect: None,
     status: 0,
     output: &[OPEN, b"ended 24\n"],
     note: "",
 };
 
-pub const CHECK_ONE: &[&str] = &["nettcp", "check", "--static=S"];
+pub const CHECK_ONE: &str = "nettcp check --static=S";
 
-pub const DUMP: &[&str] = &["nettcp", "dump", "--static", "S"];
+pub const DUMP: &str = "nettcp dump --static S";
 
-pub const DUMP_ONE: &[&str] = &["nettcp", "dump", "--static=S"];
+pub const DUMP_ONE: &str = "nettcp dump --static=S";
 
 pub const REFUSED_WORDS: Row = Row {
     pieces: UNREAD,
@@ -90,7 +90,7 @@ pub const READ_FAULT: Row = Row {
 };
 
 pub const WRITE_FAULT: Row = Row {
-    puts: &[0],
+    put: Some(0),
     pieces: WHOLE,
     status: 4,
     note: "write fault\n",

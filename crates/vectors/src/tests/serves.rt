@@ -5,8 +5,8 @@ use super::*;
 // A peer with a session of no documents, one that sends nothing, and one that is never met.
 const CALLER: Peer = Peer {
     sends: &[SESSION],
-    reads: &[],
-    writes: &[],
+    read: None,
+    write: None,
     got: Some(&[ACK, END]),
 };
 
@@ -25,8 +25,8 @@ const NEITHER: &[Peer] = &[UNMET, UNMET];
 
 // The input isn't read.
 const SERVE: Row = Row {
-    words: &["nettcp", "serve", "--static=S", "--listen=h:808"],
-    options: &["--connections=2"],
+    words: "nettcp serve --static=S --listen=h:808",
+    options: "--connections=2",
     files: &[("T", ACTIONS)],
     pieces: UNREAD,
     peers: &[CALLER, SILENT],
@@ -40,7 +40,7 @@ const SERVE: Row = Row {
 const SERVED: &[Row] = &[
     Row {
         name: "requests are answered over a wire",
-        options: &["--connections=1"],
+        options: "--connections=1",
         peers: &[
             Peer {
                 sends: TWO_CALLS,
@@ -54,7 +54,7 @@ const SERVED: &[Row] = &[
     },
     Row {
         name: "requests are answered over a wire by a file of actions",
-        options: &["--actions=T"],
+        options: "--actions=T",
         peers: &[
             Peer {
                 sends: ONE_CALL,
@@ -71,7 +71,7 @@ const SERVED: &[Row] = &[
     },
     Row {
         name: "a session is answered after two that are none",
-        options: &["--connections=3"],
+        options: "--connections=3",
         peers: &[
             SILENT,
             Peer {
@@ -98,24 +98,27 @@ const SERVED: &[Row] = &[
     },
     Row {
         name: "connections are served to the last: no other is to come",
-        options: &["--connections=3"],
+        options: "--connections=3",
         ..SERVE
     },
+];
+
+const SERVED_2: &[Row] = &[
     Row {
         name: "connections are served to the last: no number is asked for",
-        options: &["--depth=32"],
+        options: "--depth=32",
         ..SERVE
     },
     Row {
         name: "connections are served to the last: one is asked for",
-        options: &["--connections=1"],
+        options: "--connections=1",
         peers: &[CALLER, UNMET],
         output: &[b"connection 0 messages 0 answers 0 in ended out done\n"],
         ..SERVE
     },
     Row {
         name: "what happens on a connection is in its line: a Via that is not served",
-        options: &["--endpoint=net.tcp://h/z"],
+        options: "--endpoint=net.tcp://h/z",
         peers: &[
             Peer {
                 got: Some(&[b"\x08\x47", FAULTS, b"EndpointNotFound"]),
@@ -131,14 +134,14 @@ const SERVED: &[Row] = &[
     },
     Row {
         name: "what happens on a connection is in its line: a Via that is served",
-        options: &["--endpoint=net.tcp://h/e"],
+        options: "--endpoint=net.tcp://h/e",
         ..SERVE
     },
     Row {
         name: "what happens on a connection is in its line: a read that fails",
         peers: &[
             Peer {
-                reads: &[0],
+                read: Some(0),
                 got: Some(&[]),
                 ..CALLER
             },
@@ -154,7 +157,7 @@ const SERVED: &[Row] = &[
         name: "what happens on a connection is in its line: a write that fails",
         peers: &[
             Peer {
-                writes: &[0],
+                write: Some(0),
                 got: Some(&[]),
                 ..CALLER
             },
@@ -171,7 +174,7 @@ const SERVED: &[Row] = &[
 const CAUSES: &[Row] = &[
     Row {
         name: "words that are not understood",
-        options: &["--connections=0"],
+        options: "--connections=0",
         peers: NEITHER,
         status: 2,
         output: &[],
@@ -180,8 +183,8 @@ const CAUSES: &[Row] = &[
     },
     Row {
         name: "a fetch that fails",
-        options: &["--actions=S"],
-        fetches: &[1],
+        options: "--actions=S",
+        fetch: Some(1),
         peers: NEITHER,
         status: 3,
         output: &[],
@@ -190,7 +193,7 @@ const CAUSES: &[Row] = &[
     },
     Row {
         name: "a line that is not put",
-        puts: &[1],
+        put: Some(1),
         kept: 5,
         status: 4,
         output: &[
@@ -202,7 +205,7 @@ const CAUSES: &[Row] = &[
     },
     Row {
         name: "no file of actions",
-        options: &["--actions=A"],
+        options: "--actions=A",
         peers: NEITHER,
         status: 6,
         output: &[],
@@ -211,7 +214,7 @@ const CAUSES: &[Row] = &[
     },
     Row {
         name: "a file of something else",
-        options: &["--actions=S"],
+        options: "--actions=S",
         peers: NEITHER,
         status: 6,
         output: &[],
@@ -221,7 +224,7 @@ const CAUSES: &[Row] = &[
     Row {
         name: "an accept that fails",
         peers: &[CALLER, UNMET],
-        connects: &[1],
+        connect: Some(1),
         status: 8,
         output: &[b"connection 0 messages 0 answers 0 in ended out done\n"],
         note: "wire fault\n",
@@ -229,12 +232,20 @@ const CAUSES: &[Row] = &[
     },
 ];
 
-#[test]
-fn connections_are_served_to_the_last(rt: HostRuntime) -> Result<(), Fail> {
-    assert_rows(&rt, SERVED)
+fn served_rows() -> &'static [Row] {
+    SERVED
 }
 
-#[test]
-fn each_status_of_a_server_has_its_cause(rt: HostRuntime) -> Result<(), Fail> {
-    assert_rows(&rt, CAUSES)
+fn served_rows_2() -> &'static [Row] {
+    SERVED_2
+}
+
+fn causes_rows() -> &'static [Row] {
+    CAUSES
+}
+
+pub fn assert_all(rt: &(impl Abort + AllocGlobal)) -> Result<(), AllocError> {
+    assert_rows(rt, served_rows())?;
+    assert_rows(rt, served_rows_2())?;
+    assert_rows(rt, causes_rows())
 }

@@ -44,16 +44,19 @@ const CALLS: &[Row] = &[
         words: DUMP,
         input: TWO_CALLS,
         pieces: &[(85, 61)],
-        takes: &[1],
+        take: Some(1),
         output: &[OPEN, FIRST, LINES],
         ..READ_FAULT
     },
+];
+
+const CALLS_2: &[Row] = &[
     Row {
         name: "a dump that is broken off by a put keeps the document before",
         words: DUMP,
         input: TWO_CALLS,
         pieces: &[(85, 0)],
-        puts: &[1],
+        put: Some(1),
         kept: 7,
         output: &[OPEN, FIRST, LINES, b"message"],
         ..WRITE_FAULT
@@ -78,7 +81,7 @@ const CALLS: &[Row] = &[
     },
     Row {
         name: "quotas are set by words: a session beyond its quota",
-        words: &["nettcp", "check", "--session", "23", "--static", "S"],
+        words: "nettcp check --session 23 --static S",
         pieces: WHOLE,
         status: 10,
         output: &[OPEN, b"offence frame 23 25 SessionTooLong\n"],
@@ -86,14 +89,14 @@ const CALLS: &[Row] = &[
     },
     Row {
         name: "quotas are set by words: a session at its quota",
-        words: &["nettcp", "check", "--session=24", "--static=S"],
+        words: "nettcp check --session=24 --static=S",
         pieces: WHOLE,
         ..CHECK
     },
     Row {
         name: "quotas are set by words: a payload of which nothing came",
         words: DUMP,
-        options: &["--payload", "65537"],
+        options: "--payload 65537",
         input: &[TOO_LARGE],
         pieces: WHOLE,
         output: &[OPEN, b"offence frame 23 24 Truncated\n"],
@@ -101,7 +104,7 @@ const CALLS: &[Row] = &[
     },
     Row {
         name: "the first word is not judged",
-        words: &["", "check", "--static", "S"],
+        words: " check --static S",
         pieces: WHOLE,
         ..CHECK
     },
@@ -149,6 +152,9 @@ const STREAMS: &[Row] = &[
         output: &[OPEN, b"offence frame 23 24 Truncated\n"],
         ..REFUSED
     },
+];
+
+const STREAMS_2: &[Row] = &[
     Row {
         name: "an upgrade where the preamble would end",
         input: &[b"\x00\x01\x00\x01\x02\x02\x0Dnet.tcp://h/e\x03\x08\x09"],
@@ -181,12 +187,25 @@ const STREAMS: &[Row] = &[
     },
 ];
 
-#[test]
-fn calls_are_reported_and_dumped(rt: HostRuntime) -> Result<(), Fail> {
-    assert_rows(&rt, CALLS)
+fn calls_rows() -> &'static [Row] {
+    CALLS
 }
 
-#[test]
-fn streams_are_reported_in_any_pieces(rt: HostRuntime) -> Result<(), Fail> {
-    assert_rows(&rt, STREAMS)
+fn calls_rows_2() -> &'static [Row] {
+    CALLS_2
+}
+
+fn streams_rows() -> &'static [Row] {
+    STREAMS
+}
+
+fn streams_rows_2() -> &'static [Row] {
+    STREAMS_2
+}
+
+pub fn assert_all(rt: &(impl Abort + AllocGlobal)) -> Result<(), AllocError> {
+    assert_rows(rt, calls_rows())?;
+    assert_rows(rt, calls_rows_2())?;
+    assert_rows(rt, streams_rows())?;
+    assert_rows(rt, streams_rows_2())
 }

@@ -44,6 +44,9 @@ const VALUES: &[Row] = &[
         output: &[PREAMBLE, b"\x06\x07\x02\x01x\x42\x01\x89\x05", END],
         ..VALUE
     },
+];
+
+const VALUES_2: &[Row] = &[
     Row {
         name: "values in the chosen spelling: 2^63",
         input: &[START, b"text number 9223372036854775808\n", CLOSE],
@@ -88,6 +91,9 @@ const VALUES: &[Row] = &[
         output: &[PREAMBLE, b"\x06\x07\x02\x01x\x42\x01\xAB\x01", END],
         ..VALUE
     },
+];
+
+const VALUES_3: &[Row] = &[
     Row {
         name: "values in the chosen spelling: a list",
         input: &[START, b"text list 1 number 0\n", CLOSE],
@@ -132,7 +138,7 @@ const VALUES: &[Row] = &[
             LONG,
             b"\"\nclose\nstart \"\" \"b\"\nclose\n",
         ],
-        long: (2_048, b"a"),
+        long: (2_048, b'a'),
         output: &[
             PREAMBLE,
             b"\x06\x87\x10\x82\x10\x80\x10",
@@ -145,7 +151,20 @@ const VALUES: &[Row] = &[
     },
 ];
 
-#[test]
-fn values_are_written_in_the_chosen_spelling(rt: HostRuntime) -> Result<(), Fail> {
-    assert_rows(&rt, VALUES)
+fn values_rows() -> &'static [Row] {
+    VALUES
+}
+
+fn values_rows_2() -> &'static [Row] {
+    VALUES_2
+}
+
+fn values_rows_3() -> &'static [Row] {
+    VALUES_3
+}
+
+pub fn assert_all(rt: &(impl Abort + AllocGlobal)) -> Result<(), AllocError> {
+    assert_rows(rt, values_rows())?;
+    assert_rows(rt, values_rows_2())?;
+    assert_rows(rt, values_rows_3())
 }

@@ -32,7 +32,7 @@ const QUOTAS: &[Row] = &[
     },
     Row {
         name: "elements at a greater depth quota",
-        options: &["--depth", "33"],
+        options: "--depth 33",
         input: &[
             PREAMBLE,
             b"\x06\x85\x01\x00",
@@ -87,6 +87,9 @@ const QUOTAS: &[Row] = &[
         output: &[PLAIN_OPEN, b"offence payload 0 96 20 TooDeep\n"],
         ..REFUSED
     },
+];
+
+const QUOTAS_2: &[Row] = &[
     Row {
         name: "five elements at the usual depth quota",
         input: &[
@@ -105,7 +108,7 @@ const QUOTAS: &[Row] = &[
     },
     Row {
         name: "five elements beyond a smaller depth quota",
-        options: &["--depth", "4"],
+        options: "--depth 4",
         input: &[
             PREAMBLE,
             b"\x06\x15\x00\x40\x01x\x40\x01x\x40\x01x\x40\x01x\x40",
@@ -125,7 +128,7 @@ const QUOTAS: &[Row] = &[
             b"\x06\x07\x02\x01",
             b"b\x40\x01x\x01",
         ],
-        long: (2_048, b"a"),
+        long: (2_048, b'a'),
         pieces: &[(65_536, 0), (1, 5)],
         output: &[
             OPEN,
@@ -136,7 +139,7 @@ const QUOTAS: &[Row] = &[
     },
     Row {
         name: "a greater dictionary quota",
-        options: &["--dictionary", "2049"],
+        options: "--dictionary 2049",
         input: &[
             PREAMBLE,
             b"\x06\x88\x10\x82\x10\x80\x10",
@@ -144,7 +147,7 @@ const QUOTAS: &[Row] = &[
             b"\x40\x01x\x01",
             b"\x06\x07\x02\x01b\x40\x01x\x01\x07",
         ],
-        long: (2_048, b"a"),
+        long: (2_048, b'a'),
         output: &[
             OPEN,
             b"message 0 payload 2056 items 2 depth 1 content 1 strings 1 used 2048\n",
@@ -155,12 +158,15 @@ const QUOTAS: &[Row] = &[
     },
     Row {
         name: "no dictionary",
-        options: &["--dictionary", "0"],
+        options: "--dictionary 0",
         input: &[PREAMBLE, b"\x06\x06\x02\x01", b"x\x42\x01\x01\x07"],
         pieces: &[(65_536, 0), (1, 5)],
         output: &[OPEN, b"offence payload 0 1 14 DictionaryFull\n"],
         ..REFUSED
     },
+];
+
+const QUOTAS_3: &[Row] = &[
     Row {
         name: "content within the usual quota",
         input: &[
@@ -170,7 +176,7 @@ const QUOTAS: &[Row] = &[
             b"\x42\x01\x42\x01\x42\x01",
             b"\x01\x01\x01\x07",
         ],
-        long: (2_000, b"a"),
+        long: (2_000, b'a'),
         output: &[
             OPEN,
             b"message 0 payload 2013 items 6 depth 3 content 6000 strings 1 used 2000\n",
@@ -181,7 +187,7 @@ const QUOTAS: &[Row] = &[
     Row {
         name: "content within the usual quota of small payloads",
         words: CHECK_ONE,
-        options: &["--payload=4096"],
+        options: "--payload=4096",
         input: &[
             PREAMBLE,
             b"\x06\xDD\x0F\xD2\x0F\xD0\x0F",
@@ -189,7 +195,7 @@ const QUOTAS: &[Row] = &[
             b"\x42\x01\x42\x01\x42\x01",
             b"\x01\x01\x01\x07",
         ],
-        long: (2_000, b"a"),
+        long: (2_000, b'a'),
         output: &[
             OPEN,
             b"message 0 payload 2013 items 6 depth 3 content 6000 strings 1 used 2000\n",
@@ -200,7 +206,7 @@ const QUOTAS: &[Row] = &[
     Row {
         name: "content at a quota",
         words: CHECK_ONE,
-        options: &["--payload=4096", "--content=6000"],
+        options: "--payload=4096 --content=6000",
         input: &[
             PREAMBLE,
             b"\x06\xDD\x0F\xD2\x0F\xD0\x0F",
@@ -208,7 +214,7 @@ const QUOTAS: &[Row] = &[
             b"\x42\x01\x42\x01\x42\x01",
             b"\x01\x01\x01\x07",
         ],
-        long: (2_000, b"a"),
+        long: (2_000, b'a'),
         output: &[
             OPEN,
             b"message 0 payload 2013 items 6 depth 3 content 6000 strings 1 used 2000\n",
@@ -219,7 +225,7 @@ const QUOTAS: &[Row] = &[
     Row {
         name: "content beyond a quota",
         words: CHECK_ONE,
-        options: &["--payload=4096", "--content=5999"],
+        options: "--payload=4096 --content=5999",
         input: &[
             PREAMBLE,
             b"\x06\xDD\x0F\xD2\x0F\xD0\x0F",
@@ -227,14 +233,27 @@ const QUOTAS: &[Row] = &[
             b"\x42\x01\x42\x01\x42\x01",
             b"\x01\x01\x01\x07",
         ],
-        long: (2_000, b"a"),
+        long: (2_000, b'a'),
         pieces: &[(65_536, 0), (1, 4)],
         output: &[OPEN, b"offence payload 0 2008 21 TooMuchContent\n"],
         ..REFUSED
     },
 ];
 
-#[test]
-fn streams_at_the_quotas(rt: HostRuntime) -> Result<(), Fail> {
-    assert_rows(&rt, QUOTAS)
+fn quotas_rows() -> &'static [Row] {
+    QUOTAS
+}
+
+fn quotas_rows_2() -> &'static [Row] {
+    QUOTAS_2
+}
+
+fn quotas_rows_3() -> &'static [Row] {
+    QUOTAS_3
+}
+
+pub fn assert_all(rt: &(impl Abort + AllocGlobal)) -> Result<(), AllocError> {
+    assert_rows(rt, quotas_rows())?;
+    assert_rows(rt, quotas_rows_2())?;
+    assert_rows(rt, quotas_rows_3())
 }

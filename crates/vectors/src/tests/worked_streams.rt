@@ -50,6 +50,9 @@ const READ: &[Row] = &[
         ],
         ..CHECK
     },
+];
+
+const READ_2: &[Row] = &[
     Row {
         name: "an envelope whose texts are session strings",
         input: &[
@@ -188,6 +191,9 @@ const NUMBERS: &[Row] = &[
         ],
         ..CHECK
     },
+];
+
+const NUMBERS_2: &[Row] = &[
     Row {
         name: "numbers of any width: 127",
         words: DUMP,
@@ -284,6 +290,9 @@ const REFUSED_VALUES: &[Row] = &[
         output: &[OPEN, b"offence payload 0 4 13 BadUtf8\n"],
         ..REFUSED
     },
+];
+
+const REFUSED_VALUES_2: &[Row] = &[
     Row {
         name: "values that may not be, without session strings: UTF-16 of an odd length",
         input: &[PLAIN_PREAMBLE, b"\x06\x08\x40\x01x\xB7\x03a\x00b"],
@@ -358,6 +367,9 @@ const REFUSED_NODES: &[Row] = &[
         output: &[PLAIN_OPEN, b"offence payload 0 3 15 UnknownNode\n"],
         ..REFUSED
     },
+];
+
+const REFUSED_NODES_2: &[Row] = &[
     Row {
         name: "nodes that may not be, without session strings: another that is none",
         input: &[PLAIN_PREAMBLE, b"\x06\x04\x40\x01x\xA5"],
@@ -400,6 +412,9 @@ const REFUSED_NODES: &[Row] = &[
         output: &[OPEN, b"offence payload 0 1 17 UnknownString\n"],
         ..REFUSED
     },
+];
+
+const REFUSED_NODES_3: &[Row] = &[
     Row {
         name: "identifiers of no string: of the static strings, without session strings",
         input: &[PLAIN_PREAMBLE, b"\x06\x03\x42\x7C", b"\x01\x07"],
@@ -441,14 +456,50 @@ const REFUSED_NODES: &[Row] = &[
     },
 ];
 
-#[test]
-fn documents_are_read(rt: HostRuntime) -> Result<(), Fail> {
-    assert_rows(&rt, READ)?;
-    assert_rows(&rt, NUMBERS)
+fn read_rows() -> &'static [Row] {
+    READ
 }
 
-#[test]
-fn payloads_that_offend(rt: HostRuntime) -> Result<(), Fail> {
-    assert_rows(&rt, REFUSED_VALUES)?;
-    assert_rows(&rt, REFUSED_NODES)
+fn read_rows_2() -> &'static [Row] {
+    READ_2
+}
+
+fn numbers_rows() -> &'static [Row] {
+    NUMBERS
+}
+
+fn numbers_rows_2() -> &'static [Row] {
+    NUMBERS_2
+}
+
+fn refused_values_rows() -> &'static [Row] {
+    REFUSED_VALUES
+}
+
+fn refused_values_rows_2() -> &'static [Row] {
+    REFUSED_VALUES_2
+}
+
+fn refused_nodes_rows() -> &'static [Row] {
+    REFUSED_NODES
+}
+
+fn refused_nodes_rows_2() -> &'static [Row] {
+    REFUSED_NODES_2
+}
+
+fn refused_nodes_rows_3() -> &'static [Row] {
+    REFUSED_NODES_3
+}
+
+pub fn assert_all(rt: &(impl Abort + AllocGlobal)) -> Result<(), AllocError> {
+    assert_rows(rt, read_rows())?;
+    assert_rows(rt, read_rows_2())?;
+    assert_rows(rt, numbers_rows())?;
+    assert_rows(rt, numbers_rows_2())?;
+    assert_rows(rt, refused_values_rows())?;
+    assert_rows(rt, refused_values_rows_2())?;
+    assert_rows(rt, refused_nodes_rows())?;
+    assert_rows(rt, refused_nodes_rows_2())?;
+    assert_rows(rt, refused_nodes_rows_3())
 }

@@ -1,5 +1,4 @@
-use Rattle.std.proofs.Common.{sym}
-use Rattle.action_dispatch.proofs.RowFacts.{entry_of-read}
+use Rattle.{std.proofs.Common.sym, action_dispatch.proofs.RowFacts.entry_of-read}
 use Rattle.action_dispatch.proofs.actions.entry_of.Goals as goal
 
 pub returns : goal.returns

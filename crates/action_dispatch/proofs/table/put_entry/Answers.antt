@@ -1,7 +1,5 @@
-use Rattle.std.proofs.Common.{◌∙◌, Ok, ap, sym}
-use Rattle.std.specs.Prelude.{is_some}
-use Rattle.action_dispatch.specs.Actions.{and_then}
-use Rattle.action_dispatch.specs.Inside.{texts_in}
+use Rattle.std.proofs.Common.{is_some, Ok, sym, ap, ◌∙◌}
+use Rattle.action_dispatch.specs.{Actions.and_then, Inside.texts_in}
 use Rattle.action_dispatch.proofs.TextFacts.{text_for-get, with_entry-again, with_entry-new}
 use Rattle.action_dispatch.proofs.table.put_entry.Goals as goal
 

@@ -1,7 +1,6 @@
-use Rattle.std.proofs.Common.{◌∙◌, ap, refl, string_bytes, ◌≡◌}
+use Rattle.std.proofs.Common.{◌≡◌, string_bytes, refl, ap, ◌∙◌}
 use Rattle.std.proofs.lemmas.Result.{IfOk-at_ok}
-use Rattle.action_dispatch.specs.Inside.{shown}
-use Rattle.action_dispatch.proofs.TextFacts.{shown-insert}
+use Rattle.action_dispatch.{specs.Inside.shown, proofs.TextFacts.shown-insert}
 use Rattle.action_dispatch.proofs.table.put_text.Goals as goal
 
 pub returns : goal.returns

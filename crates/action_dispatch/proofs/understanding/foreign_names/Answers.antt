@@ -1,6 +1,5 @@
-use Rattle.std.proofs.Common.{◌≡◌, ◌∙◌, sym}
-use Rattle.action_dispatch.specs.Answers.{known}
-use Rattle.action_dispatch.proofs.BlockFacts.{none_foreign}
+use Rattle.std.proofs.Common.{◌≡◌, sym, ◌∙◌}
+use Rattle.action_dispatch.{specs.Answers.known, proofs.BlockFacts.none_foreign}
 use Rattle.action_dispatch.proofs.understanding.foreign_names.Goals as goal
 
 pub returns-then-not-has_foreign : goal.returns-then-not-has_foreign

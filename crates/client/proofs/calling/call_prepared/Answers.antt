@@ -1,14 +1,10 @@
 use Rattle.std.proofs.Common.{List, map, ap, ◌∙◌}
+use Rattle.{stream_reader.specs.Stream.StreamEvent, session_report.specs.Saying.event_for}
 use Rattle.stream_loop.specs.Edges.{Input, input_at}
-use Rattle.stream_reader.specs.Stream.{StreamEvent}
-use Rattle.session_report.specs.Saying.{event_for}
-use Rattle.client.specs.declared.outcome.CallOutcome.{CallOutcome}
-use Rattle.client.specs.Called.{inbound_by}
-use Rattle.client.specs.Calling.{HasHeard}
-use Rattle.client.specs.Cuts.{sending_by}
-use Rattle.client.proofs.Called.{calls, followed_as, followed_to, reads_for}
-use Rattle.client.proofs.Judged.{knows}
-use Rattle.client.proofs.calling.call_prepared.Given.{Over}
+use Rattle.client.specs.{declared.outcome.CallOutcome.CallOutcome, Cuts.sending_by}
+use Rattle.client.specs.{Called.inbound_by, Calling.HasHeard}
+use Rattle.client.proofs.Ended.{calls, followed_as, followed_to, reads_for}
+use Rattle.client.proofs.{Judged.knows, calling.call_prepared.Given.Over}
 use Rattle.client.proofs.calling.call_prepared.Goals as goal
 
 module _ (g : Over) where

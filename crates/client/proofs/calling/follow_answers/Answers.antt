@@ -1,16 +1,12 @@
-use Rattle.std.proofs.Common.{rules, List, map, refl}
+use Rattle.std.proofs.Common.{List, map, refl, rules}
 use Rattle.unit_streams.specs.Judging.{events_in, events_of}
-use Rattle.stream_loop.specs.Edges.{Input, input_at}
-use Rattle.stream_loop.proofs.LoopSteps.{first_pending}
+use Rattle.stream_reader.specs.Stream.{ends, Settings, stream, StreamEvent}
 use Rattle.stream_reader.specs.StreamReaderState.{settings_of}
-use Rattle.stream_reader.specs.Stream.{Settings, StreamEvent, ends, stream}
-use Rattle.stream_follower.proofs.Taking.{unbegun}
-use Rattle.session_report.proofs.Streams.{ends_within}
-use Rattle.session_report.specs.Saying.{event_for}
-use Rattle.client.specs.Calling.{HasHeard}
-use Rattle.client.proofs.Called.{followed_as, reads_for}
-use Rattle.client.proofs.Hearing.{heard_first}
-use Rattle.client.proofs.calling.follow_answers.Given.{Over}
+use Rattle.stream_loop.proofs.{LoopSteps.first_pending, Taking.unbegun}
+use Rattle.stream_loop.specs.Edges.{Input, input_at}
+use Rattle.session_report.{proofs.Streams.ends_within, specs.Saying.event_for}
+use Rattle.client.{specs.Calling.HasHeard, proofs.Ended.followed_as, proofs.Ended.reads_for}
+use Rattle.client.proofs.{Hearing.heard_first, calling.follow_answers.Given.Over}
 use Rattle.client.proofs.calling.follow_answers.Goals as goal
 
 module _ (g : Over) where

@@ -1,16 +1,10 @@
-use Rattle.std.proofs.Common.{List, ap, map, refl}
-use Rattle.stream_loop.specs.Edges.{Input, input_at}
-use Rattle.stream_reader.specs.StreamReaderState.{settings_of}
-use Rattle.stream_reader.specs.Stream.{StreamEvent, stream}
-use Rattle.stream_follower.proofs.Counts.{heard_some}
-use Rattle.stream_follower.proofs.Taking.{follows_as}
-use Rattle.session_report.proofs.Streams.{ends_within}
-use Rattle.session_report.specs.Saying.{event_for}
-use Rattle.stream_follower.specs.declared.writing.Outbound.{Outbound}
-use Rattle.client.specs.Calling.{HasHeard, IsAlong}
-use Rattle.client.specs.declared.outgoing.Outgoing.{Outgoing}
-use Rattle.client.proofs.Hearing.{heard_first}
-use Rattle.client.proofs.calling.follow_end.Given.{Over}
+use Rattle.std.proofs.Common.{List, map, refl, ap}
+use Rattle.stream_reader.specs.{Stream.stream, Stream.StreamEvent, StreamReaderState.settings_of}
+use Rattle.stream_loop.proofs.{Counts.heard_some, Taking.follows_as}
+use Rattle.stream_loop.specs.{declared.outbound.Outbound.Outbound, Edges.Input, Edges.input_at}
+use Rattle.session_report.{proofs.Streams.ends_within, specs.Saying.event_for}
+use Rattle.client.specs.{declared.outgoing.Outgoing.Outgoing, Calling.HasHeard, Calling.IsAlong}
+use Rattle.client.proofs.{Hearing.heard_first, calling.follow_end.Given.Over}
 use Rattle.client.proofs.calling.follow_end.Goals as goal
 
 module _ (g : Over) where

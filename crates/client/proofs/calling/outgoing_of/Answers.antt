@@ -1,10 +1,7 @@
-use Rattle.std.proofs.Common.{List, sym, subst, ◌∙◌}
-use Rattle.std.proofs.lemmas.List.{take_all}
-use Rattle.nbfx_values.specs.declared.content.Item.{Item}
+use Rattle.std.proofs.Common.{List, sym, ◌∙◌, subst, take_all}
+use Rattle.{nbfx_values.specs.declared.content.Item.Item, client.proofs.Adding.one_taken}
 use Rattle.session_ends.specs.Sent.{MayBeSent}
-use Rattle.client.specs.declared.outgoing.CallSettings.{CallSettings}
-use Rattle.client.specs.Outgoing.{HasAdded}
-use Rattle.client.proofs.Adding.{one_taken}
+use Rattle.client.specs.{declared.outgoing.CallSettings.CallSettings, Outgoing.HasAdded}
 use Rattle.client.proofs.calling.outgoing_of.Goals as goal
 
 pub loop-doc-preserved : goal.loop-doc-preserved

@@ -1,5 +1,4 @@
-use Rattle.std.proofs.Common.{◌≡◌, take}
-use Rattle.client.specs.Outgoing.{HasAdded}
+use Rattle.{std.proofs.Common.◌≡◌, std.proofs.Common.take, client.specs.Outgoing.HasAdded}
 use Rattle.client.proofs.calling.outgoing_of.Given as goal
 
 abbrev pub invariant-loop-doc : goal.invariant-loop-doc

@@ -1,9 +1,7 @@
-use Rattle.std.proofs.Common.{ℕ, ◌+◌, List, take, get_or, refl, sym, ap, ◌∙◌, arith}
-use Rattle.std.proofs.lemmas.Bool.{le-leb, lt-leb}
-use Rattle.std.proofs.lemmas.List.{take_more}
-use Rattle.client.specs.Cuts.{whole_within}
-use Rattle.client.proofs.Made.{within_in, within_out}
-use Rattle.client.proofs.sending.whole_within.Goals.{then-end-put, else-end-put}
+use Rattle.std.proofs.Common.{ℕ, ◌+◌, List, get_or, take, sym, refl, ap, ◌∙◌, arith, le-leb}
+use Rattle.std.proofs.lemmas.{Bool.lt-leb, List.take_more}
+use Rattle.client.{specs.Cuts.whole_within, proofs.Made.within_in, proofs.Made.within_out}
+use Rattle.client.proofs.sending.whole_within.Goals.{else-end-put, then-end-put}
 use Rattle.client.proofs.sending.whole_within.Goals as goal
 
 pub loop-end-init : goal.loop-end-init

@@ -1,5 +1,4 @@
-use Rattle.std.proofs.Common.{refl}
-use Rattle.client.proofs.Opening.{flushes_out}
+use Rattle.{std.proofs.Common.refl, client.proofs.Opening.flushes_out}
 use Rattle.client.proofs.sending.write_bytes.Goals as goal
 
 pub returns : goal.returns

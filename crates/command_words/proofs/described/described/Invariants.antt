@@ -1,5 +1,4 @@
-use Rattle.std.proofs.Common.{◌≡◌, take}
-use Rattle.std.specs.Prelude.{fold}
+use Rattle.std.proofs.Common.{◌≡◌, take, fold}
 use Rattle.clap.specs.Simple.{app_of}
 use Rattle.command_words.specs.Commands.{options_of, word_of}
 use Rattle.command_words.specs.WordAnswers.{app_without_options, with_option}

@@ -1,8 +1,6 @@
-use Rattle.std.proofs.Common.{◌≡◌, subst, sym}
-use Rattle.command_words.specs.declared.option_name.OptionName.TheVariants.{Encoding}
-use Rattle.command_words.specs.WordAnswers.{found_values}
-use Rattle.command_words.specs.Requests.{IsOrigin}
-use Rattle.command_words.specs.Values.{IsKind}
+use Rattle.std.proofs.Common.{◌≡◌, sym, subst}
+use Rattle.command_words.specs.{declared.option_name.OptionName.TheVariants.Encoding, Values.IsKind}
+use Rattle.command_words.specs.{Requests.IsOrigin, WordAnswers.found_values}
 use Rattle.command_words.proofs.ValueFacts.{kind-one}
 use Rattle.command_words.proofs.judged.report_in.Goals as goal
 

@@ -1,6 +1,5 @@
-use Rattle.std.proofs.Common.{◌<◌, ◌^◌, arith}
-use Rattle.command_words.specs.Values.{text_behind}
-use Rattle.command_words.proofs.NumberFacts.{small-none}
+use Rattle.std.proofs.Common.{◌^◌, ◌<◌, arith}
+use Rattle.command_words.{specs.Values.text_behind, proofs.NumberFacts.small-none}
 use Rattle.command_words.proofs.number.small_or.Goals as goal
 
 pub returns-clause-none : goal.returns-clause-none

@@ -1,7 +1,6 @@
-use Rattle.std.proofs.Common.{◌≡◌, ◌<◌, ◌∙◌, ap, arith, inl, inr, length, slice_index_or, subst}
-use Rattle.std.proofs.Common.{sym, true≢false}
-use Rattle.std.proofs.lemmas.Bool.{cases_lt}
-use Rattle.std.proofs.lemmas.List.{get_or_default}
+use Rattle.std.proofs.Common.{◌≡◌, ◌<◌, length, slice_index_or, sym, ap, ◌∙◌, subst, inl, inr}
+use Rattle.std.proofs.Common.{true≢false, arith}
+use Rattle.std.proofs.lemmas.{Bool.cases_lt, List.get_or_default}
 use Rattle.command_words.specs.declared.option_name.OptionName.TheVariants.{Static}
 use Rattle.command_words.specs.WordAnswers.{found_values}
 use Rattle.command_words.proofs.parsed.have_values.Goals as goal

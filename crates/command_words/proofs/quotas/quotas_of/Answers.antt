@@ -1,10 +1,7 @@
-use Rattle.std.proofs.Common.{◌≡◌, ◌∙◌, ◌<◌, ◌^◌, ◌*◌, arith, ap, ap₂, subst, sym}
-use Rattle.std.specs.Prelude.{max}
+use Rattle.std.proofs.Common.{◌≡◌, ◌*◌, ◌^◌, ◌<◌, max, sym, ap, ◌∙◌, subst, ap₂, arith}
 use Rattle.nbfx_values.specs.Limits.{Limits, limits}
 use Rattle.command_words.specs.declared.option_name.OptionName.TheVariants.{Content}
-use Rattle.command_words.specs.WordAnswers.{found_values}
-use Rattle.command_words.specs.Requests.{usual_content}
-use Rattle.command_words.specs.Values.{IsNumber}
+use Rattle.command_words.specs.{Requests.usual_content, Values.IsNumber, WordAnswers.found_values}
 use Rattle.command_words.proofs.NumberFacts.{IsGood-content, limits-same, none-good, payload-same}
 use Rattle.command_words.proofs.quotas.quotas_of.Goals as goal
 

@@ -1,7 +1,5 @@
-use Rattle.std.proofs.Common.{◌∙◌, inl, inr, sym}
-use Rattle.std.proofs.lemmas.Bool.{cases_Bool}
-use Rattle.csv.specs.Reading.{has_failed}
-use Rattle.csv.specs.Records.{fields_of}
+use Rattle.std.proofs.{Common.sym, Common.◌∙◌, Common.inl, Common.inr, lemmas.Bool.cases_Bool}
+use Rattle.csv.specs.{Reading.has_failed, Records.fields_of}
 use Rattle.csv_rows.proofs.ReaderFacts.{failed-none, read-on}
 use Rattle.csv_rows.proofs.reader.read_row.Goals as goal
 

@@ -1,14 +1,11 @@
 use Rattle.std.proofs.Common.{◌∙◌, subst}
-use Rattle.nbfx_values.specs.QuotasOf.{limits_of}
-use Rattle.command_words.specs.Asking.{opening_of}
-use Rattle.command_words.specs.Tasks.{Opening}
-use Rattle.stream_loop.specs.Reported.{EndsAs}
-use Rattle.document_lines.specs.Input.{Settings, envelopes_and_end, lines_of_documents}
+use Rattle.{nbfx_values.specs.QuotasOf.limits_of, stream_loop.specs.Reported.EndsAs}
 use Rattle.document_lines.specs.DocumentReaderState.{has_good_quotas, settings_of}
+use Rattle.document_lines.specs.Input.{envelopes_and_end, lines_of_documents, Settings}
+use Rattle.command_words.specs.{Asking.opening_of, Tasks.Opening}
 use Rattle.dump_replay.specs.Building.{preamble_of, with_preamble}
-use Rattle.dump_replay.proofs.Beginnings.{ends_behind}
+use Rattle.dump_replay.proofs.{Beginnings.ends_behind, Seen.input_by, Seen.output_by}
 use Rattle.dump_replay.proofs.BuildEndings.{lines_end_within, unbegun}
-use Rattle.dump_replay.proofs.Seen.{input_by, output_by}
 use Rattle.dump_replay.proofs.building.build_input.Goals as goal
 
 pub returns-in_default : goal.returns-in_default

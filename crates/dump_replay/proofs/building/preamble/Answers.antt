@@ -1,7 +1,6 @@
-use Rattle.std.proofs.Common.{◌≤◌, ◌++◌, ◌∙◌, ℕ, List, ap, length, sym, subst}
+use Rattle.std.proofs.Common.{ℕ, ◌≤◌, List, ◌++◌, length, sym, ap, ◌∙◌, subst}
 use Rattle.command_words.specs.Asking.{opening_of}
-use Rattle.dump_replay.specs.Building.{preamble_of}
-use Rattle.dump_replay.proofs.BuildEndings.{preamble_short}
+use Rattle.dump_replay.{specs.Building.preamble_of, proofs.BuildEndings.preamble_short}
 use Rattle.dump_replay.proofs.building.preamble.Goals as goal
 
 pub returns-clause-short : goal.returns-clause-short

@@ -1,10 +1,8 @@
-use Rattle.std.proofs.Common.{[], ◌++◌, inl, length, ◌∙◌, subst}
+use Rattle.std.proofs.Common.{[], ◌++◌, length, ◌∙◌, subst, inl}
 use Rattle.io_edges.specs.Wires.{network_at}
 use Rattle.stream_loop.specs.Edges.{input_at, output_at}
-use Rattle.client.specs.declared.outgoing.CallSettings.{CallSettings}
-use Rattle.client.specs.Cuts.{sending_by}
-use Rattle.session_calls.specs.Places.{CallsPlace}
-use Rattle.session_calls.specs.Tags.{sent_line}
+use Rattle.client.specs.{declared.outgoing.CallSettings.CallSettings, Tags.sent_line}
+use Rattle.client.specs.{Cuts.sending_by, Places.CallsPlace}
 use Rattle.dump_replay.proofs.CallLeaves.{calls_out, calls_wire}
 use Rattle.dump_replay.proofs.calling.call_with.Goals as goal
 

@@ -1,13 +1,10 @@
-use Rattle.std.proofs.Common.{List, ℕ, Option, refl, subst}
-use Rattle.nbfx_values.specs.QuotasOf.{limits_of}
-use Rattle.command_words.specs.Asking.{serving_of}
-use Rattle.stream_follower.specs.declared.writing.Outbound.TheVariants as outbounds
-use Rattle.duplex_server.specs.declared.outcome.Inbound.TheVariants as inbounds
-use Rattle.duplex_server.specs.Owed.{answering}
-use Rattle.session_replay.specs.Replaying.{Replays}
-use Rattle.session_replay.specs.Responding.{served_by}
-use Rattle.session_replay.proofs.Outcomes.{unbegun_so}
+use Rattle.std.proofs.Common.{ℕ, List, Option, refl, subst}
+use Rattle.{nbfx_values.specs.QuotasOf.limits_of, command_words.specs.Asking.serving_of}
+use Rattle.duplex_server.proofs.Outcomes.{unbegun_so}
+use Rattle.duplex_server.specs.{Owed.answering, Replaying.Replays, Responding.served_by}
 use Rattle.dump_replay.proofs.Seen.{input_by, output_by}
+use Rattle.stream_loop.specs.declared.outbound.Outbound.TheVariants as outbounds
+use Rattle.duplex_server.specs.declared.outcome.Inbound.TheVariants as inbounds
 use Rattle.dump_replay.proofs.replaying.answer_input.Goals as goal
 
 -- there was no memory for the Via

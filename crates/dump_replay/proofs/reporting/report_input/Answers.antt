@@ -1,23 +1,16 @@
 use Rattle.std.proofs.Common.{ap, ◌∙◌, subst}
-use Rattle.nbfx_values.specs.QuotasOf.{limits_of}
-use Rattle.nbfx_values.specs.declared.refusals.Offence.{Offence}
-use Rattle.unit_streams.specs.Tellers.{Teller}
-use Rattle.stream_loop.specs.Answers.{written_by}
-use Rattle.stream_loop.specs.Reported.{EndsAs}
-use Rattle.stream_loop.specs.declared.reporting.Ending.TheVariants as endings
-use Rattle.stream_reader.specs.StreamReaderState.{settings_of}
-use Rattle.stream_reader.specs.Stream.{Settings, Side, StreamEvent, ends, stream}
-use Rattle.session_report.specs.declared.reporter.LineReporter.{LineReporter}
-use Rattle.session_report.specs.declared.reporter.Outcome.{Outcome}
-use Rattle.session_report.specs.declared.reporter.Outcome.TheVariants.{Open}
+use Rattle.{unit_streams.specs.Tellers.Teller, stream_reader.specs.StreamReaderState.settings_of}
+use Rattle.nbfx_values.specs.{declared.refusals.Offence.Offence, QuotasOf.limits_of}
+use Rattle.stream_reader.specs.Stream.{ends, Settings, Side, stream, StreamEvent}
+use Rattle.stream_loop.specs.{Answers.written_by, Reported.EndsAs}
+use Rattle.session_report.proofs.{Saying.lines_are, Streams.ends_within}
+use Rattle.session_report.specs.{declared.reporter.LineReporter.LineReporter, Report.lines_of}
+use Rattle.session_report.specs.declared.reporter.Outcome.{Outcome, TheVariants.Open}
 use Rattle.session_report.specs.Saying.{event_for, said_by}
-use Rattle.session_report.specs.Report.{lines_of}
 use Rattle.dump_replay.specs.Statics.{settings_for}
 use Rattle.dump_replay.proofs.Beginnings.{ends_under, not_begun}
-use Rattle.session_report.proofs.Saying.{lines_are}
-use Rattle.dump_replay.proofs.Seen.{input_by, output_by}
-use Rattle.dump_replay.proofs.Statuses.{reports_by}
-use Rattle.session_report.proofs.Streams.{ends_within}
+use Rattle.dump_replay.proofs.{Seen.input_by, Seen.output_by, Statuses.reports_by}
+use Rattle.stream_loop.specs.declared.reporting.Ending.TheVariants as endings
 use Rattle.dump_replay.proofs.reporting.report_input.Goals as goal
 
 pub returns-in_default : goal.returns-in_default

@@ -1,17 +1,12 @@
-use Rattle.std.proofs.Common.{◌≡◌, ℕ, ◌⊎◌, inl, inr, map, Err, refl, ap, sym, ◌∙◌, subst}
-use Rattle.std.specs.String.{string_bytes}
-use Rattle.io_edges.specs.Faults.{Rose}
-use Rattle.command_words.specs.Asking.{asked_of}
-use Rattle.dump_replay.specs.Outside.{Outside, SeenShelf, seen}
-use Rattle.dump_replay.specs.Running.{files_of}
-use Rattle.dump_replay.specs.Working.{Works}
-use Rattle.dump_replay.proofs.Complete.{completes}
+use Rattle.std.proofs.Common.{◌≡◌, ℕ, ◌⊎◌, map, Err, string_bytes, sym, refl, ap, ◌∙◌, subst, inl}
+use Rattle.{std.proofs.Common.inr, io_edges.specs.Faults.Rose, command_words.specs.Asking.asked_of}
+use Rattle.dump_replay.specs.Outside.{Outside, seen, SeenShelf}
+use Rattle.dump_replay.specs.{Running.files_of, Working.Works}
+use Rattle.dump_replay.proofs.{Complete.completes, RunSteps.words_two}
 use Rattle.dump_replay.proofs.RunSteps.{fetched_first, fetched_more, not_read, possible, same_shelf}
-use Rattle.dump_replay.proofs.RunSteps.{words_two}
-use Rattle.dump_replay.proofs.Seen.{Says, input_by, network_by, output_by, seen_by, shelf_by}
-use Rattle.dump_replay.proofs.run.run.Given.{Over}
+use Rattle.dump_replay.proofs.Seen.{input_by, network_by, output_by, Says, seen_by, shelf_by}
+use Rattle.dump_replay.proofs.run.run.{Given.Over, Goals.After-drop-table-inside-5}
 use Rattle.dump_replay.proofs.run.run.Goals as goal
-use Rattle.dump_replay.proofs.run.run.Goals.{After-drop-table-inside-3}
 
 module _ (g : Over) where
   abbrev all : g.row.F.Denot → g.row.I.Denot → g.row.O.Denot → g.row.W.Denot
@@ -86,7 +81,7 @@ work-status-requires-clause-possible g c = λ κs lives.
     possible (map string_bytes c.args.words.now) (asked_of c.in-Ok.request)
     c.in-Ok.ensures.understood
 
-module _ (g : Over) (c : After-drop-table-inside-3 g) where
+module _ (g : Over) (c : After-drop-table-inside-5 g) where
   -- the shelf is seen as before the file of static strings was fetched
   same : shelf_by g.F.Shelf c.read_statics.new.shelf ≡ shelf_by g.F.Shelf c.args.shelf.now
   same = same_shelf g.F.Shelf.files g.F.Shelf.faults c.args.shelf.now c.read_statics.new.shelf

@@ -1,17 +1,11 @@
-use Rattle.std.proofs.Common.{◌≡◌, ℕ, List, Option, Err, inl, refl, ap, subst}
-use Rattle.nbfx_values.specs.QuotasOf.{limits_of}
-use Rattle.stream_loop.specs.Edges.{Output}
-use Rattle.stream_reader.specs.Sides.{endpoint_of}
-use Rattle.duplex_server.specs.Owed.{answering}
-use Rattle.session_replay.specs.Responding.{served_by}
-use Rattle.connection_server.specs.declared.stopping.ServeFault.TheVariants as stops
-use Rattle.connection_server.specs.Served.{Ends, ServesAll}
-use Rattle.connection_server.proofs.Stops.{none_served}
-use Rattle.command_words.specs.Asking.{serving_of}
-use Rattle.dump_replay.specs.Outside.{ends_seen}
+use Rattle.std.proofs.Common.{◌≡◌, ℕ, List, Err, Option, refl, ap, subst, inl}
+use Rattle.{nbfx_values.specs.QuotasOf.limits_of, stream_loop.specs.Edges.Output}
+use Rattle.{stream_reader.specs.Sides.endpoint_of, dump_replay.specs.Outside.ends_seen}
+use Rattle.{command_words.specs.Asking.serving_of, duplex_server.proofs.Stops.none_served}
+use Rattle.duplex_server.specs.{Owed.answering, Responding.served_by, Served.Ends, Served.ServesAll}
 use Rattle.dump_replay.proofs.Seen.{input_by, network_by, output_by}
-use Rattle.dump_replay.proofs.ServeEnds.{served_less}
-use Rattle.dump_replay.proofs.serving.serve_wire.Given.{Over}
+use Rattle.dump_replay.proofs.{ServeEnds.served_less, serving.serve_wire.Given.Over}
+use Rattle.duplex_server.specs.declared.stopping.ServeFault.TheVariants as stops
 use Rattle.dump_replay.proofs.serving.serve_wire.Goals as goal
 
 module _ (g : Over) where

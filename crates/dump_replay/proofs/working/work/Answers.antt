@@ -1,12 +1,10 @@
-use Rattle.std.proofs.Common.{◌≡◌, inl, inr, refl, sym, subst}
+use Rattle.std.proofs.Common.{◌≡◌, sym, refl, subst, inl, inr}
 use Rattle.nbfx_values.specs.QuotasOf.{limits_of}
 use Rattle.command_words.specs.Asking.{opening_of, serving_of}
-use Rattle.dump_replay.specs.Outside.{seen}
-use Rattle.dump_replay.specs.Working.{Leaves}
+use Rattle.dump_replay.specs.{Outside.seen, Working.Leaves}
 use Rattle.dump_replay.proofs.CallLeaves.{calls_leaves, second_leaves}
-use Rattle.dump_replay.proofs.RunSteps.{serve_works}
-use Rattle.dump_replay.proofs.Seen.{Says, input_by, network_by, output_by, seen_by, shelf_by}
-use Rattle.dump_replay.proofs.Works.{file_leaves, serve_leaves}
+use Rattle.dump_replay.proofs.{RunSteps.serve_works, Works.file_leaves, Works.serve_leaves}
+use Rattle.dump_replay.proofs.Seen.{input_by, network_by, output_by, Says, seen_by, shelf_by}
 use Rattle.dump_replay.proofs.working.work.Goals as goal
 
 pub returns-in-Serve-clause-leaves : goal.returns-in-Serve-clause-leaves

@@ -1,11 +1,9 @@
-use Rattle.std.proofs.Common.{◌∙◌, sym, ap, get_or, take, refl}
-use Rattle.std.proofs.lemmas.Bool.{le-leb, lt-leb}
-use Rattle.std.proofs.lemmas.List.{take_more}
-use Rattle.io_edges.specs.Faults.{one_more}
-use Rattle.duplex_server.specs.Replying.{answers_within}
+use Rattle.std.proofs.Common.{get_or, take, sym, refl, ap, ◌∙◌, le-leb}
+use Rattle.std.proofs.lemmas.{Bool.lt-leb, List.take_more}
+use Rattle.{io_edges.specs.Faults.one_more, duplex_server.specs.Replying.answers_within}
 use Rattle.duplex_server.proofs.Within.{within_in, within_out}
+use Rattle.duplex_server.proofs.counting.answers_within.Goals.{else-end-put, then-end-put}
 use Rattle.duplex_server.proofs.counting.answers_within.Goals as goal
-use Rattle.duplex_server.proofs.counting.answers_within.Goals.{then-end-put, else-end-put}
 
 pub loop-end-init : goal.loop-end-init
 unfolding answers_within

@@ -1,18 +1,14 @@
-use Rattle.std.proofs.Common.{List, ap, ◌∙◌, map}
+use Rattle.std.proofs.Common.{List, map, ap, ◌∙◌}
 use Rattle.unit_streams.specs.Judging.{events_in, events_of}
 use Rattle.nbfx_values.specs.QuotasOf.{limits_of}
+use Rattle.stream_reader.specs.{declared.side.Endpoint.Endpoint, Sides.endpoint_of}
+use Rattle.stream_reader.specs.Stream.{ends, Settings, stream, StreamEvent}
+use Rattle.stream_loop.proofs.{LoopSteps.first_pending, Taking.unbegun}
 use Rattle.stream_loop.specs.Edges.{Input, input_at}
-use Rattle.stream_loop.proofs.LoopSteps.{first_pending}
-use Rattle.stream_reader.specs.declared.side.Endpoint.{Endpoint}
-use Rattle.stream_reader.specs.Sides.{endpoint_of}
-use Rattle.stream_reader.specs.Stream.{Settings, StreamEvent, ends, stream}
 use Rattle.receiver_machine.specs.ReceiverState.{has_good_quotas, settings_of}
-use Rattle.stream_follower.proofs.Taking.{unbegun}
 use Rattle.duplex_server.specs.Owed.{Answering, answering, requests_to}
-use Rattle.duplex_server.specs.Replying.{HasHeard, answering_of}
-use Rattle.duplex_server.specs.Requests.{request_for}
-use Rattle.duplex_server.proofs.Served.{followed_as}
-use Rattle.duplex_server.proofs.Streams.{ends_within}
+use Rattle.duplex_server.specs.{Replying.answering_of, Replying.HasHeard, Requests.request_for}
+use Rattle.duplex_server.proofs.{Served.followed_as, Streams.ends_within}
 use Rattle.duplex_server.proofs.serving.follow_requests.Given.{Over}
 use Rattle.duplex_server.proofs.serving.follow_requests.Goals as goal
 

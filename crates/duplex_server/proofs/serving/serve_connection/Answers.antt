@@ -1,15 +1,12 @@
-use Rattle.std.proofs.Common.{◌≡◌, List, refl, sym, ap, ◌∙◌, map}
+use Rattle.std.proofs.Common.{◌≡◌, List, map, sym, refl, ap, ◌∙◌}
 use Rattle.nbfx_values.specs.QuotasOf.{limits_of}
+use Rattle.stream_reader.specs.{Sides.endpoint_of, Stream.StreamEvent}
 use Rattle.stream_loop.specs.Edges.{Input, input_at}
-use Rattle.stream_reader.specs.Sides.{endpoint_of}
-use Rattle.stream_reader.specs.Stream.{StreamEvent}
-use Rattle.duplex_server.specs.declared.outcome.Outcome.{Outcome}
+use Rattle.duplex_server.specs.{declared.outcome.Outcome.Outcome, Requests.request_for}
 use Rattle.duplex_server.specs.Owed.{Answering, answering, messages_along, start}
-use Rattle.duplex_server.specs.Replying.{HasHeard, answering_of}
-use Rattle.duplex_server.specs.Requests.{request_for}
-use Rattle.duplex_server.proofs.Heard.{answered_first}
+use Rattle.duplex_server.specs.Replying.{answering_of, HasHeard}
+use Rattle.duplex_server.proofs.{Heard.answered_first, serving.serve_connection.Given.Over}
 use Rattle.duplex_server.proofs.Served.{served, serves}
-use Rattle.duplex_server.proofs.serving.serve_connection.Given.{Over}
 use Rattle.duplex_server.proofs.serving.serve_connection.Goals as goal
 
 module _ (g : Over) where

@@ -1,9 +1,7 @@
-use Rattle.nbfx_values.specs.QuotasOf.{limits_of}
-use Rattle.stream_loop.specs.Edges.{Input, input_at}
+use Rattle.{nbfx_values.specs.QuotasOf.limits_of, duplex_server.specs.Owed.answering}
 use Rattle.stream_reader.specs.Sides.{endpoint_of}
-use Rattle.duplex_server.specs.Owed.{answering}
-use Rattle.duplex_server.proofs.Judged.{judges, owes}
-use Rattle.duplex_server.proofs.serving.serve_one.Given.{Over}
+use Rattle.stream_loop.specs.Edges.{Input, input_at}
+use Rattle.duplex_server.proofs.{Judged.judges, Judged.owes, serving.serve_one.Given.Over}
 use Rattle.duplex_server.proofs.serving.serve_one.Goals as goal
 
 module _ (g : Over) where

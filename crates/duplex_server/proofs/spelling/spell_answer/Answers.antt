@@ -1,10 +1,8 @@
-use Rattle.std.proofs.Common.{rules, ◌≡◌, List, ℕ, OnErr, Result, subst}
-use Rattle.nbfx_encoder.specs.declared.sender.SendState.TheVariants.{Ready}
-use Rattle.nbfx_encoder.specs.Placing.{Placed}
+use Rattle.std.proofs.Common.{◌≡◌, ℕ, List, OnErr, Result, subst, rules}
+use Rattle.nbfx_encoder.specs.{declared.sender.SendState.TheVariants.Ready, Placing.Placed}
 use Rattle.nbfx_encoder.specs.Sending.{kind_in, limits_in, mode_in, names_in, state_in}
-use Rattle.nbfx_encoder.specs.Spelling.{Unfit, encoded}
-use Rattle.action_dispatch.specs.Refusals.{unfit_fault}
-use Rattle.duplex_server.proofs.Spelled.{second_try}
+use Rattle.nbfx_encoder.specs.Spelling.{encoded, Unfit}
+use Rattle.{action_dispatch.specs.Refusals.unfit_fault, duplex_server.proofs.Spelled.second_try}
 use Rattle.duplex_server.proofs.spelling.spell_answer.Goals as goal
 
 pub returns-clause-spells : goal.returns-clause-spells

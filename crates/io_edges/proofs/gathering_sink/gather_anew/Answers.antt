@@ -1,6 +1,5 @@
-use Rattle.std.proofs.Common.{[]}
-use Rattle.std.proofs.lemmas.Result.{err_from_is_err_and}
-use Rattle.io_edges.proofs.Putting.{PutsAll-then, PutsAll-cut, beside_no_room}
+use Rattle.std.proofs.{Common.[], lemmas.Result.err_from_is_err_and}
+use Rattle.io_edges.proofs.Putting.{beside_no_room, PutsAll-cut, PutsAll-then}
 use Rattle.io_edges.proofs.gathering_sink.gather_anew.Goals as goal
 
 pub returns-in_err-put_gathered-clause-adds : goal.returns-in_err-put_gathered-clause-adds

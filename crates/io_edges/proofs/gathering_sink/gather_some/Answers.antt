@@ -1,5 +1,4 @@
-use Rattle.std.proofs.Common.{take}
-use Rattle.std.proofs.lemmas.Result.{err_from_is_err_and}
+use Rattle.std.proofs.{Common.take, lemmas.Result.err_from_is_err_and}
 use Rattle.io_edges.proofs.Putting.{none_of, some_behind}
 use Rattle.io_edges.proofs.gathering_sink.gather_some.Goals as goal
 

@@ -1,6 +1,5 @@
 use Rattle.std.proofs.Common.{◌≡◌, ◌-◌, length, take, drop, arith}
-use Rattle.std.proofs.lemmas.Grind.{common_steps}
-use Rattle.io_edges.proofs.Pieces.{appends_further}
+use Rattle.{std.proofs.lemmas.Grind.common_steps, io_edges.proofs.Pieces.appends_further}
 use Rattle.io_edges.proofs.write_sink.write_whole.Goals as goal
 
 pub loop-at-preserved : goal.loop-at-preserved

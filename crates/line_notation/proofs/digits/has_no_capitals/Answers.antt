@@ -1,5 +1,4 @@
-use Rattle.std.proofs.Common.{sym}
-use Rattle.std.proofs.lemmas.List.Folds.{list_all_more}
+use Rattle.std.proofs.{Common.sym, lemmas.List.Folds.list_all_more}
 use Rattle.line_notation.specs.Parts.{is_no_capital}
 use Rattle.line_notation.proofs.digits.has_no_capitals.Goals as goal
 

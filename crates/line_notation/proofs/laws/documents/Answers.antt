@@ -1,7 +1,5 @@
-use Rattle.std.proofs.Common.{ap}
-use Rattle.line_notation.specs.LineReaderState.{ending}
-use Rattle.line_notation.proofs.LinesAre.{read-documents}
-use Rattle.line_notation.proofs.LinesRead.{documents-read}
+use Rattle.{std.proofs.Common.ap, line_notation.specs.LineReaderState.ending}
+use Rattle.line_notation.proofs.{LinesAre.read-documents, LinesRead.documents-read}
 use Rattle.line_notation.proofs.laws.documents.Goals as goal
 
 pub returns : goal.returns

@@ -1,7 +1,6 @@
 use Rattle.std.proofs.Common.{◌≡◌, List, Ok, refl, subst}
-use Rattle.nbfx_values.specs.declared.content.Item.{Item}
-use Rattle.nbfx_values.specs.Positions.{position_of}
 use Rattle.nbfx_values.proofs.Walks.{position_of-document}
+use Rattle.nbfx_values.specs.{declared.content.Item.Item, Positions.position_of}
 use Rattle.line_notation.specs.LineReaderState.{ends, placed_at}
 use Rattle.line_notation.proofs.PlacingFacts.{place-ends}
 use Rattle.line_notation.proofs.placing.place_item.Goals as goal

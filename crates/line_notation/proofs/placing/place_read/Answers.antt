@@ -1,7 +1,6 @@
-use Rattle.std.proofs.Common.{◌∙◌, ap, refl, Some}
+use Rattle.std.proofs.Common.{Some, refl, ap, ◌∙◌}
 use Rattle.std.proofs.lemmas.Result.{err_from_is_err_and}
-use Rattle.line_notation.proofs.HeldFacts.{behind-held}
-use Rattle.line_notation.proofs.PlacingFacts.{behind-stops}
+use Rattle.line_notation.proofs.{HeldFacts.behind-held, PlacingFacts.behind-stops}
 use Rattle.line_notation.proofs.placing.place_read.Goals as goal
 
 pub returns-in_err-read_behind : goal.returns-in_err-read_behind

@@ -1,5 +1,4 @@
-use Rattle.std.proofs.Common.{arith}
-use Rattle.std.proofs.lemmas.Result.{err_from_is_err_and}
+use Rattle.std.proofs.{Common.arith, lemmas.Result.err_from_is_err_and}
 use Rattle.line_notation.proofs.PlacingFacts.{outcome-behind, outcome-stops}
 use Rattle.line_notation.proofs.placing.read_placed.Goals as goal
 

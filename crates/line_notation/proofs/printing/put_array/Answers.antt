@@ -1,7 +1,6 @@
 use Rattle.std.proofs.lemmas.Result.{err_from_is_err_and}
-use Rattle.line_notation.proofs.PrintFacts.{array_text}
-use Rattle.io_edges.proofs.Putting.{PutsAll-then, PutsAll-cut}
-use Rattle.line_notation.proofs.ValidFacts.{array_parts}
+use Rattle.io_edges.proofs.Putting.{PutsAll-cut, PutsAll-then}
+use Rattle.line_notation.proofs.{PrintFacts.array_text, ValidFacts.array_parts}
 use Rattle.line_notation.proofs.printing.put_array.Goals as goal
 
 pub returns-in_err-put_array_start : goal.returns-in_err-put_array_start

@@ -1,8 +1,7 @@
-use Rattle.std.proofs.lemmas.Result.{err_from_is_err_and}
+use Rattle.std.proofs.lemmas.{List.Folds.flat_map-map, Result.err_from_is_err_and}
 use Rattle.line_notation.specs.Lines.{attribute_form, form_text}
-use Rattle.std.proofs.lemmas.List.Folds.{flat_map-map}
-use Rattle.line_notation.proofs.PutsFacts.{HavePut-item, HavePut-item_cut, HavePut-list}
-use Rattle.line_notation.proofs.PutsFacts.{HavePut-none, flat_map-joins}
+use Rattle.line_notation.proofs.PutsFacts.{flat_map-joins, HavePut-item, HavePut-item_cut}
+use Rattle.line_notation.proofs.PutsFacts.{HavePut-list, HavePut-none}
 use Rattle.line_notation.proofs.printing.put_array_attributes.Goals as goal
 
 pub returns-in_err-put_array_attribute : goal.returns-in_err-put_array_attribute

@@ -1,8 +1,7 @@
 use Rattle.std.proofs.lemmas.Result.{err_from_is_err_and}
-use Rattle.line_notation.specs.Lines.{item_text}
-use Rattle.line_notation.proofs.PrintFacts.{text-items}
-use Rattle.line_notation.proofs.PutsFacts.{HavePut-item, HavePut-item_cut, HavePut-list}
-use Rattle.line_notation.proofs.PutsFacts.{HavePut-none, flat_map-joins}
+use Rattle.line_notation.{specs.Lines.item_text, proofs.PrintFacts.text-items}
+use Rattle.line_notation.proofs.PutsFacts.{flat_map-joins, HavePut-item, HavePut-item_cut}
+use Rattle.line_notation.proofs.PutsFacts.{HavePut-list, HavePut-none}
 use Rattle.line_notation.proofs.printing.put_items.Goals as goal
 
 pub returns-in_err-put_item : goal.returns-in_err-put_item

@@ -1,6 +1,5 @@
 use Rattle.std.proofs.Common.{drop, flat_map}
-use Rattle.line_notation.specs.Lines.{item_text}
-use Rattle.line_notation.proofs.PutsFacts.{HavePut}
+use Rattle.line_notation.{specs.Lines.item_text, proofs.PutsFacts.HavePut}
 use Rattle.line_notation.proofs.printing.put_items.Given as goal
 
 abbrev pub invariant-loop-item : goal.invariant-loop-item

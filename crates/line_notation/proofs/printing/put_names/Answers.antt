@@ -1,8 +1,6 @@
-use Rattle.std.proofs.Common.{◌∙◌}
-use Rattle.std.proofs.lemmas.Result.{err_from_is_err_and}
-use Rattle.io_edges.proofs.Putting.{PutsAll-then, PutsAll-cut}
-use Rattle.line_notation.specs.Forms.{keyword_word}
-use Rattle.line_notation.proofs.PrintFacts.{two_quoted}
+use Rattle.std.proofs.{Common.◌∙◌, lemmas.Result.err_from_is_err_and}
+use Rattle.io_edges.proofs.Putting.{PutsAll-cut, PutsAll-then}
+use Rattle.line_notation.{specs.Forms.keyword_word, proofs.PrintFacts.two_quoted}
 use Rattle.line_notation.proofs.printing.put_names.Goals as goal
 
 pub returns-in_err-put_bytes : goal.returns-in_err-put_bytes

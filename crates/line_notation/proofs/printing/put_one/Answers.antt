@@ -1,6 +1,5 @@
-use Rattle.std.proofs.Common.{◌∙◌, append-nil}
-use Rattle.std.proofs.lemmas.Result.{err_from_is_err_and}
-use Rattle.io_edges.proofs.Putting.{PutsAll-then, PutsAll-cut}
+use Rattle.std.proofs.{Common.◌∙◌, Common.append-nil, lemmas.Result.err_from_is_err_and}
+use Rattle.io_edges.proofs.Putting.{PutsAll-cut, PutsAll-then}
 use Rattle.line_notation.specs.Puts.{spaced_word}
 use Rattle.line_notation.proofs.printing.put_one.Goals as goal
 

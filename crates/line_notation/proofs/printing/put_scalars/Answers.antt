@@ -1,6 +1,5 @@
 use Rattle.std.proofs.lemmas.Result.{err_from_is_err_and}
-use Rattle.line_notation.specs.Scalars.{scalar_words}
-use Rattle.line_notation.specs.Words.{behind_spaces}
+use Rattle.line_notation.specs.{Scalars.scalar_words, Words.behind_spaces}
 use Rattle.line_notation.proofs.PrintFacts.{behind_spaces-scalars}
 use Rattle.line_notation.proofs.PutsFacts.{HavePut-item, HavePut-item_cut, HavePut-list}
 use Rattle.line_notation.proofs.printing.put_scalars.Goals as goal

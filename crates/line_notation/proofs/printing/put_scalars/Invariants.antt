@@ -1,6 +1,5 @@
 use Rattle.std.proofs.Common.{drop, flat_map}
-use Rattle.line_notation.specs.Scalars.{scalar_words}
-use Rattle.line_notation.specs.Words.{behind_spaces}
+use Rattle.line_notation.specs.{Scalars.scalar_words, Words.behind_spaces}
 use Rattle.line_notation.proofs.PutsFacts.{HavePut}
 use Rattle.line_notation.proofs.printing.put_scalars.Given as goal
 

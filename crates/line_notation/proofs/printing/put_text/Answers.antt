@@ -1,6 +1,5 @@
-use Rattle.std.proofs.Common.{◌∷◌, [], ◌∙◌}
-use Rattle.std.proofs.lemmas.Result.{err_from_is_err_and}
-use Rattle.io_edges.proofs.Putting.{PutsAll-then, PutsAll-cut}
+use Rattle.std.proofs.{Common.[], Common.◌∷◌, Common.◌∙◌, lemmas.Result.err_from_is_err_and}
+use Rattle.io_edges.proofs.Putting.{PutsAll-cut, PutsAll-then}
 use Rattle.line_notation.proofs.printing.put_text.Goals as goal
 
 pub returns-in_err-put_bytes : goal.returns-in_err-put_bytes

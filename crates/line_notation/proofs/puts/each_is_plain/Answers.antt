@@ -1,5 +1,4 @@
-use Rattle.std.proofs.Common.{sym}
-use Rattle.std.proofs.lemmas.List.Folds.{list_all_more}
+use Rattle.std.proofs.{Common.sym, lemmas.List.Folds.list_all_more}
 use Rattle.line_notation.specs.Quoted.{is_plain}
 use Rattle.line_notation.proofs.puts.each_is_plain.Goals as goal
 

@@ -1,5 +1,4 @@
-use Rattle.std.proofs.Common.{◌≡◌, take}
-use Rattle.std.specs.List.{list_all}
+use Rattle.std.{proofs.Common.◌≡◌, proofs.Common.take, specs.List.list_all}
 use Rattle.line_notation.specs.Quoted.{is_plain}
 use Rattle.line_notation.proofs.puts.each_is_plain.Given as goal
 

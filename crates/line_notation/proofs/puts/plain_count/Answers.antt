@@ -1,6 +1,5 @@
-use Rattle.std.proofs.Common.{◌∙◌, ◌+◌, ap, length, take_while}
-use Rattle.line_notation.specs.Quoted.{is_plain}
-use Rattle.line_notation.proofs.QuotedFacts.{plain-behind}
+use Rattle.std.proofs.Common.{◌+◌, length, take_while, ap, ◌∙◌}
+use Rattle.line_notation.{specs.Quoted.is_plain, proofs.QuotedFacts.plain-behind}
 use Rattle.line_notation.proofs.puts.plain_count.Goals as goal
 
 pub returns : goal.returns

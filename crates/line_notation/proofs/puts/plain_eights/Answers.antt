@@ -1,7 +1,6 @@
-use Rattle.std.proofs.Common.{◌≡◌, ◌∙◌, ◌+◌, ◌-◌, arith, drop, sym, take, true}
+use Rattle.std.proofs.Common.{◌≡◌, ◌+◌, ◌-◌, true, take, drop, sym, ◌∙◌, arith}
 use Rattle.std.specs.List.{list_all}
-use Rattle.line_notation.specs.Quoted.{is_plain}
-use Rattle.line_notation.proofs.QuotedFacts.{more-plain}
+use Rattle.line_notation.{specs.Quoted.is_plain, proofs.QuotedFacts.more-plain}
 use Rattle.line_notation.proofs.puts.plain_eights.Goals as goal
 
 pub loop-count-preserved : goal.loop-count-preserved

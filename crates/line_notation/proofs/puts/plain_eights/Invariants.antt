@@ -1,6 +1,5 @@
-use Rattle.std.proofs.Common.{◌≡◌, ◌≤◌, ◌-◌, length, take, true}
-use Rattle.std.specs.List.{list_all}
-use Rattle.line_notation.specs.Quoted.{is_plain}
+use Rattle.std.proofs.Common.{◌≡◌, ◌-◌, ◌≤◌, true, length, take}
+use Rattle.{std.specs.List.list_all, line_notation.specs.Quoted.is_plain}
 use Rattle.line_notation.proofs.puts.plain_eights.Given as goal
 
 abbrev pub invariant-loop-count : goal.invariant-loop-count

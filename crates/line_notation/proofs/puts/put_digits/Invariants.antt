@@ -1,5 +1,4 @@
-use Rattle.std.proofs.Common.{length}
-use Rattle.hex.specs.Hex.{encode_lower}
+use Rattle.{std.proofs.Common.length, hex.specs.Hex.encode_lower}
 use Rattle.line_notation.proofs.PutsFacts.{HavePut}
 use Rattle.line_notation.proofs.puts.put_digits.Given as goal
 

@@ -1,5 +1,4 @@
-use Rattle.std.proofs.lemmas.Result.{err_from_is_err_and}
-use Rattle.line_notation.specs.Puts.{word_bytes}
+use Rattle.{std.proofs.lemmas.Result.err_from_is_err_and, line_notation.specs.Puts.word_bytes}
 use Rattle.line_notation.proofs.PutsFacts.{HavePut-one, HavePut-one_cut}
 use Rattle.line_notation.proofs.puts.put_joined.Goals as goal
 

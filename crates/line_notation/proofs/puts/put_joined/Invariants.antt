@@ -1,6 +1,5 @@
 use Rattle.std.proofs.Common.{drop, flat_map}
-use Rattle.line_notation.specs.Puts.{word_bytes}
-use Rattle.line_notation.proofs.PutsFacts.{HavePut}
+use Rattle.line_notation.{specs.Puts.word_bytes, proofs.PutsFacts.HavePut}
 use Rattle.line_notation.proofs.puts.put_joined.Given as goal
 
 abbrev pub invariant-loop-word : goal.invariant-loop-word

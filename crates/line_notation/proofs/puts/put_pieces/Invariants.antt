@@ -1,6 +1,5 @@
 use Rattle.std.proofs.Common.{length, flat_map}
-use Rattle.line_notation.specs.Quoted.{quoted_byte}
-use Rattle.line_notation.proofs.PutsFacts.{HavePut}
+use Rattle.line_notation.{specs.Quoted.quoted_byte, proofs.PutsFacts.HavePut}
 use Rattle.line_notation.proofs.puts.put_pieces.Given as goal
 
 abbrev pub invariant-loop-rest : goal.invariant-loop-rest

@@ -1,5 +1,4 @@
-use Rattle.std.proofs.lemmas.Result.{err_from_is_err_and}
-use Rattle.line_notation.specs.Puts.{spaced_word}
+use Rattle.{std.proofs.lemmas.Result.err_from_is_err_and, line_notation.specs.Puts.spaced_word}
 use Rattle.line_notation.proofs.PutsFacts.{HavePut-one, HavePut-one_cut}
 use Rattle.line_notation.proofs.puts.put_spaced_words.Goals as goal
 

@@ -1,6 +1,5 @@
 use Rattle.std.proofs.Common.{drop, flat_map}
-use Rattle.line_notation.specs.Puts.{spaced_word}
-use Rattle.line_notation.proofs.PutsFacts.{HavePut}
+use Rattle.line_notation.{specs.Puts.spaced_word, proofs.PutsFacts.HavePut}
 use Rattle.line_notation.proofs.puts.put_spaced_words.Given as goal
 
 abbrev pub invariant-loop-word : goal.invariant-loop-word

@@ -1,5 +1,4 @@
-use Rattle.std.proofs.Common.{◌∷◌, []}
-use Rattle.std.proofs.lemmas.Result.{err_from_is_err_and}
+use Rattle.std.proofs.{Common.[], Common.◌∷◌, lemmas.Result.err_from_is_err_and}
 use Rattle.io_edges.proofs.Putting.{PutsAll-cut, PutsAll-then}
 use Rattle.line_notation.proofs.puts.put_words.Goals as goal
 

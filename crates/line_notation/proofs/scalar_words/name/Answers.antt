@@ -1,7 +1,6 @@
-use Rattle.std.proofs.Common.{◌∙◌, ap, Some}
-use Rattle.std.proofs.lemmas.Result.{err_from_is_err_and}
+use Rattle.std.proofs.{Common.Some, Common.ap, Common.◌∙◌, lemmas.Result.err_from_is_err_and}
 use Rattle.nbfx_values.specs.declared.scalars.Scalar.TheVariants.{QName}
-use Rattle.line_notation.proofs.PartsFacts.{mapped_at, stops-mapped, name_at-judged}
+use Rattle.line_notation.proofs.PartsFacts.{mapped_at, name_at-judged, stops-mapped}
 use Rattle.line_notation.proofs.scalar_words.name.Goals as goal
 
 pub returns-in_err-name : goal.returns-in_err-name

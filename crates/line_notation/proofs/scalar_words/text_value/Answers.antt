@@ -1,5 +1,4 @@
-use Rattle.std.proofs.Common.{◌∙◌, ap, Some}
-use Rattle.std.proofs.lemmas.Result.{err_from_is_err_and}
+use Rattle.std.proofs.{Common.Some, Common.ap, Common.◌∙◌, lemmas.Result.err_from_is_err_and}
 use Rattle.nbfx_values.specs.declared.scalars.Scalar.TheVariants.{Text}
 use Rattle.line_notation.proofs.PartsFacts.{mapped_at, stops-mapped, text_at-judged}
 use Rattle.line_notation.proofs.scalar_words.text_value.Goals as goal

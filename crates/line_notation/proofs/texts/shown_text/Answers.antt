@@ -1,6 +1,5 @@
-use Rattle.std.proofs.Common.{◌∙◌, ap, sym, Some, Ok}
-use Rattle.line_notation.proofs.PlainFacts.{plain-utf8}
-use Rattle.line_notation.proofs.TextsFacts.{judged-good}
+use Rattle.std.proofs.Common.{Some, Ok, sym, ap, ◌∙◌}
+use Rattle.line_notation.proofs.{PlainFacts.plain-utf8, TextsFacts.judged-good}
 use Rattle.line_notation.proofs.texts.shown_text.Goals as goal
 
 pub from_utf8_unchecked-text-requires : goal.from_utf8_unchecked-text-requires

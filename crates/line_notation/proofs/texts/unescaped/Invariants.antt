@@ -1,6 +1,5 @@
 use Rattle.std.proofs.Common.{◌≡◌, length}
-use Rattle.line_notation.specs.Quoted.{unescaped}
-use Rattle.line_notation.proofs.TextsFacts.{before}
+use Rattle.line_notation.{specs.Quoted.unescaped, proofs.TextsFacts.before}
 use Rattle.line_notation.proofs.texts.unescaped.Given as goal
 
 abbrev pub invariant-loop-rest : goal.invariant-loop-rest

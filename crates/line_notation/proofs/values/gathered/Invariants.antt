@@ -1,5 +1,4 @@
-use Rattle.std.proofs.Common.{length}
-use Rattle.line_notation.proofs.GatherSteps.{HasGathered}
+use Rattle.{std.proofs.Common.length, line_notation.proofs.GatherSteps.HasGathered}
 use Rattle.line_notation.proofs.values.gathered.Given as goal
 
 abbrev pub invariant-loop-alloc : goal.invariant-loop-alloc

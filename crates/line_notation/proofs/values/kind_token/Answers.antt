@@ -1,7 +1,5 @@
-use Rattle.std.proofs.Common.{ap}
-use Rattle.std.proofs.lemmas.Result.{err_from_is_err_and}
-use Rattle.line_notation.specs.Parts.{as_token}
-use Rattle.line_notation.proofs.ValuesFacts.{stops-token}
+use Rattle.std.proofs.{Common.ap, lemmas.Result.err_from_is_err_and}
+use Rattle.line_notation.{specs.Parts.as_token, proofs.ValuesFacts.stops-token}
 use Rattle.line_notation.proofs.values.kind_token.Goals as goal
 
 pub returns-in_err-scalar : goal.returns-in_err-scalar

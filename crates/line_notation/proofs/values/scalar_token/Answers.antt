@@ -1,6 +1,5 @@
-use Rattle.std.proofs.Common.{◌≡◌, arith, Some}
-use Rattle.line_notation.specs.Scalars.{scalar_kind_in}
-use Rattle.line_notation.proofs.ValuesFacts.{plain_at-judged}
+use Rattle.std.proofs.Common.{◌≡◌, Some, arith}
+use Rattle.line_notation.{specs.Scalars.scalar_kind_in, proofs.ValuesFacts.plain_at-judged}
 use Rattle.line_notation.proofs.values.scalar_token.Goals as goal
 
 pub returns : goal.returns

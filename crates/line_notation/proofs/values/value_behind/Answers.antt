@@ -1,7 +1,5 @@
-use Rattle.std.proofs.Common.{◌∙◌, ap, sym}
-use Rattle.std.proofs.lemmas.Result.{err_from_is_err_and}
-use Rattle.line_notation.specs.Options.{◌>>=◌}
-use Rattle.line_notation.specs.Parts.{value_from}
+use Rattle.std.proofs.{Common.sym, Common.ap, Common.◌∙◌, lemmas.Result.err_from_is_err_and}
+use Rattle.line_notation.specs.{Options.◌>>=◌, Parts.value_from}
 use Rattle.line_notation.proofs.ValueFacts.{finds-ok_or, values-stop}
 use Rattle.line_notation.proofs.values.value_behind.Goals as goal
 

@@ -1,5 +1,4 @@
-use Rattle.std.proofs.Common.{arith}
-use Rattle.line_notation.proofs.WordsFacts.{bare-ends}
+use Rattle.{std.proofs.Common.arith, line_notation.proofs.WordsFacts.bare-ends}
 use Rattle.line_notation.proofs.words.first_word_end.Goals as goal
 
 pub returns-then-end-line : goal.returns-then-end-line

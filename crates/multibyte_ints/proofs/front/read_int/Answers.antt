@@ -1,9 +1,6 @@
-use Rattle.std.proofs.Common.{◌≡◌, ◌≤◌, ℕ, List, length, subst, sym, ap, ◌∙◌, refl}
-use Rattle.std.proofs.lemmas.List.{take_all}
-use Rattle.unit_streams.specs.Front.{begun}
-use Rattle.multibyte_ints.specs.Integer.{int_at}
-use Rattle.multibyte_ints.specs.Reader.{StandsFor}
-use Rattle.multibyte_ints.proofs.IntegerBytes.{int_peels}
+use Rattle.std.proofs.Common.{◌≡◌, ℕ, ◌≤◌, List, length, sym, refl, ap, ◌∙◌, subst, take_all}
+use Rattle.{unit_streams.specs.Front.begun, multibyte_ints.proofs.IntegerBytes.int_peels}
+use Rattle.multibyte_ints.specs.{Integer.int_at, Reader.StandsFor}
 use Rattle.multibyte_ints.proofs.FrontSteps.{one_more, whole_there, wrong_there}
 use Rattle.multibyte_ints.proofs.front.read_int.Goals as goal
 

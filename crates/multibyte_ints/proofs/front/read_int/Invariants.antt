@@ -1,7 +1,5 @@
-use Rattle.std.proofs.Common.{◌≡◌, take}
-use Rattle.unit_streams.specs.Front.{begun}
-use Rattle.multibyte_ints.specs.Integer.{int_at}
-use Rattle.multibyte_ints.specs.Reader.{StandsFor}
+use Rattle.{std.proofs.Common.◌≡◌, std.proofs.Common.take, unit_streams.specs.Front.begun}
+use Rattle.multibyte_ints.specs.{Integer.int_at, Reader.StandsFor}
 use Rattle.multibyte_ints.proofs.front.read_int.Given as goal
 
 abbrev pub invariant-loop-at : goal.invariant-loop-at

@@ -1,8 +1,7 @@
-use Rattle.multibyte_ints.proofs.IntegerFacts.{wrong_is}
-use Rattle.multibyte_ints.proofs.IntegerBytes.{above_from}
-use Rattle.multibyte_ints.proofs.IntegerLaws.{spells_from_whole, whole_from_spells}
-use Rattle.multibyte_ints.proofs.IntegerLaws.{no_longer_spelling, goes_on_from_begun}
-use Rattle.multibyte_ints.proofs.IntegerLaws.{begun_from_spells}
+use Rattle.multibyte_ints.proofs.{IntegerBytes.above_from, IntegerFacts.wrong_is}
+use Rattle.multibyte_ints.proofs.IntegerLaws.{begun_from_spells, goes_on_from_begun}
+use Rattle.multibyte_ints.proofs.IntegerLaws.{no_longer_spelling, spells_from_whole}
+use Rattle.multibyte_ints.proofs.IntegerLaws.{whole_from_spells}
 use Rattle.multibyte_ints.proofs.laws.integer_spellings.Goals as goal
 
 pub returns-clause-read : goal.returns-clause-read

@@ -1,7 +1,6 @@
-use Rattle.std.proofs.Common.{◌≡◌, refl, false}
-use Rattle.std.specs.Str.{is_utf8}
-use Rattle.std.proofs.lemmas.Bool.{false_from_ne_true}
+use Rattle.std.proofs.{Common.◌≡◌, Common.false, Common.refl, lemmas.Bool.false_from_ne_true}
 use Rattle.std.proofs.lemmas.Str.{IsUtf8-from_is_utf8, is_utf8-from_IsUtf8}
+use Rattle.std.specs.Str.{is_utf8}
 use Rattle.multibyte_ints.proofs.text.judge.Goals as goal
 
 pub returns-in-Ok : goal.returns-in-Ok

@@ -1,6 +1,5 @@
 use Rattle.std.proofs.Common.{◌≡◌, ◌++◌, take, arith}
-use Rattle.std.proofs.lemmas.Grind.{common_steps}
-use Rattle.multibyte_ints.proofs.WritingSteps.{both_appended}
+use Rattle.{std.proofs.lemmas.Grind.common_steps, multibyte_ints.proofs.WritingSteps.both_appended}
 use Rattle.multibyte_ints.proofs.writing.put_string.Goals as goal
 
 pub returns-clause-written : goal.returns-clause-written

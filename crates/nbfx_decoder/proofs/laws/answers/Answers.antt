@@ -1,7 +1,5 @@
-use Rattle.unit_streams.proofs.Answers.{answers_are_first}
-use Rattle.unit_streams.proofs.Cuts.{cuts_change_nothing}
-use Rattle.unit_streams.proofs.Histories.{history_is_answers}
-use Rattle.nbfx_decoder.specs.Payload.{payload}
+use Rattle.unit_streams.proofs.{Answers.answers_are_first, Cuts.cuts_change_nothing}
+use Rattle.{unit_streams.proofs.Histories.history_is_answers, nbfx_decoder.specs.Payload.payload}
 use Rattle.nbfx_decoder.proofs.laws.answers.Goals as goal
 
 pub returns : goal.returns

@@ -1,7 +1,5 @@
-use Rattle.unit_streams.proofs.Accepted.{accepted_or_offended}
-use Rattle.unit_streams.proofs.Offences.{offences_are_first}
-use Rattle.nbfx_decoder.specs.Payload.{payload}
-use Rattle.nbfx_decoder.proofs.Readable.{readable}
+use Rattle.unit_streams.proofs.{Accepted.accepted_or_offended, Offences.offences_are_first}
+use Rattle.nbfx_decoder.{specs.Payload.payload, proofs.Readable.readable}
 use Rattle.nbfx_decoder.proofs.laws.refusals.Goals as goal
 
 pub returns : goal.returns

@@ -1,6 +1,5 @@
 use Rattle.std.proofs.Common.{refl}
-use Rattle.nbfx_decoder.proofs.Readable.{readable}
-use Rattle.nbfx_decoder.proofs.Sound.{keeps_within, somewhere}
+use Rattle.nbfx_decoder.proofs.{Readable.readable, Sound.keeps_within, Sound.somewhere}
 use Rattle.nbfx_decoder.proofs.laws.situations.Goals as goal
 
 pub returns : goal.returns

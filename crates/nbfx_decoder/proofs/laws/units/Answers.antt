@@ -1,7 +1,5 @@
-use Rattle.unit_streams.proofs.Standing.{standing_append}
-use Rattle.unit_streams.proofs.Units.{no_unit_goes_on}
-use Rattle.nbfx_decoder.specs.Payload.{payload}
-use Rattle.nbfx_decoder.proofs.Readable.{readable}
+use Rattle.unit_streams.proofs.{Standing.standing_append, Units.no_unit_goes_on}
+use Rattle.nbfx_decoder.{specs.Payload.payload, proofs.Readable.readable}
 use Rattle.nbfx_decoder.proofs.laws.units.Goals as goal
 
 pub returns : goal.returns

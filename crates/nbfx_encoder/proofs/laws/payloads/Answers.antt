@@ -1,5 +1,4 @@
-use Rattle.nbfx_encoder.proofs.LawFacts.{writes_what_fits}
-use Rattle.nbfx_encoder.proofs.Payloads.{chosen_is_payload}
+use Rattle.nbfx_encoder.proofs.{LawFacts.writes_what_fits, Payloads.chosen_is_payload}
 use Rattle.nbfx_encoder.proofs.laws.payloads.Goals as goal
 
 pub returns-clause-payload : goal.returns-clause-payload

@@ -1,7 +1,6 @@
 use Rattle.std.proofs.Common.{◌++◌}
 use Rattle.nbfx_records.proofs.PutFacts.{put_first, put_second}
-use Rattle.nbfx_encoder.specs.Envelopes.{envelope_end}
-use Rattle.nbfx_encoder.specs.EncoderState.{payload_in}
+use Rattle.nbfx_encoder.specs.{EncoderState.payload_in, Envelopes.envelope_end}
 use Rattle.nbfx_encoder.proofs.sender.put_envelope.Goals as goal
 
 pub returns-in_err-put_envelope_head : goal.returns-in_err-put_envelope_head

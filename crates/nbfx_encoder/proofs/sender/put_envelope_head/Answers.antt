@@ -1,7 +1,5 @@
-use Rattle.std.proofs.Common.{[]}
-use Rattle.nmf_records.specs.declared.frame.Frame.TheVariants.{Chunk}
-use Rattle.nmf_records.specs.Writing.{frame_bytes_of}
-use Rattle.nbfx_records.proofs.PutFacts.{put_first}
+use Rattle.{std.proofs.Common.[], nbfx_records.proofs.PutFacts.put_first}
+use Rattle.nmf_records.specs.{declared.frame.Frame.TheVariants.Chunk, Writing.frame_bytes_of}
 use Rattle.nbfx_encoder.proofs.sender.put_envelope_head.Goals as goal
 
 pub returns-in_err-put_record-in-Singleton : goal.returns-in_err-put_record-in-Singleton

@@ -1,7 +1,6 @@
-use Rattle.std.proofs.Common.{refl}
-use Rattle.nbfx_records.specs.Shapes.{array_at}
-use Rattle.nbfx_records.proofs.CursorFacts.{then_tells, then_stops, then_stops_behind, seen_tells}
-use Rattle.nbfx_records.proofs.CursorFacts.{seen_stops, exit}
+use Rattle.{std.proofs.Common.refl, nbfx_records.specs.Shapes.array_at}
+use Rattle.nbfx_records.proofs.CursorFacts.{exit, seen_stops, seen_tells, then_stops}
+use Rattle.nbfx_records.proofs.CursorFacts.{then_stops_behind, then_tells}
 use Rattle.nbfx_records.proofs.arrays.array_at.Goals as goal
 
 pub returns-in_err-element-clause-tells : goal.returns-in_err-element-clause-tells

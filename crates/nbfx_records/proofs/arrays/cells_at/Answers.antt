@@ -1,10 +1,8 @@
 use Rattle.std.proofs.Common.{Option, subst}
 use Rattle.nbfx_values.specs.declared.content.ArrayKind.{ArrayKind}
+use Rattle.nbfx_records.specs.{Cursor.Tells, Shapes.cells_of, Views.cells_seen}
+use Rattle.nbfx_records.proofs.CursorFacts.{exit, then_stops, then_tells}
 use Rattle.nbfx_records.specs.Asked as asked
-use Rattle.nbfx_records.specs.Cursor.{Tells}
-use Rattle.nbfx_records.specs.Shapes.{cells_of}
-use Rattle.nbfx_records.specs.Views.{cells_seen}
-use Rattle.nbfx_records.proofs.CursorFacts.{then_tells, then_stops, exit}
 use Rattle.nbfx_records.proofs.arrays.cells_at.Goals as goal
 
 pub returns-in_err-byte-clause-tells : goal.returns-in_err-byte-clause-tells

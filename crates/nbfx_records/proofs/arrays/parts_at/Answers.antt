@@ -1,11 +1,8 @@
 use Rattle.std.proofs.Common.{arith}
-use Rattle.nbfx_records.specs.Shapes.{array_turn}
-use Rattle.nbfx_records.specs.Views.{attribute_seen}
-use Rattle.nbfx_records.proofs.ShapeFronts.{reads_array_turn}
-use Rattle.nbfx_records.proofs.ManyFacts.{moves}
-use Rattle.nbfx_records.proofs.ListFacts.{passes_after}
-use Rattle.nbfx_records.proofs.PartsFacts.{nothing_parted, are_parts, parts_whole, parts_stop}
-use Rattle.nbfx_records.proofs.PartsFacts.{parts_go_on}
+use Rattle.nbfx_records.specs.{Shapes.array_turn, Views.attribute_seen}
+use Rattle.nbfx_records.proofs.{ListFacts.passes_after, ManyFacts.moves}
+use Rattle.nbfx_records.proofs.PartsFacts.{are_parts, nothing_parted, parts_go_on, parts_stop}
+use Rattle.nbfx_records.proofs.{PartsFacts.parts_whole, ShapeFronts.reads_array_turn}
 use Rattle.nbfx_records.proofs.arrays.parts_at.Goals as goal
 
 pub parts-init : goal.parts-init

@@ -1,6 +1,5 @@
 use Rattle.std.proofs.Common.{◌-◌, ◌≤◌, length}
-use Rattle.nbfx_records.specs.Resuming.{Passes, Fits}
-use Rattle.nbfx_records.specs.Shapes.{array_turn}
+use Rattle.nbfx_records.specs.{Resuming.Fits, Resuming.Passes, Shapes.array_turn}
 use Rattle.nbfx_records.proofs.arrays.parts_at.Given as goal
 
 abbrev pub invariant-parts : goal.invariant-parts

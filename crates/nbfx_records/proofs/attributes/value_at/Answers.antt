@@ -1,9 +1,7 @@
+use Rattle.nbfx_records.specs.{Resuming.KeepsTextOf, Shapes.value_of_kind}
+use Rattle.nbfx_records.proofs.CursorFacts.{exit, then_stops}
+use Rattle.nbfx_records.proofs.{KeptFacts.kept_whole, PartFacts.typed_tells}
 use Rattle.nbfx_records.specs.Asked as asked
-use Rattle.nbfx_records.specs.Shapes.{value_of_kind}
-use Rattle.nbfx_records.specs.Resuming.{KeepsTextOf}
-use Rattle.nbfx_records.proofs.KeptFacts.{kept_whole}
-use Rattle.nbfx_records.proofs.CursorFacts.{then_stops, exit}
-use Rattle.nbfx_records.proofs.PartFacts.{typed_tells}
 use Rattle.nbfx_records.proofs.attributes.value_at.Goals as goal
 
 pub returns-in_err-byte-clause-tells : goal.returns-in_err-byte-clause-tells

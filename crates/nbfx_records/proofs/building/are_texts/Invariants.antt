@@ -1,7 +1,5 @@
-use Rattle.std.proofs.Common.{◌≡◌, length}
-use Rattle.std.specs.List.{list_all}
-use Rattle.nbfx_records.specs.Contents.{scalar_is_text}
-use Rattle.nbfx_records.specs.Views.{IsList, listed}
+use Rattle.std.{proofs.Common.◌≡◌, proofs.Common.length, specs.List.list_all}
+use Rattle.nbfx_records.specs.{Contents.scalar_is_text, Views.IsList, Views.listed}
 use Rattle.nbfx_records.proofs.building.are_texts.Given as goal
 
 abbrev pub invariant-loop-part : goal.invariant-loop-part

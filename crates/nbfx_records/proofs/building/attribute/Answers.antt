@@ -1,9 +1,8 @@
-use Rattle.std.proofs.Common.{Some}
-use Rattle.std.specs.Str.{is_utf8}
-use Rattle.nbfx_records.specs.declared.nodes.AttrNode.TheVariants as attribute_nodes
-use Rattle.nbfx_records.specs.Contents.{name_is_text, value_is_text, shape_value}
+use Rattle.std.{proofs.Common.Some, specs.Str.is_utf8}
+use Rattle.nbfx_records.specs.Contents.{name_is_text, shape_value, value_is_text}
 use Rattle.nbfx_records.specs.Views.{name_seen, prefix_seen, value_seen}
 use Rattle.nbfx_records.proofs.JudgedFacts.{exit, texts_of_made, unmade_otherwise}
+use Rattle.nbfx_records.specs.declared.nodes.AttrNode.TheVariants as attribute_nodes
 use Rattle.nbfx_records.proofs.building.attribute.Goals as goal
 
 pub returns-in_err-value-in-Attribute : goal.returns-in_err-value-in-Attribute

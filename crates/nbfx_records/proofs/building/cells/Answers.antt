@@ -1,6 +1,5 @@
-use Rattle.nbfx_records.specs.Views.{cells_seen}
+use Rattle.nbfx_records.{specs.Views.cells_seen, proofs.JudgedFacts.exit}
 use Rattle.nbfx_records.proofs.CellFacts.{all_done, step_left, step_wrong}
-use Rattle.nbfx_records.proofs.JudgedFacts.{exit}
 use Rattle.nbfx_records.proofs.building.cells.Goals as goal
 
 pub returns-in_err-known : goal.returns-in_err-known

@@ -1,5 +1,4 @@
-use Rattle.nbfx_records.specs.Views.{cells_seen}
-use Rattle.nbfx_records.proofs.CellFacts.{AreLeft}
+use Rattle.nbfx_records.{specs.Views.cells_seen, proofs.CellFacts.AreLeft}
 use Rattle.nbfx_records.proofs.building.cells.Given as goal
 
 abbrev pub invariant-loop-place : goal.invariant-loop-place

@@ -1,6 +1,5 @@
-use Rattle.nbfx_records.specs.Views.{attribute_seen}
+use Rattle.nbfx_records.{specs.Views.attribute_seen, proofs.PartsFacts.parts_unstopped}
 use Rattle.nbfx_records.proofs.PartsFacts.{next_part, next_parts, next_shorter, parts_end}
-use Rattle.nbfx_records.proofs.PartsFacts.{parts_unstopped}
 use Rattle.nbfx_records.proofs.building.next_part.Goals as goal
 
 pub returns-in-Ok-Part-default-clause-part : goal.returns-in-Ok-Part-default-clause-part

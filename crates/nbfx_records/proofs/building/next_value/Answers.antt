@@ -1,6 +1,5 @@
-use Rattle.nbfx_records.specs.Views.{scalar_seen}
-use Rattle.nbfx_records.proofs.ListFacts.{next_value, next_list, next_shorter, list_ends}
-use Rattle.nbfx_records.proofs.ListFacts.{list_unstopped}
+use Rattle.nbfx_records.{specs.Views.scalar_seen, proofs.ListFacts.next_value}
+use Rattle.nbfx_records.proofs.ListFacts.{list_ends, list_unstopped, next_list, next_shorter}
 use Rattle.nbfx_records.proofs.building.next_value.Goals as goal
 
 pub returns-in-Ok-Value-default-clause-value : goal.returns-in-Ok-Value-default-clause-value

@@ -1,7 +1,5 @@
-use Rattle.std.proofs.Common.{◌≡◌, length}
-use Rattle.std.specs.List.{list_all}
-use Rattle.nbfx_records.specs.Contents.{attribute_is_text}
-use Rattle.nbfx_records.specs.Views.{AreParts, parts_of}
+use Rattle.std.{proofs.Common.◌≡◌, proofs.Common.length, specs.List.list_all}
+use Rattle.nbfx_records.specs.{Contents.attribute_is_text, Views.AreParts, Views.parts_of}
 use Rattle.nbfx_records.proofs.building.parts_have_text.Given as goal
 
 abbrev pub invariant-loop-part : goal.invariant-loop-part

@@ -1,6 +1,5 @@
 use Rattle.std.proofs.Common.{◌≡◌, length}
-use Rattle.nbfx_records.specs.Contents.{scalars_judged, led}
-use Rattle.nbfx_records.specs.Views.{IsList, listed}
+use Rattle.nbfx_records.specs.{Contents.led, Contents.scalars_judged, Views.IsList, Views.listed}
 use Rattle.nbfx_records.proofs.building.scalars.Given as goal
 
 abbrev pub invariant-loop-part : goal.invariant-loop-part

@@ -1,9 +1,7 @@
-use Rattle.std.proofs.Common.{◌≡◌, ◌-◌, arith, refl, subst, ℕ, List}
-use Rattle.unit_streams.specs.Front.{begun}
-use Rattle.multibyte_ints.specs.Integer.{int_at}
-use Rattle.multibyte_ints.specs.Reader.{StandsFor}
-use Rattle.multibyte_ints.proofs.IntegerBytes.{int_peels}
-use Rattle.nbfx_records.proofs.CursorFacts.{one_more, integer_whole, integer_wrong}
+use Rattle.std.proofs.Common.{◌≡◌, ℕ, ◌-◌, List, refl, subst, arith}
+use Rattle.{unit_streams.specs.Front.begun, multibyte_ints.proofs.IntegerBytes.int_peels}
+use Rattle.multibyte_ints.specs.{Integer.int_at, Reader.StandsFor}
+use Rattle.nbfx_records.proofs.CursorFacts.{integer_whole, integer_wrong, one_more}
 use Rattle.nbfx_records.proofs.cursor.any_integer_at.Goals as goal
 
 pub loop-at-init : goal.loop-at-init

@@ -1,7 +1,6 @@
 use Rattle.std.proofs.Common.{◌≡◌, ◌-◌, take, drop}
 use Rattle.unit_streams.specs.Front.{begun}
-use Rattle.multibyte_ints.specs.Integer.{int_at}
-use Rattle.multibyte_ints.specs.Reader.{StandsFor}
+use Rattle.multibyte_ints.specs.{Integer.int_at, Reader.StandsFor}
 use Rattle.nbfx_records.proofs.cursor.any_integer_at.Given as goal
 
 abbrev pub invariant-loop-at : goal.invariant-loop-at

@@ -1,6 +1,5 @@
 use Rattle.nbfx_records.proofs.MeaningFacts.{meanings_are_found, meanings_are_valid, means_once}
-use Rattle.nbfx_records.proofs.MeaningFacts.{nothing_without_names}
-use Rattle.nbfx_records.proofs.StayFacts.{meanings_stay}
+use Rattle.nbfx_records.proofs.{MeaningFacts.nothing_without_names, StayFacts.meanings_stay}
 use Rattle.nbfx_records.proofs.WritableFacts.{said_may_be_written}
 use Rattle.nbfx_records.proofs.laws.meanings.Goals as goal
 

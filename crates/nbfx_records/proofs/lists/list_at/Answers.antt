@@ -1,10 +1,8 @@
-use Rattle.std.proofs.Common.{arith, true}
-use Rattle.nbfx_records.specs.Shapes.{list_turn}
-use Rattle.nbfx_records.specs.Views.{may_close, scalar_seen}
-use Rattle.nbfx_records.proofs.ShapeFronts.{reads_list_turn}
-use Rattle.nbfx_records.proofs.ManyFacts.{moves}
-use Rattle.nbfx_records.proofs.ListFacts.{passes_after, nothing_turned, is_list, list_whole}
-use Rattle.nbfx_records.proofs.ListFacts.{list_stops, list_goes_on}
+use Rattle.std.proofs.Common.{true, arith}
+use Rattle.nbfx_records.specs.{Shapes.list_turn, Views.may_close, Views.scalar_seen}
+use Rattle.nbfx_records.proofs.ListFacts.{is_list, list_goes_on, list_stops, list_whole}
+use Rattle.nbfx_records.proofs.ListFacts.{nothing_turned, passes_after}
+use Rattle.nbfx_records.proofs.{ManyFacts.moves, ShapeFronts.reads_list_turn}
 use Rattle.nbfx_records.proofs.lists.list_at.Goals as goal
 
 pub values-init : goal.values-init

@@ -1,6 +1,5 @@
-use Rattle.std.proofs.Common.{◌-◌, ◌≤◌, length, true}
-use Rattle.nbfx_records.specs.Resuming.{Passes, Fits}
-use Rattle.nbfx_records.specs.Shapes.{list_turn}
+use Rattle.std.proofs.Common.{◌-◌, ◌≤◌, true, length}
+use Rattle.nbfx_records.specs.{Resuming.Fits, Resuming.Passes, Shapes.list_turn}
 use Rattle.nbfx_records.proofs.lists.list_at.Given as goal
 
 abbrev pub invariant-values : goal.invariant-values

@@ -1,8 +1,6 @@
+use Rattle.nbfx_records.specs.{Shapes.turn_of, Views.may_close}
+use Rattle.nbfx_records.proofs.{CursorFacts.exit, CursorFacts.then_stops, PartFacts.typed_tells}
 use Rattle.nbfx_records.specs.Asked as asked
-use Rattle.nbfx_records.specs.Shapes.{turn_of}
-use Rattle.nbfx_records.specs.Views.{may_close}
-use Rattle.nbfx_records.proofs.CursorFacts.{then_stops, exit}
-use Rattle.nbfx_records.proofs.PartFacts.{typed_tells}
 use Rattle.nbfx_records.proofs.lists.list_turn_at.Goals as goal
 
 pub returns-in_err-byte : goal.returns-in_err-byte

@@ -1,6 +1,5 @@
 use Rattle.nbfx_records.specs.Views.{may_close}
-use Rattle.nbfx_records.proofs.CursorFacts.{exit}
-use Rattle.nbfx_records.proofs.PartFacts.{plain_stops}
+use Rattle.nbfx_records.proofs.{CursorFacts.exit, PartFacts.plain_stops}
 use Rattle.nbfx_records.proofs.lists.text_in_list.Goals as goal
 
 pub returns-in_err-value-in_default : goal.returns-in_err-value-in_default

@@ -1,5 +1,4 @@
-use Rattle.std.proofs.Common.{sym}
-use Rattle.nbfx_records.proofs.CursorFacts.{exit}
+use Rattle.{std.proofs.Common.sym, nbfx_records.proofs.CursorFacts.exit}
 use Rattle.nbfx_records.proofs.PartFacts.{length_stops, length_whole, length_wrong}
 use Rattle.nbfx_records.proofs.parts.length_at.Goals as goal
 

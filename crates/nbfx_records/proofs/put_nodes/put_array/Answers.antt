@@ -1,7 +1,4 @@
-use Rattle.std.proofs.Common.{arith}
-use Rattle.std.proofs.lemmas.Grind.{common_steps}
-use Rattle.std.proofs.Common.{◌++◌}
-use Rattle.std.specs.Prelude.{flat_map}
+use Rattle.std.proofs.{Common.◌++◌, Common.flat_map, Common.arith, lemmas.Grind.common_steps}
 use Rattle.nbfx_records.specs.Chosen.{array_values_bytes, element_bytes, part_bytes}
 use Rattle.nbfx_records.proofs.PutFacts.{put_first, put_second, puts_as}
 use Rattle.nbfx_records.proofs.put_nodes.put_array.Goals as goal

@@ -1,6 +1,4 @@
-use Rattle.std.proofs.Common.{arith}
-use Rattle.std.proofs.lemmas.Grind.{common_steps}
-use Rattle.std.proofs.Common.{false}
+use Rattle.std.proofs.{Common.false, Common.arith, lemmas.Grind.common_steps}
 use Rattle.nbfx_records.specs.Chosen.{value_bytes}
 use Rattle.nbfx_records.proofs.PutFacts.{put_first, put_second, puts_as}
 use Rattle.nbfx_records.proofs.put_nodes.put_attribute.Goals as goal

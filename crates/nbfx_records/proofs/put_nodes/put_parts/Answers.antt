@@ -1,5 +1,4 @@
-use Rattle.nbfx_records.specs.Chosen.{part_bytes}
-use Rattle.nbfx_records.specs.Valid.{is_valid_part, fits_part}
+use Rattle.nbfx_records.specs.{Chosen.part_bytes, Valid.fits_part, Valid.is_valid_part}
 use Rattle.nbfx_records.proofs.PutFacts.{passes_at, put_stopped}
 use Rattle.nbfx_records.proofs.put_nodes.put_parts.Goals as goal
 

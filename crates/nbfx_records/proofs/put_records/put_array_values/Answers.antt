@@ -1,9 +1,6 @@
-use Rattle.std.proofs.Common.{arith}
-use Rattle.std.proofs.lemmas.Grind.{common_steps}
-use Rattle.nbfx_records.specs.Chosen.{counted_cells, cell_bytes}
-use Rattle.std.specs.Prelude.{flat_map, length}
-use Rattle.std.proofs.Common.{◌++◌}
-use Rattle.multibyte_ints.specs.Integer.{shortest}
+use Rattle.std.proofs.Common.{◌++◌, length, flat_map, arith}
+use Rattle.{std.proofs.lemmas.Grind.common_steps, multibyte_ints.specs.Integer.shortest}
+use Rattle.nbfx_records.specs.Chosen.{cell_bytes, counted_cells}
 use Rattle.nbfx_records.proofs.PutFacts.{put_first, put_second, puts_as}
 use Rattle.nbfx_records.proofs.put_records.put_array_values.Goals as goal
 

@@ -1,5 +1,4 @@
-use Rattle.nbfx_records.specs.Chosen.{cell_bytes}
-use Rattle.nbfx_values.specs.Items.{fits_kind}
+use Rattle.{nbfx_values.specs.Items.fits_kind, nbfx_records.specs.Chosen.cell_bytes}
 use Rattle.nbfx_records.proofs.PutFacts.{passes_at, put_stopped}
 use Rattle.nbfx_records.proofs.put_records.put_cells.Goals as goal
 

@@ -1,6 +1,5 @@
 -- What is written so far are those before the place.
-use Rattle.std.proofs.Common.{◌≡◌, ◌++◌, take}
-use Rattle.std.specs.Prelude.{flat_map}
+use Rattle.std.proofs.Common.{◌≡◌, ◌++◌, take, flat_map}
 use Rattle.nbfx_records.specs.Chosen.{cell_bytes}
 use Rattle.nbfx_records.proofs.put_records.put_cells.Given as goal
 

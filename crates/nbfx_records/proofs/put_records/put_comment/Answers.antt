@@ -1,5 +1,4 @@
-use Rattle.multibyte_ints.specs.Text.{string_bytes_of}
-use Rattle.nbfx_records.proofs.PutFacts.{put_first}
+use Rattle.{multibyte_ints.specs.Text.string_bytes_of, nbfx_records.proofs.PutFacts.put_first}
 use Rattle.nbfx_records.proofs.put_records.put_comment.Goals as goal
 
 pub returns-in_err-put_kind : goal.returns-in_err-put_kind

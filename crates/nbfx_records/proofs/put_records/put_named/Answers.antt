@@ -1,5 +1,4 @@
-use Rattle.nbfx_records.specs.Chosen.{named_bytes}
-use Rattle.nbfx_records.specs.Views.{name_seen}
+use Rattle.nbfx_records.specs.{Chosen.named_bytes, Views.name_seen}
 use Rattle.nbfx_records.proofs.PutFacts.{put_first, put_second}
 use Rattle.nbfx_records.proofs.put_records.put_named.Goals as goal
 

@@ -1,5 +1,4 @@
-use Rattle.std.proofs.Common.{arith}
-use Rattle.std.proofs.lemmas.Grind.{common_steps}
+use Rattle.std.proofs.{Common.arith, lemmas.Grind.common_steps}
 use Rattle.nbfx_records.specs.Chosen.{counted_body}
 use Rattle.nbfx_records.proofs.PutFacts.{put_first, puts_as}
 use Rattle.nbfx_records.proofs.put_values.put_characters.Goals as goal

@@ -1,7 +1,5 @@
-use Rattle.std.proofs.Common.{arith}
-use Rattle.std.proofs.lemmas.Grind.{common_steps}
-use Rattle.std.proofs.Common.{◌++◌, ◌/◌, ◌%◌, ◌^◌}
-use Rattle.std.specs.Int.{w32, w64, to_le_bytes}
+use Rattle.std.proofs.Common.{◌/◌, ◌%◌, ◌^◌, ◌++◌, arith, w32, w64}
+use Rattle.std.{proofs.lemmas.Grind.common_steps, specs.Int.to_le_bytes}
 use Rattle.nbfx_records.proofs.PutFacts.{put_first, put_second, puts_as}
 use Rattle.nbfx_records.proofs.put_values.put_decimal.Goals as goal
 

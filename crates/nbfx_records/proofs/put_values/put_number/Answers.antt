@@ -1,13 +1,10 @@
-use Rattle.std.proofs.Common.{◌≡◌, ◌∷◌, ap, sym, ◌∙◌, subst}
-use Rattle.std.specs.Prelude.{unsigned_abs}
-use Rattle.std.specs.Int.{w16, w32, w64, to_le_bytes}
+use Rattle.std.proofs.Common.{◌≡◌, ◌∷◌, unsigned_abs, sym, ap, ◌∙◌, subst, w16, w32, w64}
+use Rattle.std.specs.Int.{to_le_bytes}
+use Rattle.nbfx_records.specs.{Chosen.record_bytes, Putting.Puts, TypeBytes.byte_of}
+use Rattle.nbfx_records.proofs.NumberFacts.{chosen_16, chosen_32, chosen_64, chosen_unsigned}
+use Rattle.nbfx_records.proofs.NumberFacts.{number_put, same}
 use Rattle.nbfx_records.specs.declared.kinds.TextKind.TheVariants as texts
 use Rattle.nbfx_records.specs.declared.kinds.RecordKind.TheVariants as records
-use Rattle.nbfx_records.specs.Chosen.{record_bytes}
-use Rattle.nbfx_records.specs.Putting.{Puts}
-use Rattle.nbfx_records.specs.TypeBytes.{byte_of}
-use Rattle.nbfx_records.proofs.NumberFacts.{same, number_put, chosen_16, chosen_32, chosen_64}
-use Rattle.nbfx_records.proofs.NumberFacts.{chosen_unsigned}
 use Rattle.nbfx_records.proofs.put_values.put_number.Goals as goal
 
 pub returns-in-Ok-try_from : goal.returns-in-Ok-try_from

@@ -1,6 +1,5 @@
-use Rattle.std.proofs.Common.{ap, false}
-use Rattle.nbfx_records.specs.Chosen.{scalar_bytes}
-use Rattle.nbfx_records.specs.Valid.{is_valid_raw, fits_raw}
+use Rattle.std.proofs.Common.{false, ap}
+use Rattle.nbfx_records.specs.{Chosen.scalar_bytes, Valid.fits_raw, Valid.is_valid_raw}
 use Rattle.nbfx_records.proofs.PutFacts.{passes_at, put_stopped, puts_as}
 use Rattle.nbfx_records.proofs.put_values.put_scalars.Goals as goal
 

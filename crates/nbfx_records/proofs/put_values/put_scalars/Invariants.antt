@@ -1,6 +1,5 @@
 -- What is written so far are the values before the place.
-use Rattle.std.proofs.Common.{◌≡◌, ◌++◌, false, take}
-use Rattle.std.specs.Prelude.{flat_map}
+use Rattle.std.proofs.Common.{◌≡◌, false, ◌++◌, take, flat_map}
 use Rattle.nbfx_records.specs.Chosen.{scalar_bytes}
 use Rattle.nbfx_records.proofs.put_values.put_scalars.Given as goal
 

@@ -1,7 +1,5 @@
-use Rattle.std.proofs.Common.{arith}
+use Rattle.std.proofs.Common.{false, ◌++◌, flat_map, arith}
 use Rattle.std.proofs.lemmas.Grind.{common_steps}
-use Rattle.std.proofs.Common.{◌++◌, false}
-use Rattle.std.specs.Prelude.{flat_map}
 use Rattle.nbfx_records.specs.Chosen.{list_end, scalar_bytes}
 use Rattle.nbfx_records.proofs.PutFacts.{put_first, put_second, puts_as}
 use Rattle.nbfx_records.proofs.put_values.put_value.Goals as goal

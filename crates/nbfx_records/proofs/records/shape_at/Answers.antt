@@ -1,9 +1,7 @@
+use Rattle.nbfx_records.specs.{Resuming.KeepsAny, Shapes.placed, Shapes.shape_at}
+use Rattle.nbfx_records.proofs.CursorFacts.{exit, then_stops}
+use Rattle.nbfx_records.proofs.{KeptFacts.kept_whole, PartFacts.typed_tells}
 use Rattle.nbfx_records.specs.Asked as asked
-use Rattle.nbfx_records.specs.Shapes.{placed, shape_at}
-use Rattle.nbfx_records.specs.Resuming.{KeepsAny}
-use Rattle.nbfx_records.proofs.CursorFacts.{then_stops, exit}
-use Rattle.nbfx_records.proofs.KeptFacts.{kept_whole}
-use Rattle.nbfx_records.proofs.PartFacts.{typed_tells}
 use Rattle.nbfx_records.proofs.records.shape_at.Goals as goal
 
 pub returns-in_err-byte-clause-tells : goal.returns-in_err-byte-clause-tells

@@ -1,6 +1,5 @@
-use Rattle.std.proofs.Common.{◌≡◌, ◌∙◌, ap, subst, IfOk}
-use Rattle.uuid.specs.Parts.{swap_fields}
-use Rattle.uuid.specs.Text.{hyphenated_text, lower}
+use Rattle.std.proofs.Common.{◌≡◌, IfOk, ap, ◌∙◌, subst}
+use Rattle.uuid.specs.{Parts.swap_fields, Text.hyphenated_text, Text.lower}
 use Rattle.nbfx_values.proofs.characters.hyphenated.Goals as goal
 
 pub returns : goal.returns

@@ -1,7 +1,6 @@
-use Rattle.std.proofs.Common.{sym, subst, take, ◌+◌, ◌∙◌, ◌≡◌, ◌++◌, ◌∷◌, []}
-use Rattle.nbfx_values.specs.Measured.{AreMeasuresOf}
+use Rattle.std.proofs.Common.{◌≡◌, ◌+◌, [], ◌∷◌, ◌++◌, take, sym, ◌∙◌, subst}
+use Rattle.nbfx_values.{specs.Measured.AreMeasuresOf, proofs.Positions.take-push}
 use Rattle.nbfx_values.proofs.Positions.{open-position, open-take, position_of-push, stops-at}
-use Rattle.nbfx_values.proofs.Positions.{take-push}
 use Rattle.nbfx_values.proofs.document.measures_of.Goals as goal
 
 pub returns-in_default-clause-refused : goal.returns-in_default-clause-refused

@@ -1,8 +1,7 @@
 -- The items before the place lead to the position, with no more elements open than items, and have
 -- the measures.
-use Rattle.std.proofs.Common.{◌≡◌, ◌≤◌, Some, take}
-use Rattle.nbfx_values.specs.Measured.{AreMeasuresOf}
-use Rattle.nbfx_values.specs.Positions.{open_count, position_of}
+use Rattle.std.proofs.Common.{◌≡◌, ◌≤◌, take, Some}
+use Rattle.nbfx_values.specs.{Measured.AreMeasuresOf, Positions.open_count, Positions.position_of}
 use Rattle.nbfx_values.proofs.document.measures_of.Given as goal
 
 abbrev pub invariant-loop-at : goal.invariant-loop-at

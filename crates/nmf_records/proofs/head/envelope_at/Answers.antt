@@ -1,5 +1,4 @@
-use Rattle.std.proofs.Common.{arith}
-use Rattle.nmf_records.proofs.Heads.{int_within}
+use Rattle.{std.proofs.Common.arith, nmf_records.proofs.Heads.int_within}
 use Rattle.nmf_records.proofs.head.envelope_at.Goals as goal
 
 pub overflow_add-result : goal.overflow_add-result

@@ -1,7 +1,5 @@
-use Rattle.std.proofs.Common.{sym, subst}
-use Rattle.std.specs.Prelude.{IfSome, ◌≡◌}
-use Rattle.unit_streams.specs.Front.{whole}
-use Rattle.nmf_records.specs.declared.frame.Expect.{Expect}
+use Rattle.std.proofs.Common.{◌≡◌, IfSome, sym, subst}
+use Rattle.{unit_streams.specs.Front.whole, nmf_records.specs.declared.frame.Expect.Expect}
 use Rattle.nmf_records.specs.RecordFronts.{bare, frame_at}
 use Rattle.nmf_records.proofs.head.head_at.Goals as goal
 

@@ -1,6 +1,5 @@
+use Rattle.nmf_records.proofs.{Causes.fault_cause, Faults.fault_comes}
 use Rattle.nmf_records.specs.declared.frame.FrameFault.TheVariants as kinds
-use Rattle.nmf_records.proofs.Causes.{fault_cause}
-use Rattle.nmf_records.proofs.Faults.{fault_comes}
 use Rattle.nmf_records.proofs.laws.faults.Goals as goal
 
 pub returns-clause-unknown_record : goal.returns-clause-unknown_record

@@ -1,5 +1,4 @@
-use Rattle.std.proofs.Common.{ap, arith}
-use Rattle.unit_streams.proofs.Peeling.{extent}
+use Rattle.{std.proofs.Common.ap, std.proofs.Common.arith, unit_streams.proofs.Peeling.extent}
 use Rattle.nmf_records.proofs.Short.{begun_short, decided_short}
 use Rattle.nmf_records.proofs.laws.record_lengths.Goals as goal
 

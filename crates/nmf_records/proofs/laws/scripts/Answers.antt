@@ -1,7 +1,6 @@
-use Rattle.nmf_records.proofs.ScriptWays.{way_from_follows, follows_from_way}
+use Rattle.nmf_records.proofs.{ScriptEnds.no_longer_script, WaysAreScripts.script_is}
+use Rattle.nmf_records.proofs.ScriptWays.{follows_from_way, way_from_follows}
 use Rattle.nmf_records.proofs.ScriptsLead.{script_follows}
-use Rattle.nmf_records.proofs.WaysAreScripts.{script_is}
-use Rattle.nmf_records.proofs.ScriptEnds.{no_longer_script}
 use Rattle.nmf_records.proofs.laws.scripts.Goals as goal
 
 pub returns-clause-ways : goal.returns-clause-ways

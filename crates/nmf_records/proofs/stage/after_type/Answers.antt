@@ -1,6 +1,5 @@
-use Rattle.std.proofs.Common.{[], sym, subst, ◌∙◌}
-use Rattle.nmf_records.specs.Steps.{Meets}
-use Rattle.nmf_records.proofs.Typed.{allowed_reads}
+use Rattle.std.proofs.Common.{[], sym, ◌∙◌, subst}
+use Rattle.nmf_records.{specs.Steps.Meets, proofs.Typed.allowed_reads}
 use Rattle.nmf_records.proofs.stage.after_type.Goals as goal
 
 pub returns-clause-reads : goal.returns-clause-reads

@@ -1,6 +1,5 @@
 use Rattle.std.proofs.Common.{◌≡◌, ◌++◌, take, arith}
-use Rattle.std.proofs.lemmas.Grind.{common_steps}
-use Rattle.nmf_records.proofs.Written.{text_appended}
+use Rattle.{std.proofs.lemmas.Grind.common_steps, nmf_records.proofs.Written.text_appended}
 use Rattle.nmf_records.proofs.writing.put_text_frame.Goals as goal
 
 pub returns-clause-written : goal.returns-clause-written

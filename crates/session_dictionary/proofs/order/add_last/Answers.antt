@@ -1,8 +1,7 @@
-use Rattle.std.proofs.Common.{◌≡◌, ◌++◌, ◌+◌, ◌-◌, List, ℕ, [], ◌∷◌, length, get_or, take, sym, ap}
-use Rattle.std.proofs.Common.{◌∙◌, subst, arith}
-use Rattle.std.proofs.lemmas.List.{length-take-le, take_all, take_more}
-use Rattle.session_dictionary.specs.Order.{IsOrder}
-use Rattle.session_dictionary.proofs.OrderFacts.{order_push}
+use Rattle.std.proofs.Common.{◌≡◌, ℕ, ◌+◌, ◌-◌, List, [], ◌∷◌, ◌++◌, length, get_or, take, sym, ap}
+use Rattle.std.proofs.Common.{◌∙◌, subst, arith, length-take-le, take_all}
+use Rattle.std.proofs.lemmas.List.{take_more}
+use Rattle.session_dictionary.{specs.Order.IsOrder, proofs.OrderFacts.order_push}
 use Rattle.session_dictionary.proofs.order.add_last.Goals as goal
 
 -- all but the last, and the last

@@ -1,11 +1,7 @@
-use Rattle.std.proofs.Common.{◌≡◌, length, refl, arith, rules, sym, ◌∙◌}
-use Rattle.std.specs.Cmp.Lexicographic.{bytes_decides}
-use Rattle.std.specs.Str.{bytes_eq}
-use Rattle.std.proofs.lemmas.Bool.{both_ways}
-use Rattle.std.proofs.lemmas.Fn.{answers_by}
-use Rattle.std.proofs.lemmas.List.{take_all}
+use Rattle.std.proofs.Common.{◌≡◌, length, bytes_eq, sym, refl, ◌∙◌, arith, take_all, rules}
+use Rattle.std.proofs.lemmas.{Bool.both_ways, Fn.answers_by}
+use Rattle.{std.specs.Cmp.Lexicographic.bytes_decides, session_dictionary.proofs.RunFacts.parted}
 use Rattle.session_dictionary.proofs.RunFacts.{first_found, is_before, none_found, none_past}
-use Rattle.session_dictionary.proofs.RunFacts.{parted}
 use Rattle.session_dictionary.proofs.order.first_in.Goals as goal
 
 pub returns-in_err-position-clause-none : goal.returns-in_err-position-clause-none

@@ -1,10 +1,8 @@
-use Rattle.std.proofs.Common.{◌≡◌, ◌<◌, ℕ, ◌∷◌, List, Option, Some, None, length, get_or, sym, refl}
-use Rattle.std.proofs.Common.{ap, ◌∙◌, subst, arith, add-one}
-use Rattle.std.specs.Option.{IfNone}
+use Rattle.std.proofs.Common.{◌≡◌, ℕ, ◌<◌, List, ◌∷◌, length, get_or, IfNone, Some, None, Option}
+use Rattle.std.proofs.Common.{sym, refl, ap, ◌∙◌, subst, add-one, arith}
 use Rattle.std.proofs.lemmas.Option.{IfSome_then}
-use Rattle.session_dictionary.specs.Order.{IsOrder}
-use Rattle.session_dictionary.proofs.CountFacts.{positions_length}
-use Rattle.session_dictionary.proofs.RunFacts.{IsRun, first_upto, none_upto, run_at, run_last}
+use Rattle.session_dictionary.{specs.Order.IsOrder, proofs.CountFacts.positions_length}
+use Rattle.session_dictionary.proofs.RunFacts.{first_upto, IsRun, none_upto, run_at, run_last}
 use Rattle.session_dictionary.proofs.order.first_of.Goals as goal
 
 if_none : {X : Type 0} {P Q : Type 0} (r : Option X) → (P → Q) → IfNone r P → IfNone r Q

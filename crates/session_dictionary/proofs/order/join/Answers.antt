@@ -1,11 +1,9 @@
-use Rattle.std.proofs.Common.{◌≡◌, ◌++◌, ◌+◌, ◌<◌, List, ℕ, length, get_or, take, drop, sym, ap}
-use Rattle.std.proofs.Common.{◌∙◌, subst, arith, length-append, rules}
-use Rattle.std.specs.List.Sorted.{IsPermutation, IsSorted}
-use Rattle.std.proofs.lemmas.List.{get_or_default, take-append-drop, take_at}
-use Rattle.std.proofs.lemmas.List.Sorted.{length_permutation}
-use Rattle.session_dictionary.specs.Order.{IsOrder, by_text}
-use Rattle.session_dictionary.proofs.ResultFacts.{on_ok}
-use Rattle.session_dictionary.proofs.OrderFacts.{cut_le, order_join}
+use Rattle.std.proofs.Common.{◌≡◌, ℕ, ◌+◌, ◌<◌, List, ◌++◌, length, get_or, take, drop}
+use Rattle.std.proofs.Common.{IsPermutation, IsSorted, sym, ap, ◌∙◌, subst, arith, length-append}
+use Rattle.std.proofs.Common.{take-append-drop, take_at, rules}
+use Rattle.std.proofs.lemmas.List.{get_or_default, Sorted.length_permutation}
+use Rattle.session_dictionary.specs.Order.{by_text, IsOrder}
+use Rattle.session_dictionary.proofs.{OrderFacts.cut_le, OrderFacts.order_join, ResultFacts.on_ok}
 use Rattle.session_dictionary.proofs.order.join.Goals as goal
 
 pub joined-place-requires-clause-within : goal.joined-place-requires-clause-within

@@ -1,9 +1,6 @@
-use Rattle.std.proofs.Common.{rules}
-use Rattle.std.specs.Ordering.{is_lt}
-use Rattle.std.proofs.lemmas.Fn.{always_returns_same}
-use Rattle.std.proofs.lemmas.Result.{on_ok_weaker}
-use Rattle.session_dictionary.specs.Order.{by_text}
-use Rattle.session_dictionary.proofs.OrderFacts.{by_text_weak}
+use Rattle.std.proofs.Common.{is_lt, rules}
+use Rattle.std.proofs.lemmas.{Fn.always_returns_same, Result.on_ok_weaker}
+use Rattle.session_dictionary.{specs.Order.by_text, proofs.OrderFacts.by_text_weak}
 use Rattle.session_dictionary.proofs.order.sort_run.Goals as goal
 
 pub returns-clause-sorted : goal.returns-clause-sorted

@@ -1,10 +1,7 @@
-use Rattle.std.proofs.Common.{◌≡◌, ◌≤◌, ◌<◌, ◌+◌, ◌-◌, ℕ, List, [], ◌∷◌, ◌++◌, length, take, drop}
-use Rattle.std.proofs.Common.{get_or, sym, ap, ◌∙◌, arith, length-drop}
-use Rattle.std.specs.List.{flat_map}
-use Rattle.std.specs.Prelude.{slice_range}
-use Rattle.std.proofs.lemmas.List.{flat_map_more, get_or-drop, take_more}
-use Rattle.multibyte_ints.specs.Text.{string_bytes_of}
-use Rattle.session_dictionary.proofs.ResultFacts.{on_ok}
+use Rattle.std.proofs.Common.{◌≡◌, ℕ, ◌+◌, ◌-◌, ◌<◌, ◌≤◌, List, [], ◌∷◌, ◌++◌, length, get_or, take}
+use Rattle.std.proofs.Common.{drop, slice_range, flat_map, sym, ap, ◌∙◌, arith, length-drop}
+use Rattle.std.proofs.{Common.get_or-drop, lemmas.List.flat_map_more, lemmas.List.take_more}
+use Rattle.{multibyte_ints.specs.Text.string_bytes_of, session_dictionary.proofs.ResultFacts.on_ok}
 use Rattle.session_dictionary.proofs.table.put_texts.Goals as goal
 
 -- one more of the texts from a place on

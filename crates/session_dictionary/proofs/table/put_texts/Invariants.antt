@@ -1,6 +1,4 @@
-use Rattle.std.proofs.Common.{◌≡◌, ◌++◌}
-use Rattle.std.specs.List.{flat_map}
-use Rattle.std.specs.Prelude.{slice_range}
+use Rattle.std.proofs.Common.{◌≡◌, ◌++◌, slice_range, flat_map}
 use Rattle.multibyte_ints.specs.Text.{string_bytes_of}
 use Rattle.session_dictionary.proofs.table.put_texts.Given as goal
 

@@ -1,8 +1,6 @@
-use Rattle.std.proofs.Common.{◌≡◌, ◌++◌, List, false, true, sym, ap, ◌∙◌, subst}
-use Rattle.nbfx_values.specs.Documents.{IsDocument}
-use Rattle.nbfx_values.specs.declared.content.Item.{Item}
-use Rattle.session_generator.specs.Documents.{document}
-use Rattle.session_generator.proofs.DocumentFacts.{is_document}
+use Rattle.std.proofs.Common.{◌≡◌, true, false, List, ◌++◌, sym, ap, ◌∙◌, subst}
+use Rattle.nbfx_values.specs.{declared.content.Item.Item, Documents.IsDocument}
+use Rattle.session_generator.{specs.Documents.document, proofs.DocumentFacts.is_document}
 use Rattle.session_generator.proofs.documents.document.Goals as goal
 
 pub unreachable-requires : goal.unreachable-requires

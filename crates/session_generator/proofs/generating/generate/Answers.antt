@@ -1,15 +1,12 @@
-use Rattle.std.proofs.Common.{◌≡◌, ℕ, ◌+◌, ◌-◌, List, [], ◌∷◌, ◌++◌, refl, sym, ap, ◌∙◌, subst}
-use Rattle.std.proofs.Common.{arith}
-use Rattle.std.proofs.lemmas.Result.{err_from_is_err_and}
-use Rattle.nbfx_values.specs.QuotasOf.{limits_of}
-use Rattle.nbfx_values.specs.declared.content.Item.{Item}
+use Rattle.std.proofs.Common.{◌≡◌, ℕ, ◌+◌, ◌-◌, List, [], ◌∷◌, ◌++◌, sym, refl, ap, ◌∙◌, subst}
+use Rattle.std.proofs.{Common.arith, lemmas.Result.err_from_is_err_and}
+use Rattle.nbfx_values.specs.{declared.content.Item.Item, QuotasOf.limits_of}
 use Rattle.session_generator.specs.Documents.{document, drawn, stepped}
 use Rattle.session_generator.specs.UnderWay.{CanSend, IsUnderWay, Stops}
-use Rattle.session_generator.proofs.Carrying.{can_send}
+use Rattle.session_generator.proofs.{Carrying.can_send, Looping.stopped_with}
 use Rattle.session_generator.proofs.Closing.{closes_counted, closes_ended, closes_level}
 use Rattle.session_generator.proofs.Closing.{closes_stopped, drawn_low, may_end}
-use Rattle.session_generator.proofs.Looping.{AreSentBefore, all_sent, none_sent, one_sent}
-use Rattle.session_generator.proofs.Looping.{stopped_with}
+use Rattle.session_generator.proofs.Looping.{all_sent, AreSentBefore, none_sent, one_sent}
 use Rattle.session_generator.proofs.generating.generate.Goals as goal
 
 pub returns-in_err-session-clause-ends : goal.returns-in_err-session-clause-ends

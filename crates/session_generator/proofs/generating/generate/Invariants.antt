@@ -1,8 +1,6 @@
 use Rattle.std.proofs.Common.{List}
-use Rattle.nbfx_values.specs.QuotasOf.{limits_of}
-use Rattle.nbfx_values.specs.declared.content.Item.{Item}
-use Rattle.session_generator.specs.UnderWay.{IsUnderWay}
-use Rattle.session_generator.proofs.Looping.{AreSentBefore}
+use Rattle.nbfx_values.specs.{declared.content.Item.Item, QuotasOf.limits_of}
+use Rattle.session_generator.{specs.UnderWay.IsUnderWay, proofs.Looping.AreSentBefore}
 use Rattle.session_generator.proofs.generating.generate.Given as goal
 
 abbrev pub invariant-loop-number : goal.invariant-loop-number

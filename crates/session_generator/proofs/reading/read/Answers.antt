@@ -1,7 +1,5 @@
-use Rattle.std.proofs.Common.{◌∙◌}
-use Rattle.unit_streams.specs.Judging.{answer}
-use Rattle.stream_reader.specs.Stream.{stream}
-use Rattle.receiver_machine.specs.ReceiverState.{settings_of}
+use Rattle.{std.proofs.Common.◌∙◌, unit_streams.specs.Judging.answer}
+use Rattle.{stream_reader.specs.Stream.stream, receiver_machine.specs.ReceiverState.settings_of}
 use Rattle.session_generator.proofs.Answered.{refused_so, taken_so}
 use Rattle.session_generator.proofs.reading.read.Goals as goal
 

@@ -1,7 +1,6 @@
-use Rattle.std.proofs.Common.{◌∙◌, ap, append-nil, length}
+use Rattle.std.proofs.Common.{length, decimal, ap, ◌∙◌, append-nil}
 use Rattle.std.proofs.lemmas.Result.{err_from_is_err_and}
-use Rattle.std.specs.Fmt.{decimal}
-use Rattle.io_edges.proofs.Putting.{PutsAll-then, PutsAll-cut}
+use Rattle.io_edges.proofs.Putting.{PutsAll-cut, PutsAll-then}
 use Rattle.session_report.proofs.lines.put_measures.Goals as goal
 
 pub returns-in_err-put_labelled : goal.returns-in_err-put_labelled

@@ -1,8 +1,6 @@
-use Rattle.std.proofs.Common.{◌≡◌, ◌∙◌, ap, List, ℕ, [], ◌∷◌, ◌++◌, append_assoc, codes}
-use Rattle.std.proofs.lemmas.Result.{err_from_is_err_and}
-use Rattle.std.proofs.lemmas.Grind.{flat_map-append}
-use Rattle.std.specs.Fmt.{decimal}
-use Rattle.io_edges.proofs.Putting.{PutsAll-then, PutsAll-cut}
+use Rattle.std.proofs.Common.{◌≡◌, ℕ, List, [], ◌∷◌, ◌++◌, codes, decimal, ap, ◌∙◌, append_assoc}
+use Rattle.std.proofs.lemmas.{Grind.flat_map-append, Result.err_from_is_err_and}
+use Rattle.io_edges.proofs.Putting.{PutsAll-cut, PutsAll-then}
 use Rattle.line_notation.specs.Words.{behind_spaces}
 use Rattle.session_report.specs.Report.{line, measure_words, string_words}
 use Rattle.session_report.proofs.lines.put_message.Goals as goal

@@ -1,7 +1,5 @@
-use Rattle.std.proofs.Common.{append-nil}
-use Rattle.std.proofs.lemmas.Result.{err_from_is_err_and}
-use Rattle.std.specs.Fmt.{decimal}
-use Rattle.io_edges.proofs.Putting.{PutsAll-then, PutsAll-cut}
+use Rattle.std.proofs.{Common.decimal, Common.append-nil, lemmas.Result.err_from_is_err_and}
+use Rattle.io_edges.proofs.Putting.{PutsAll-cut, PutsAll-then}
 use Rattle.session_report.proofs.lines.put_strings.Goals as goal
 
 pub returns-in_err-put_labelled : goal.returns-in_err-put_labelled

@@ -1,5 +1,4 @@
-use Rattle.nbfx_values.specs.Items.{is_valid_item}
-use Rattle.std.proofs.Common.{◌+◌}
+use Rattle.{std.proofs.Common.◌+◌, nbfx_values.specs.Items.is_valid_item}
 use Rattle.soap_envelope.proofs.Lists.{list_all-drop}
 use Rattle.soap_envelope.proofs.attributes.soap_attribute_of.Goals as goal
 

@@ -1,7 +1,6 @@
 -- Those of the declarations so far that are missing; and behind them, the attributes so far.
 use Rattle.std.proofs.Common.{◌≡◌, ◌++◌, map, take}
-use Rattle.soap_envelope.specs.Body.{attribute_of, missing}
-use Rattle.soap_envelope.specs.Layers.{kept}
+use Rattle.soap_envelope.specs.{Body.attribute_of, Body.missing, Layers.kept}
 use Rattle.soap_envelope.proofs.body.attributes_with.Given as goal
 
 abbrev pub invariant-loop-one : goal.invariant-loop-one

@@ -1,6 +1,5 @@
 -- The rest gives the answer.
-use Rattle.std.proofs.Common.{◌≡◌, drop}
-use Rattle.soap_envelope.specs.Body.{behind_head}
+use Rattle.{std.proofs.Common.◌≡◌, std.proofs.Common.drop, soap_envelope.specs.Body.behind_head}
 use Rattle.soap_envelope.proofs.body.behind_head.Given as goal
 
 abbrev pub invariant-loop-i : goal.invariant-loop-i

@@ -1,8 +1,6 @@
-use Rattle.std.proofs.Common.{◌≡◌, ◌∙◌, Some, map, sym, true}
-use Rattle.soap_envelope.specs.Body.{self_standing}
+use Rattle.std.proofs.Common.{◌≡◌, true, map, Some, sym, ◌∙◌}
+use Rattle.soap_envelope.{specs.Body.self_standing, specs.Layers.kept, proofs.FitFacts.fits-greater}
 use Rattle.soap_envelope.specs.Fitting.{fits, greatest_quota}
-use Rattle.soap_envelope.specs.Layers.{kept}
-use Rattle.soap_envelope.proofs.FitFacts.{fits-greater}
 use Rattle.soap_envelope.proofs.body.body_items.Goals as goal
 
 pub self_standing-requires : goal.self_standing-requires

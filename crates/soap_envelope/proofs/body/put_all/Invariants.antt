@@ -1,7 +1,6 @@
 -- The rest gives the answer.
-use Rattle.std.proofs.Common.{◌≡◌, drop, map}
-use Rattle.soap_envelope.specs.Body.{put_all}
-use Rattle.soap_envelope.specs.Layers.{kept, shown}
+use Rattle.std.proofs.Common.{◌≡◌, map, drop}
+use Rattle.soap_envelope.specs.{Body.put_all, Layers.kept, Layers.shown}
 use Rattle.soap_envelope.proofs.body.put_all.Given as goal
 
 abbrev pub invariant-loop-one : goal.invariant-loop-one

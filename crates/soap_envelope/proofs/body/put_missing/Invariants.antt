@@ -1,7 +1,6 @@
 -- Those of the declarations so far that are missing.
 use Rattle.std.proofs.Common.{◌≡◌, ◌++◌, map, take}
-use Rattle.soap_envelope.specs.Body.{missing, xmlns_of}
-use Rattle.soap_envelope.specs.Layers.{kept}
+use Rattle.soap_envelope.specs.{Body.missing, Body.xmlns_of, Layers.kept}
 use Rattle.soap_envelope.proofs.body.put_missing.Given as goal
 
 abbrev pub invariant-loop-one : goal.invariant-loop-one

@@ -1,7 +1,6 @@
 -- The items so far, and those to come.
-use Rattle.std.proofs.Common.{◌≡◌, ◌≤◌, ◌++◌, Some, drop, map}
-use Rattle.soap_envelope.specs.Body.{self_standing}
-use Rattle.soap_envelope.specs.Layers.{kept}
+use Rattle.std.proofs.Common.{◌≡◌, ◌≤◌, ◌++◌, map, drop, Some}
+use Rattle.soap_envelope.specs.{Body.self_standing, Layers.kept}
 use Rattle.soap_envelope.proofs.body.self_standing.Given as goal
 
 abbrev pub invariant-loop-i : goal.invariant-loop-i

@@ -1,8 +1,6 @@
 -- Those of the declarations so far that not every reply has.
 use Rattle.std.proofs.Common.{◌≡◌, map}
-use Rattle.soap_envelope.specs.Body.{unusual}
-use Rattle.soap_envelope.specs.Layers.{layer_of}
-use Rattle.soap_envelope.specs.Scopes.{declaration}
+use Rattle.soap_envelope.specs.{Body.unusual, Layers.layer_of, Scopes.declaration}
 use Rattle.soap_envelope.proofs.body.unusual.Given as goal
 
 abbrev pub invariant-loop-prefix : goal.invariant-loop-prefix

@@ -1,6 +1,5 @@
 -- The digits of 0 and 1.
-use Rattle.std.proofs.Common.{◌≡◌, ap, arith, pos, sym}
-use Rattle.std.proofs.lemmas.Int.{ints}
+use Rattle.std.proofs.{Common.◌≡◌, Common.pos, Common.sym, Common.ap, Common.arith, lemmas.Int.ints}
 use Rattle.std.specs.Fmt.{digits, signed_decimal}
 use Rattle.soap_envelope.proofs.characters.usual_digits.Goals as goal
 

@@ -1,5 +1,4 @@
-use Rattle.std.proofs.Common.{◌∙◌, sym}
-use Rattle.soap_envelope.proofs.Contents.{body-starts}
+use Rattle.{std.proofs.Common.sym, std.proofs.Common.◌∙◌, soap_envelope.proofs.Contents.body-starts}
 use Rattle.soap_envelope.proofs.envelope.view_of.Goals as goal
 
 pub viewed-requires-clause-body : goal.viewed-requires-clause-body

@@ -1,8 +1,6 @@
-use Rattle.std.proofs.Common.{subst, sym}
-use Rattle.std.specs.List.{flat_map}
-use Rattle.nbfx_values.specs.Documents.{IsDocument}
+use Rattle.std.proofs.Common.{flat_map, sym, subst}
+use Rattle.{nbfx_values.specs.Documents.IsDocument, soap_envelope.proofs.Places.envelope-document}
 use Rattle.soap_envelope.specs.Faults.{fault_body, not_understood_block}
-use Rattle.soap_envelope.proofs.Places.{envelope-document}
 use Rattle.soap_envelope.proofs.FaultPlaces.{fault-content, names-lead}
 use Rattle.soap_envelope.proofs.faults.fault_doc.Goals as goal
 

@@ -1,6 +1,5 @@
-use Rattle.std.specs.List.{flat_map}
+use Rattle.{std.proofs.Common.flat_map, soap_envelope.proofs.Places.grouped}
 use Rattle.soap_envelope.specs.Faults.{fault_body, not_understood_block}
-use Rattle.soap_envelope.proofs.Places.{grouped}
 use Rattle.soap_envelope.proofs.faults.put_report.Goals as goal
 
 pub returns-clause-put : goal.returns-clause-put

@@ -1,8 +1,6 @@
 -- What is left behind the items so far, where the rest fits just where all do.
-use Rattle.std.proofs.Common.{◌≡◌, ◌≤◌, Some, drop, map}
-use Rattle.soap_envelope.specs.Body.{self_standing}
-use Rattle.soap_envelope.specs.Fitting.{fits}
-use Rattle.soap_envelope.specs.Layers.{kept}
+use Rattle.std.proofs.Common.{◌≡◌, ◌≤◌, map, drop, Some}
+use Rattle.soap_envelope.specs.{Body.self_standing, Fitting.fits, Layers.kept}
 use Rattle.soap_envelope.proofs.fitting.content_fits.Given as goal
 
 abbrev pub invariant-loop-i : goal.invariant-loop-i

@@ -1,9 +1,7 @@
 -- What is left behind the declarations so far leaves the answer behind the rest.
-use Rattle.std.proofs.Common.{◌≡◌, drop, map}
+use Rattle.std.proofs.Common.{◌≡◌, map, drop}
 use Rattle.nbfx_values.specs.Measures.{content_of}
-use Rattle.soap_envelope.specs.Body.{missing, xmlns_of}
-use Rattle.soap_envelope.specs.Fitting.{left_behind}
-use Rattle.soap_envelope.specs.Layers.{kept}
+use Rattle.soap_envelope.specs.{Body.missing, Body.xmlns_of, Fitting.left_behind, Layers.kept}
 use Rattle.soap_envelope.proofs.fitting.left_by_missing.Given as goal
 
 abbrev pub invariant-loop-one : goal.invariant-loop-one

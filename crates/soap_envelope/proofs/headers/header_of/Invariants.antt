@@ -1,8 +1,6 @@
 -- The blocks among the children so far, and the first bad item of those and of the rest.
-use Rattle.std.proofs.Common.{◌≡◌, drop, take}
-use Rattle.std.specs.Option.{option_or}
-use Rattle.soap_envelope.specs.Blocks.{blocks_among}
-use Rattle.soap_envelope.specs.Headers.{bad_header}
+use Rattle.std.{proofs.Common.◌≡◌, proofs.Common.take, proofs.Common.drop, specs.Option.option_or}
+use Rattle.soap_envelope.specs.{Blocks.blocks_among, Headers.bad_header}
 use Rattle.soap_envelope.proofs.headers.header_of.Given as goal
 
 abbrev pub invariant-loop-child : goal.invariant-loop-child

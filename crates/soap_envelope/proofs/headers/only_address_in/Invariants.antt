@@ -1,8 +1,6 @@
 -- The Address found so far, and those to come.
-use Rattle.std.proofs.Common.{◌≡◌, ◌++◌, length}
-use Rattle.std.specs.Option.{option_to_list}
-use Rattle.soap_envelope.specs.Children.{children_of}
-use Rattle.soap_envelope.specs.Headers.{addresses_among, only}
+use Rattle.std.proofs.Common.{◌≡◌, ◌++◌, length, option_to_list}
+use Rattle.soap_envelope.specs.{Children.children_of, Headers.addresses_among, Headers.only}
 use Rattle.soap_envelope.proofs.headers.only_address_in.Given as goal
 
 abbrev pub invariant-loop-child : goal.invariant-loop-child

@@ -1,5 +1,4 @@
-use Rattle.soap_envelope.proofs.BodyNames.{bodies_are_named}
-use Rattle.soap_envelope.proofs.LawFacts.{bodies_stand}
+use Rattle.soap_envelope.proofs.{BodyNames.bodies_are_named, LawFacts.bodies_stand}
 use Rattle.soap_envelope.proofs.laws.bodies.Goals as goal
 
 pub returns-clause-stand : goal.returns-clause-stand

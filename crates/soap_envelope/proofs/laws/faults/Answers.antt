@@ -1,5 +1,4 @@
-use Rattle.soap_envelope.proofs.FaultSizes.{unfit_names_are_unfit}
-use Rattle.soap_envelope.proofs.LawFacts.{faults_are_viewed}
+use Rattle.soap_envelope.proofs.{FaultSizes.unfit_names_are_unfit, LawFacts.faults_are_viewed}
 use Rattle.soap_envelope.proofs.laws.faults.Goals as goal
 
 pub returns-clause-viewed : goal.returns-clause-viewed

@@ -1,5 +1,4 @@
-use Rattle.soap_envelope.proofs.Renamed.{prefixes_are_free}
-use Rattle.soap_envelope.proofs.ResolvedViews.{names_are_all}
+use Rattle.soap_envelope.proofs.{Renamed.prefixes_are_free, ResolvedViews.names_are_all}
 use Rattle.soap_envelope.proofs.laws.prefixes.Goals as goal
 
 pub returns-clause-names : goal.returns-clause-names

@@ -1,10 +1,7 @@
-use Rattle.std.proofs.Common.{◌≡◌, ◌∙◌, Bor, [], List, None, Option, Some, ap, get_or}
-use Rattle.std.proofs.Common.{if◌then◌else◌, sym, ℕ}
-use Rattle.std.specs.Option.{option_or}
-use Rattle.std.specs.Str.{bytes_eq}
-use Rattle.soap_envelope.specs.declared.layers.Declared.{Declared}
-use Rattle.soap_envelope.specs.Layers.{place_in}
-use Rattle.soap_envelope.proofs.LayerFacts.{place-more}
+use Rattle.std.proofs.Common.{◌≡◌, ℕ, List, [], get_or, if◌then◌else◌, Some, None, Option, bytes_eq}
+use Rattle.std.proofs.Common.{sym, ap, ◌∙◌, Bor}
+use Rattle.{std.specs.Option.option_or, soap_envelope.proofs.LayerFacts.place-more}
+use Rattle.soap_envelope.specs.{declared.layers.Declared.Declared, Layers.place_in}
 use Rattle.soap_envelope.proofs.layers.places_of.Goals as goal
 
 abbrev no_text : Bor (List ℕ)

@@ -1,5 +1,4 @@
-use Rattle.std.proofs.Common.{◌∙◌, sym}
-use Rattle.std.proofs.lemmas.Map.Text.{btree_map_updates_str}
+use Rattle.std.proofs.{Common.sym, Common.◌∙◌, lemmas.Map.Text.btree_map_updates_str}
 use Rattle.soap_envelope.proofs.LayerFacts.{place-kept, place-put}
 use Rattle.soap_envelope.proofs.layers.put_place.Goals as goal
 

@@ -1,7 +1,6 @@
-use Rattle.std.proofs.Common.{◌≡◌, List, [], ◌∷◌, ◌++◌, append_assoc, codes, false, length, eqb}
-use Rattle.std.proofs.Common.{refl, sym, ◌∙◌}
-use Rattle.nbfx_values.specs.declared.content.Item.{Item}
-use Rattle.nbfx_values.specs.declared.content.Item.TheVariants.{Close}
+use Rattle.std.proofs.Common.{◌≡◌, false, eqb, List, [], ◌∷◌, ◌++◌, length, codes, sym, refl, ◌∙◌}
+use Rattle.std.proofs.Common.{append_assoc}
+use Rattle.nbfx_values.specs.declared.content.Item.{Item, TheVariants.Close}
 use Rattle.soap_envelope.specs.Making.{addressing_start, relates_block}
 use Rattle.soap_envelope.proofs.making.put_relates.Goals as goal
 

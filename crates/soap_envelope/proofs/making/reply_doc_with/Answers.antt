@@ -1,6 +1,5 @@
-use Rattle.std.proofs.Common.{[], refl, subst, sym}
-use Rattle.nbfx_values.specs.Documents.{IsDocument}
-use Rattle.soap_envelope.proofs.Places.{envelope-document}
+use Rattle.std.proofs.Common.{[], sym, refl, subst}
+use Rattle.{nbfx_values.specs.Documents.IsDocument, soap_envelope.proofs.Places.envelope-document}
 use Rattle.soap_envelope.proofs.making.reply_doc_with.Goals as goal
 
 pub document-requires : goal.document-requires

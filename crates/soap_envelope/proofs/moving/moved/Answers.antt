@@ -1,7 +1,6 @@
-use Rattle.std.proofs.Common.{◌≡◌, ◌∙◌, ap, length, take, sym}
+use Rattle.std.proofs.Common.{◌≡◌, length, take, sym, ap, ◌∙◌, map-id}
 use Rattle.std.proofs.lemmas.Iterator.Adapters.{YieldsList-from_skip, YieldsList-from_vec}
 use Rattle.std.proofs.lemmas.Iterator.Consumers.{YieldsList-at, YieldsList-end}
-use Rattle.std.proofs.lemmas.List.{map-id}
 use Rattle.soap_envelope.proofs.moving.moved.Goals as goal
 
 pub returns : goal.returns

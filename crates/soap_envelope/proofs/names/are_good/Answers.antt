@@ -1,17 +1,15 @@
-use Rattle.std.proofs.Common.{◌≡◌, ◌∙◌, ◌∷◌, ◌+◌, ap, arith, drop, false, sym, take}
-use Rattle.std.specs.Option.{is_some}
-use Rattle.soap_envelope.specs.BadNames.{are_good}
+use Rattle.std.proofs.Common.{◌≡◌, ◌+◌, false, ◌∷◌, take, drop, is_some, sym, ap, ◌∙◌, arith}
+use Rattle.soap_envelope.specs.{BadNames.are_good, Bindings.innermost}
 use Rattle.soap_envelope.specs.Scopes.{declared_on, uri_in}
-use Rattle.soap_envelope.proofs.Lists.{drop-at}
+use Rattle.soap_envelope.proofs.{Lists.drop-at, names.are_good.Goals.in-Attr+else-not-is_bound}
 use Rattle.soap_envelope.proofs.NameFacts.{declares-step, has-step}
-use Rattle.soap_envelope.proofs.names.are_good.Goals as goal
 use Rattle.soap_envelope.proofs.names.are_good.Goals.{in-Xmlns+else-declares_before}
-use Rattle.soap_envelope.proofs.names.are_good.Goals.{in-Attr+else-not-is_bound}
+use Rattle.soap_envelope.proofs.names.are_good.Goals as goal
 
 pub loop-attribute-preserved : goal.loop-attribute-preserved
 loop-attribute-preserved c =
-    let own = c.args.own.now in
-    let scope = own ∷ c.args.outer.now in
+    let scope = c.args.inner.now in
+    let own = innermost scope in
     let attributes = c.args.attributes.now in
     let i = c.loop-attribute.attribute-index in
     let rest = drop (i + 1) attributes in

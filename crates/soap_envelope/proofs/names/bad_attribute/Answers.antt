@@ -1,17 +1,15 @@
-use Rattle.std.proofs.Common.{◌≡◌, ◌∙◌, ◌∷◌, ◌+◌, ap, arith, drop, false, sym, take}
-use Rattle.std.specs.Option.{is_some}
-use Rattle.soap_envelope.specs.BadNames.{bad_attribute}
+use Rattle.std.proofs.Common.{◌≡◌, ◌+◌, false, ◌∷◌, take, drop, is_some, sym, ap, ◌∙◌, arith}
+use Rattle.soap_envelope.specs.{BadNames.bad_attribute, Bindings.innermost}
 use Rattle.soap_envelope.specs.Scopes.{declared, uri_in}
-use Rattle.soap_envelope.proofs.Lists.{drop-at}
+use Rattle.soap_envelope.proofs.{Lists.drop-at, names.bad_attribute.Goals.in-Attr+else-not-is_bound}
 use Rattle.soap_envelope.proofs.NameFacts.{attr-step, xmlns-step}
-use Rattle.soap_envelope.proofs.names.bad_attribute.Goals as goal
 use Rattle.soap_envelope.proofs.names.bad_attribute.Goals.{in-Xmlns+else-declares_before}
-use Rattle.soap_envelope.proofs.names.bad_attribute.Goals.{in-Attr+else-not-is_bound}
+use Rattle.soap_envelope.proofs.names.bad_attribute.Goals as goal
 
 pub loop-i-preserved : goal.loop-i-preserved
 loop-i-preserved c =
-    let own = c.args.own.now in
-    let scope = own ∷ c.args.outer.now in
+    let scope = c.args.inner.now in
+    let own = innermost scope in
     let behind = c.args.behind.now in
     let i = c.loop-i.i in
     let rest = drop (i + 1) behind in

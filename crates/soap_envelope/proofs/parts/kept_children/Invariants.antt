@@ -1,8 +1,6 @@
 -- Those of the children so far, and of those to come, that aren't passed over.
-use Rattle.std.proofs.Common.{◌≡◌, ◌++◌, length, not, slice_get}
-use Rattle.std.specs.List.{filter}
-use Rattle.soap_envelope.specs.Characters.{is_passed}
-use Rattle.soap_envelope.specs.Parts.{kept_children}
+use Rattle.std.proofs.Common.{◌≡◌, not, ◌++◌, length, slice_get, filter}
+use Rattle.soap_envelope.specs.{Characters.is_passed, Parts.kept_children}
 use Rattle.soap_envelope.proofs.parts.kept_children.Given as goal
 
 abbrev pub invariant-loop-child : goal.invariant-loop-child

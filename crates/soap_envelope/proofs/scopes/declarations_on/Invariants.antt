@@ -1,7 +1,6 @@
 -- The declarations so far, and those to come.
 use Rattle.std.proofs.Common.{◌≡◌, ◌++◌, drop}
-use Rattle.soap_envelope.specs.Layers.{layer_of}
-use Rattle.soap_envelope.specs.Scopes.{declared_on}
+use Rattle.soap_envelope.specs.{Layers.layer_of, Scopes.declared_on}
 use Rattle.soap_envelope.proofs.scopes.declarations_on.Given as goal
 
 abbrev pub invariant-loop-attribute : goal.invariant-loop-attribute

@@ -1,6 +1,5 @@
-use Rattle.std.proofs.Common.{◌∙◌, ◌-◌, ap, arith, length, take}
-use Rattle.std.proofs.lemmas.List.{drop-take}
-use Rattle.soap_envelope.specs.Body.{behind_head}
+use Rattle.std.proofs.Common.{◌-◌, length, take, ap, ◌∙◌, arith}
+use Rattle.{std.proofs.lemmas.List.drop-take, soap_envelope.specs.Body.behind_head}
 use Rattle.soap_envelope.proofs.Suffixes.{content-from_end, content-shorter}
 use Rattle.soap_envelope.proofs.taking.content_places.Goals as goal
 

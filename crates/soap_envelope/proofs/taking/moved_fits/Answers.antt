@@ -1,6 +1,5 @@
-use Rattle.std.proofs.Common.{◌≤◌, arith, sym}
-use Rattle.nbfx_values.specs.Measures.{content_of}
-use Rattle.soap_envelope.proofs.FitFacts.{part-fits}
+use Rattle.std.proofs.Common.{◌≤◌, sym, arith}
+use Rattle.{nbfx_values.specs.Measures.content_of, soap_envelope.proofs.FitFacts.part-fits}
 use Rattle.soap_envelope.proofs.taking.moved_fits.Goals as goal
 
 pub returns-then-content-quotas : goal.returns-then-content-quotas

@@ -1,13 +1,8 @@
-use Rattle.std.proofs.Common.{◌≡◌, ◌∙◌, Option, List, subst, sym}
-use Rattle.std.proofs.lemmas.Result.{IfOk-weaker}
-use Rattle.std.specs.Prelude.{IfSome}
-use Rattle.nbfx_values.specs.declared.content.Item.{Item}
-use Rattle.soap_envelope.specs.Body.{body_items}
-use Rattle.soap_envelope.specs.Fitting.{fitting}
-use Rattle.soap_envelope.specs.Making.{IsContent}
-use Rattle.soap_envelope.specs.Parts.{root_scope}
-use Rattle.soap_envelope.proofs.Contents.{body-content}
-use Rattle.soap_envelope.proofs.FitFacts.{fitting-all}
+use Rattle.std.proofs.Common.{◌≡◌, List, IfSome, Option, sym, ◌∙◌, subst}
+use Rattle.{std.proofs.lemmas.Result.IfOk-weaker, nbfx_values.specs.declared.content.Item.Item}
+use Rattle.soap_envelope.specs.{Body.body_items, Fitting.fitting}
+use Rattle.soap_envelope.specs.{Making.IsContent, Parts.root_scope}
+use Rattle.soap_envelope.proofs.{Contents.body-content, FitFacts.fitting-all}
 use Rattle.soap_envelope.proofs.taking.take_body.Goals as goal
 
 pub returns-then-branch-clause-content : goal.returns-then-branch-clause-content

@@ -1,6 +1,5 @@
 -- The characters of the children so far, and of those to come.
-use Rattle.std.proofs.Common.{◌≡◌, ◌++◌, length, slice_get, string_bytes}
-use Rattle.std.specs.List.{flat_map}
+use Rattle.std.proofs.Common.{◌≡◌, ◌++◌, length, slice_get, string_bytes, flat_map}
 use Rattle.soap_envelope.specs.Characters.{characters_of, text_of}
 use Rattle.soap_envelope.proofs.texts.text_of.Given as goal
 

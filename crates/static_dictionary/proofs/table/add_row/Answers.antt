@@ -1,6 +1,5 @@
-use Rattle.std.proofs.Common.{◌∙◌, sym, ap, None}
-use Rattle.static_dictionary.specs.Inside.{entries_in}
-use Rattle.static_dictionary.specs.Rows.{fault_or}
+use Rattle.std.proofs.Common.{None, sym, ap, ◌∙◌}
+use Rattle.static_dictionary.specs.{Inside.entries_in, Rows.fault_or}
 use Rattle.static_dictionary.proofs.MapFacts.{fault_or-repeated, is_some-shown, none-from_is_some}
 use Rattle.static_dictionary.proofs.table.add_row.Goals as goal
 

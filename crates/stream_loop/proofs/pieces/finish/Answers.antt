@@ -1,6 +1,5 @@
-use Rattle.std.proofs.lemmas.Result.{err_from_is_err_and}
-use Rattle.stream_loop.specs.Answers.{written_by}
-use Rattle.stream_loop.proofs.PieceSteps.{ends_well, ends_cut}
+use Rattle.{std.proofs.lemmas.Result.err_from_is_err_and, stream_loop.specs.Answers.written_by}
+use Rattle.stream_loop.proofs.PieceSteps.{ends_cut, ends_well}
 use Rattle.stream_loop.proofs.pieces.finish.Goals as goal
 
 pub returns-in_err-put_ending-clause-ends : goal.returns-in_err-put_ending-clause-ends

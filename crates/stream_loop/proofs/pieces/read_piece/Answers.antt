@@ -1,24 +1,18 @@
-use Rattle.std.proofs.Common.{rules, ◌+◌, refl, ◌≡◌, Bool, ◌-◌, ℕ, ◌<◌, ◌≤◌, append_assoc, List, []}
-use Rattle.std.proofs.Common.{◌++◌, length, take, false, Option, Some, None, Result, Ok, Err, sym}
-use Rattle.std.proofs.Common.{ap, ◌∙◌, subst, arith}
-use Rattle.std.proofs.lemmas.List.{append-nil}
-use Rattle.std.proofs.lemmas.Result.{err_from_is_err_and}
-use Rattle.io_edges.specs.Puts.{PutsAll}
-use Rattle.io_edges.specs.declared.SinkFault.{SinkFault}
+use Rattle.std.proofs.Common.{◌≡◌, ℕ, ◌+◌, ◌-◌, ◌<◌, ◌≤◌, Bool, false, List, [], ◌++◌, length, take}
+use Rattle.std.proofs.Common.{Some, None, Ok, Err, Option, Result, sym, refl, ap, ◌∙◌, subst}
+use Rattle.std.proofs.Common.{append_assoc, append-nil, arith, rules}
+use Rattle.{std.proofs.lemmas.Result.err_from_is_err_and, unit_streams.proofs.Pending.open_going_on}
 use Rattle.io_edges.proofs.Putting.{PutsAll-nothing, PutsAll-then}
-use Rattle.unit_streams.specs.Grammar.{Grammar}
-use Rattle.unit_streams.specs.Judging.{is_over_at, answer}
-use Rattle.unit_streams.specs.Tellers.{Teller, told_so_far, state_at}
-use Rattle.unit_streams.proofs.Pending.{open_going_on}
-use Rattle.unit_streams.proofs.Pieces.{rest_of, rest_length, further, joined, none_due, due_behind}
+use Rattle.io_edges.specs.{declared.SinkFault.SinkFault, Puts.PutsAll}
+use Rattle.unit_streams.proofs.Pieces.{due_behind, further, joined, none_due, rest_length, rest_of}
+use Rattle.unit_streams.specs.{Grammar.Grammar, Judging.answer, Judging.is_over_at}
+use Rattle.unit_streams.specs.Tellers.{state_at, Teller, told_so_far}
+use Rattle.stream_loop.specs.{declared.reading_end.FeedFault.TheVariants.Refused, LoopParts.HasRead}
 use Rattle.stream_loop.specs.Answers.{Says, written_by}
-use Rattle.stream_loop.specs.LoopParts.{HasRead}
-use Rattle.stream_loop.specs.declared.reading_end.FeedFault.TheVariants.{Refused}
-use Rattle.stream_loop.proofs.PieceSteps.{said_at, puts_as, ReadsEvent, read_more, event_read}
-use Rattle.stream_loop.proofs.PieceSteps.{refusal_read, reads_judged}
-use Rattle.stream_loop.proofs.pieces.read_piece.Given.{Over}
+use Rattle.stream_loop.proofs.PieceSteps.{event_read, puts_as, read_more, reads_judged, ReadsEvent}
+use Rattle.stream_loop.proofs.PieceSteps.{refusal_read, said_at}
+use Rattle.stream_loop.proofs.pieces.read_piece.{Given.Over, Goals.After-feed}
 use Rattle.stream_loop.proofs.pieces.read_piece.Goals as goal
-use Rattle.stream_loop.proofs.pieces.read_piece.Goals.{After-feed}
 
 -- the rest of the piece is fed to an end that has read so far
 module _ (g : Over) (f : After-feed g) (p : List ℕ)

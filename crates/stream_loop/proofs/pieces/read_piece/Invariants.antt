@@ -1,8 +1,6 @@
 use Rattle.std.proofs.Common.{◌≡◌, ℕ, ◌-◌, ◌≤◌, List, ◌++◌, length, take, Ok}
-use Rattle.io_edges.specs.Puts.{PutsAll}
-use Rattle.unit_streams.specs.Tellers.{told_so_far}
-use Rattle.stream_loop.specs.Answers.{written_by}
-use Rattle.stream_loop.specs.LoopParts.{HasRead}
+use Rattle.{io_edges.specs.Puts.PutsAll, unit_streams.specs.Tellers.told_so_far}
+use Rattle.stream_loop.specs.{Answers.written_by, LoopParts.HasRead}
 use Rattle.stream_loop.proofs.pieces.read_piece.Given as goal
 
 abbrev pub invariant-loop-refusal : goal.invariant-loop-refusal

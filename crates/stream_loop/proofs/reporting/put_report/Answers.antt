@@ -1,29 +1,21 @@
-use Rattle.std.proofs.Common.{ℕ, ◌<◌, ◌≡◌, List, [], ◌++◌, length, take, inl, inr, Bool, Option}
-use Rattle.std.proofs.Common.{Some, Result, Ok, Err, refl, sym, ap, ◌∙◌, subst, arith}
-use Rattle.std.proofs.lemmas.List.{append-nil}
-use Rattle.std.proofs.lemmas.Result.{err_from_is_err_and}
-use Rattle.std.specs.Prelude.{⊤}
-use Rattle.io_edges.specs.Faults.{one_more}
-use Rattle.io_edges.specs.Flow.{Told}
-use Rattle.io_edges.specs.Puts.{PutsAll}
-use Rattle.io_edges.specs.declared.SinkFault.{SinkFault}
+use Rattle.std.proofs.Common.{◌≡◌, ℕ, ◌<◌, Bool, List, [], ◌++◌, length, take, Some, Ok, Err, arith}
+use Rattle.std.proofs.Common.{Option, Result, sym, refl, ap, ◌∙◌, subst, inl, inr, append-nil}
+use Rattle.std.{specs.Prelude.⊤, proofs.lemmas.Result.err_from_is_err_and}
 use Rattle.io_edges.proofs.Putting.{PutsAll-nothing, PutsAll-then}
-use Rattle.unit_streams.specs.Grammar.{Grammar}
-use Rattle.unit_streams.specs.Tellers.{Teller, AreDue, report, told_so_far}
-use Rattle.unit_streams.proofs.Telling.{told_nothing}
-use Rattle.stream_loop.specs.Answers.{written_by}
-use Rattle.stream_loop.specs.Edges.{Input, Output, input_at, output_at}
-use Rattle.stream_loop.specs.LoopParts.{ReadsOf, done}
-use Rattle.stream_loop.specs.declared.pieces.Progress.{Progress}
-use Rattle.stream_loop.proofs.Writing.{counted_with, counted_none, after_flush, puts_grow}
-use Rattle.stream_loop.proofs.LoopSteps.{room_is, first_read, first_pending, reads_at, ends_at}
-use Rattle.stream_loop.proofs.LoopSteps.{less_left, Came, piece_came, has_reported, lines_due}
-use Rattle.stream_loop.proofs.LoopSteps.{left_still, taken_still, end_left, end_taken, end_over}
-use Rattle.stream_loop.proofs.LoopSteps.{WritesLines, flush_cut, left_as, taken_as, writes_lines}
-use Rattle.stream_loop.proofs.LoopSteps.{writes_more, writes_none, writes_some}
-use Rattle.stream_loop.proofs.reporting.put_report.Given.{Over}
+use Rattle.io_edges.specs.{declared.SinkFault.SinkFault, Faults.one_more, Flow.Told, Puts.PutsAll}
+use Rattle.unit_streams.{proofs.Telling.told_nothing, specs.Grammar.Grammar}
+use Rattle.unit_streams.specs.Tellers.{AreDue, report, Teller, told_so_far}
+use Rattle.stream_loop.specs.{declared.pieces.Progress.Progress, Answers.written_by}
+use Rattle.stream_loop.specs.Edges.{Input, input_at, Output, output_at}
+use Rattle.stream_loop.specs.LoopParts.{done, ReadsOf}
+use Rattle.stream_loop.proofs.LoopSteps.{Came, end_left, end_over, end_taken, ends_at}
+use Rattle.stream_loop.proofs.LoopSteps.{first_pending, first_read, flush_cut, has_reported}
+use Rattle.stream_loop.proofs.LoopSteps.{left_as, left_still, less_left, lines_due, piece_came}
+use Rattle.stream_loop.proofs.LoopSteps.{reads_at, room_is, taken_as, taken_still, writes_lines}
+use Rattle.stream_loop.proofs.LoopSteps.{writes_more, writes_none, writes_some, WritesLines}
+use Rattle.stream_loop.proofs.Writing.{after_flush, counted_none, counted_with, puts_grow}
+use Rattle.stream_loop.proofs.reporting.put_report.{Given.Over, Goals.After-read_piece}
 use Rattle.stream_loop.proofs.reporting.put_report.Goals as goal
-use Rattle.stream_loop.proofs.reporting.put_report.Goals.{After-read_piece}
 
 module _ (g : Over) where
   -- the ends, by what they tell
@@ -117,8 +109,8 @@ returns-in_err-flush-clause-counted g c =
     counted_none _ _ _ c.loop-room.invariant.input_faults (λ e. let is = r.1 in cc)
 
 -- reading failed
-pub returns-in_default-take-clause-reports : goal.returns-in_default-take-clause-reports
-returns-in_default-take-clause-reports g c =
+pub returns-in_default-take_more-clause-reports : goal.returns-in_default-take_more-clause-reports
+returns-in_default-take_more-clause-reports g c =
     let x = g.E.ReadingEnd.grammar c.args.end.now in
     let t = teller_of g c.args.reporter.now in
     let i = c.loop-room.invariant.reads in
@@ -126,26 +118,27 @@ returns-in_default-take-clause-reports g c =
     c.in_ok-flush.ensures.counted c.in_ok-flush.ensures.wanted c.in_ok-flush.ensures.settled in (
       told_so_far x t i.0,
       put,
-      has_reported x t (input_of g c.args.input.now) (input_of g c.take.new.self)
+      has_reported x t (input_of g c.args.input.now) (input_of g c.take_more.new.input)
           (output_of g c.args.output.now) (output_of g c.flush.new.self) i.0 [] i.2 _ _ _
           (omega arith) (left_still (g.I.Source.left c.args.input.now)
-          (g.I.Source.left c.loop-room.input) (g.I.Source.left c.take.new.self) i.0 i.3
-          c.in_default-take.ensures.failed_left) (taken_still (g.I.Source.taken c.args.input.now)
-          (g.I.Source.taken c.loop-room.input) (g.I.Source.taken c.take.new.self) i.0 i.4
-          c.in_default-take.ensures.failed_taken)
+          (g.I.Source.left c.loop-room.input) (g.I.Source.left c.take_more.new.input) i.0 i.3
+          c.in_default-take_more.ensures.failed_left)
+          (taken_still (g.I.Source.taken c.args.input.now)
+          (g.I.Source.taken c.loop-room.input) (g.I.Source.taken c.take_more.new.input) i.0 i.4
+          c.in_default-take_more.ensures.failed_taken)
           (writes_some x t (g.O.Sink.held c.args.output.now) i.0 _ _
           (writes_lines x t (g.O.Sink.held c.args.output.now) i.0 _ _ _ put.written
           c.in_ok-flush.ensures.emptied)) (
             refl,
             refl,
             c.in_ok-flush.ensures.emptied,
-            c.in_default-take.ensures.empty.same (λ e. cc) ∙ c.loop-room.invariant.empty_takes,
+            c.in_default-take_more.ensures.empty.same (λ e. cc) ∙ c.loop-room.invariant.empty_takes,
           ),
     )
 
-pub returns-in_default-take-clause-counted : goal.returns-in_default-take-clause-counted
-returns-in_default-take-clause-counted g c = counted_with _ _ _ _ _
-    c.loop-room.invariant.input_faults c.in_default-take.ensures.counted (λ e. cc) (λ e. refl)
+pub returns-in_default-take_more-clause-counted : goal.returns-in_default-take_more-clause-counted
+returns-in_default-take_more-clause-counted g c = counted_with _ _ _ _ _
+    c.loop-room.invariant.input_faults c.in_default-take_more.ensures.counted (λ e. cc) (λ e. refl)
 
 -- the input is over
 pub returns-in_err-finish-clause-reports : goal.returns-in_err-finish-clause-reports
@@ -163,19 +156,21 @@ returns-in_err-finish-clause-reports g c =
     (g.T.Reporter.state c.loop-room.reporter) i.0 i.1 i.2
     (g.T.Reporter.state c.finish.new.reporter) _ (Err c.in_err-finish.field-0.0)
     c.in_err-finish.ensures.ends in
-    let once = c.in-Ok-take.ensures.empty.once (ap Ok c.if-n-eq0.true)
+    let once = c.in-Ok-take_more.ensures.empty.once (ap Ok c.if-n-eq0.true)
     ∙ ap one_more c.loop-room.invariant.empty_takes in
     rw (r.1, r.2) (
       told_so_far x t i.0 ++ e.0,
       PutsAll-then _ put e.1,
-      has_reported x t (input_of g c.args.input.now) (input_of g c.take.new.self)
+      has_reported x t (input_of g c.args.input.now) (input_of g c.take_more.new.input)
           (output_of g c.args.output.now) (output_of g c.finish.new.output) i.0 [] i.2 _ _ _
           (omega arith) (end_left (g.I.Source.left c.args.input.now)
-          (g.I.Source.left c.loop-room.input) (g.I.Source.left c.take.new.self) i.0 c.take.new.room
-          c.in-Ok-take.n c.if-n-eq0.true i.3 c.in-Ok-take.ensures.moved)
+          (g.I.Source.left c.loop-room.input) (g.I.Source.left c.take_more.new.input) i.0
+          c.take_more.new.room
+          c.in-Ok-take_more.n c.if-n-eq0.true i.3 c.in-Ok-take_more.ensures.moved)
           (end_taken (g.I.Source.taken c.args.input.now) (g.I.Source.taken c.loop-room.input)
-          (g.I.Source.taken c.take.new.self) i.0 c.take.new.room c.in-Ok-take.n c.if-n-eq0.true i.4
-          c.in-Ok-take.ensures.taken)
+          (g.I.Source.taken c.take_more.new.input) i.0 c.take_more.new.room c.in-Ok-take_more.n
+          c.if-n-eq0.true i.4
+          c.in-Ok-take_more.ensures.taken)
           (writes_some x t (g.O.Sink.held c.args.output.now) i.0 _ _
           (writes_more x t (g.O.Sink.held c.args.output.now) i.0 _ _ _
           (writes_lines x t (g.O.Sink.held c.args.output.now) i.0 _ _ _ put.written
@@ -184,9 +179,10 @@ returns-in_err-finish-clause-reports g c =
             refl,
             e.2,
             end_over (g.I.Source.left c.args.input.now)
-                (g.I.Source.left c.loop-room.input) (g.I.Source.left c.take.new.self) i.0
-                c.take.new.room c.in-Ok-take.n c.if-n-eq0.true i.3 c.in-Ok-take.ensures.moved
-                (c.in-Ok-take.ensures.ended (let room = c.loop-room.invariant.room in omega
+                (g.I.Source.left c.loop-room.input) (g.I.Source.left c.take_more.new.input) i.0
+                c.take_more.new.room c.in-Ok-take_more.n c.if-n-eq0.true i.3
+                c.in-Ok-take_more.ensures.moved
+                (c.in-Ok-take_more.ensures.ended (let room = c.loop-room.invariant.room in omega
                 (arith, c.deref_mut.ensures.len, room))),
             once,
           )),
@@ -196,7 +192,7 @@ pub returns-in_err-finish-clause-counted : goal.returns-in_err-finish-clause-cou
 returns-in_err-finish-clause-counted g c =
     let r = err_from_is_err_and c.from_residual-in_err-finish.result
     c.from_residual-in_err-finish.ensures.1 in
-    counted_none _ _ _ (c.in-Ok-take.ensures.counted.same (λ e. cc)
+    counted_none _ _ _ (c.in-Ok-take_more.ensures.counted.same (λ e. cc)
     ∙ c.loop-room.invariant.input_faults) (λ e. let is = r.1 in cc)
 
 pub returns-then-n-eq0-clause-reports : goal.returns-then-n-eq0-clause-reports
@@ -212,18 +208,20 @@ returns-then-n-eq0-clause-reports g c =
     (g.T.Reporter.state c.loop-room.reporter) i.0 i.1 i.2
     (g.T.Reporter.state c.finish.new.reporter) _ (Ok c.in_ok-finish.field-0)
     c.in_ok-finish.ensures.ends in
-    let once = c.in-Ok-take.ensures.empty.once (ap Ok c.if-n-eq0.true)
+    let once = c.in-Ok-take_more.ensures.empty.once (ap Ok c.if-n-eq0.true)
     ∙ ap one_more c.loop-room.invariant.empty_takes in (
       told_so_far x t i.0 ++ e.0,
       PutsAll-then _ put e.1,
-      has_reported x t (input_of g c.args.input.now) (input_of g c.take.new.self)
+      has_reported x t (input_of g c.args.input.now) (input_of g c.take_more.new.input)
           (output_of g c.args.output.now) (output_of g c.finish.new.output) i.0 [] i.2 _ _ _
           (omega arith) (end_left (g.I.Source.left c.args.input.now)
-          (g.I.Source.left c.loop-room.input) (g.I.Source.left c.take.new.self) i.0 c.take.new.room
-          c.in-Ok-take.n c.if-n-eq0.true i.3 c.in-Ok-take.ensures.moved)
+          (g.I.Source.left c.loop-room.input) (g.I.Source.left c.take_more.new.input) i.0
+          c.take_more.new.room
+          c.in-Ok-take_more.n c.if-n-eq0.true i.3 c.in-Ok-take_more.ensures.moved)
           (end_taken (g.I.Source.taken c.args.input.now) (g.I.Source.taken c.loop-room.input)
-          (g.I.Source.taken c.take.new.self) i.0 c.take.new.room c.in-Ok-take.n c.if-n-eq0.true i.4
-          c.in-Ok-take.ensures.taken)
+          (g.I.Source.taken c.take_more.new.input) i.0 c.take_more.new.room c.in-Ok-take_more.n
+          c.if-n-eq0.true i.4
+          c.in-Ok-take_more.ensures.taken)
           (writes_some x t (g.O.Sink.held c.args.output.now) i.0 _ _
           (writes_more x t (g.O.Sink.held c.args.output.now) i.0 _ _ _
           (writes_lines x t (g.O.Sink.held c.args.output.now) i.0 _ _ _ put.written
@@ -233,9 +231,10 @@ returns-then-n-eq0-clause-reports g c =
               refl,
               e.2.1,
               end_over (g.I.Source.left c.args.input.now)
-                  (g.I.Source.left c.loop-room.input) (g.I.Source.left c.take.new.self) i.0
-                  c.take.new.room c.in-Ok-take.n c.if-n-eq0.true i.3 c.in-Ok-take.ensures.moved
-                  (c.in-Ok-take.ensures.ended (let room = c.loop-room.invariant.room in omega
+                  (g.I.Source.left c.loop-room.input) (g.I.Source.left c.take_more.new.input) i.0
+                  c.take_more.new.room c.in-Ok-take_more.n c.if-n-eq0.true i.3
+                  c.in-Ok-take_more.ensures.moved
+                  (c.in-Ok-take_more.ensures.ended (let room = c.loop-room.invariant.room in omega
                   (arith, c.deref_mut.ensures.len, room))),
               once,
             ),
@@ -244,7 +243,7 @@ returns-then-n-eq0-clause-reports g c =
     )
 
 pub returns-then-n-eq0-clause-counted : goal.returns-then-n-eq0-clause-counted
-returns-then-n-eq0-clause-counted g c = counted_none _ _ _ (c.in-Ok-take.ensures.counted.same
+returns-then-n-eq0-clause-counted g c = counted_none _ _ _ (c.in-Ok-take_more.ensures.counted.same
     (λ e. cc) ∙ c.loop-room.invariant.input_faults) (λ e. cc)
 
 -- a piece that came is read
@@ -261,24 +260,26 @@ module _ (g : Over) (f : After-read_piece g) where
   p = f.loop-room.invariant.reads.0
 
   abbrev y : List ℕ
-  y = take f.in-Ok-take.n f.deref.result.now
+  y = take f.in-Ok-take_more.n f.deref.result.now
 
-  came : Came (g.I.Source.left f.args.input.now) (g.I.Source.left f.take.new.self)
-      (g.I.Source.taken f.args.input.now) (g.I.Source.taken f.take.new.self) f.loop-room.room.items
-      f.take.new.room p y f.in-Ok-take.n
+  came : Came (g.I.Source.left f.args.input.now) (g.I.Source.left f.take_more.new.input)
+      (g.I.Source.taken f.args.input.now) (g.I.Source.taken f.take_more.new.input)
+      f.loop-room.room.items
+      f.take_more.new.room p y f.in-Ok-take_more.n
   came =
       let inv = f.loop-room.invariant in
       piece_came (g.I.Source.left f.args.input.now) (g.I.Source.left f.loop-room.input)
-      (g.I.Source.left f.take.new.self) (g.I.Source.taken f.args.input.now)
-      (g.I.Source.taken f.loop-room.input) (g.I.Source.taken f.take.new.self)
-      f.loop-room.room.items f.take.new.room f.deref.result.now f.loop-room.room.len f.in-Ok-take.n
-      inv.room f.loop-room.room.ok.0 (f.take.auto.room ∙ ap length f.deref_mut.ensures.value)
-      f.deref.ensures.value f.in-Ok-take.ensures.within p inv.reads.3 inv.reads.4
-      f.in-Ok-take.ensures.moved f.in-Ok-take.ensures.taken
+      (g.I.Source.left f.take_more.new.input) (g.I.Source.taken f.args.input.now)
+      (g.I.Source.taken f.loop-room.input) (g.I.Source.taken f.take_more.new.input)
+      f.loop-room.room.items f.take_more.new.room f.deref.result.now f.loop-room.room.len
+      f.in-Ok-take_more.n
+      inv.room f.loop-room.room.ok.0 (f.take_more.auto.room ∙ ap length f.deref_mut.ensures.value)
+      f.deref.ensures.value f.in-Ok-take_more.ensures.within p inv.reads.3 inv.reads.4
+      f.in-Ok-take_more.ensures.moved f.in-Ok-take_more.ensures.taken
 
   -- the take gave something
-  unasked : g.I.Source.empty_takes f.take.new.self ≡ g.I.Source.empty_takes f.args.input.now
-  unasked = f.in-Ok-take.ensures.empty.same (λ e. f.if-n-eq0.false (let is = e in cc))
+  unasked : g.I.Source.empty_takes f.take_more.new.input ≡ g.I.Source.empty_takes f.args.input.now
+  unasked = f.in-Ok-take_more.ensures.empty.same (λ e. f.if-n-eq0.false (let is = e in cc))
       ∙ f.loop-room.invariant.empty_takes
 
   -- what was put since the call
@@ -344,7 +345,7 @@ returns-in_err-read_piece-clause-reports g c =
     rw (r.1, r.2) (
       told_so_far (x g f) (t g f) (p g f) ++ s.0,
       PutsAll-then _ (before_piece g f) s.1,
-      has_reported (x g f) (t g f) (input_of g f.args.input.now) (input_of g f.take.new.self)
+      has_reported (x g f) (t g f) (input_of g f.args.input.now) (input_of g f.take_more.new.input)
           (output_of g f.args.output.now) (output_of g f.read_piece.new.output) (p g f) (y g f)
           c.loop-room.invariant.reads.2 _ _ _ (came g f).short (came g f).rest (came g f).handed
           (writes_some (x g f) (t g f) (g.O.Sink.held f.args.output.now) (p g f) _ _
@@ -355,7 +356,7 @@ pub returns-in_err-read_piece-clause-counted : goal.returns-in_err-read_piece-cl
 returns-in_err-read_piece-clause-counted g c =
     let r = err_from_is_err_and c.from_residual-in_err-read_piece.result
     c.from_residual-in_err-read_piece.ensures.1 in
-    counted_none _ _ _ (c.in-Ok-take.ensures.counted.same (λ e. cc)
+    counted_none _ _ _ (c.in-Ok-take_more.ensures.counted.same (λ e. cc)
     ∙ c.loop-room.invariant.input_faults) (λ e. let is = r.1 in cc)
 
 -- a piece that decides nothing
@@ -377,12 +378,12 @@ loop-room-preserved g c =
     let s = rw c.in-Going.is at (reads_as g f (Ok c.in_ok-read_piece.field-0)
     c.in_ok-read_piece.was) in
     record {
-      room = rw (room_is c.loop-room.room.items c.take.new.room c.loop-room.room.len
+      room = rw (room_is c.loop-room.room.items c.take_more.new.room c.loop-room.room.len
           c.loop-room.room.ok.0 (came g f).full)
           (omega (arith, (came g f).full, c.loop-room.invariant.room));
       grammar = c.read_piece.ensures.grammar ∙ c.loop-room.invariant.grammar;
       rules = c.read_piece.ensures.rules ∙ c.loop-room.invariant.rules;
-      input_faults = c.in-Ok-take.ensures.counted.same (λ e. cc)
+      input_faults = c.in-Ok-take_more.ensures.counted.same (λ e. cc)
           ∙ c.loop-room.invariant.input_faults;
       empty_takes = unasked g f;
       reads = (
@@ -412,7 +413,7 @@ returns-in-Judged-clause-reports g c =
     c.in_ok-read_piece.was) in (
       told_so_far (x g f) (t g f) (p g f) ++ s.0,
       PutsAll-then _ (before_piece g f) s.1,
-      has_reported (x g f) (t g f) (input_of g f.args.input.now) (input_of g f.take.new.self)
+      has_reported (x g f) (t g f) (input_of g f.args.input.now) (input_of g f.take_more.new.input)
           (output_of g f.args.output.now) (output_of g f.read_piece.new.output) (p g f) (y g f)
           c.loop-room.invariant.reads.2 _ _ _ (came g f).short (came g f).rest (came g f).handed
           (writes_some (x g f) (t g f) (g.O.Sink.held f.args.output.now) (p g f) _ _
@@ -420,7 +421,7 @@ returns-in-Judged-clause-reports g c =
     )
 
 pub returns-in-Judged-clause-counted : goal.returns-in-Judged-clause-counted
-returns-in-Judged-clause-counted g c = counted_none _ _ _ (c.in-Ok-take.ensures.counted.same
+returns-in-Judged-clause-counted g c = counted_none _ _ _ (c.in-Ok-take_more.ensures.counted.same
     (λ e. cc) ∙ c.loop-room.invariant.input_faults) (λ e. cc)
 
 -- there was no memory to read on
@@ -431,7 +432,7 @@ returns-in-Starved-clause-reports g c =
     c.in_ok-read_piece.was) in (
       told_so_far (x g f) (t g f) (p g f) ++ s.0,
       PutsAll-then _ (before_piece g f) s.1,
-      has_reported (x g f) (t g f) (input_of g f.args.input.now) (input_of g f.take.new.self)
+      has_reported (x g f) (t g f) (input_of g f.args.input.now) (input_of g f.take_more.new.input)
           (output_of g f.args.output.now) (output_of g f.read_piece.new.output) (p g f) (y g f)
           c.loop-room.invariant.reads.2 _ _ _ (came g f).short (came g f).rest (came g f).handed
           (writes_some (x g f) (t g f) (g.O.Sink.held f.args.output.now) (p g f) _ _
@@ -439,5 +440,5 @@ returns-in-Starved-clause-reports g c =
     )
 
 pub returns-in-Starved-clause-counted : goal.returns-in-Starved-clause-counted
-returns-in-Starved-clause-counted g c = counted_none _ _ _ (c.in-Ok-take.ensures.counted.same
+returns-in-Starved-clause-counted g c = counted_none _ _ _ (c.in-Ok-take_more.ensures.counted.same
     (λ e. cc) ∙ c.loop-room.invariant.input_faults) (λ e. cc)

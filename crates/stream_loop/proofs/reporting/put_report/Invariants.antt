@@ -1,9 +1,7 @@
 use Rattle.std.proofs.Common.{◌≡◌, ℕ, ◌-◌, List, ◌++◌, length, Ok}
 use Rattle.io_edges.specs.Puts.{PutsAll}
-use Rattle.unit_streams.specs.Going.{IsPending}
-use Rattle.unit_streams.specs.Tellers.{told_so_far}
-use Rattle.stream_loop.specs.Answers.{written_by}
-use Rattle.stream_loop.specs.LoopParts.{HasRead}
+use Rattle.unit_streams.specs.{Going.IsPending, Tellers.told_so_far}
+use Rattle.stream_loop.specs.{Answers.written_by, LoopParts.HasRead}
 use Rattle.stream_loop.proofs.LoopSteps.{LeftSince, TakenSince, WritesSoFar}
 use Rattle.stream_loop.proofs.reporting.put_report.Given as goal
 

@@ -1,6 +1,5 @@
-use Rattle.stream_loop.specs.Answers.{written_by}
-use Rattle.stream_loop.specs.Edges.{output_at}
-use Rattle.stream_loop.proofs.Finishing.{finished_by, ends_so}
+use Rattle.stream_loop.specs.{Answers.written_by, Edges.output_at}
+use Rattle.stream_loop.proofs.Finishing.{ends_so, finished_by}
 use Rattle.stream_loop.proofs.reporting.report_stream.Goals as goal
 
 pub returns-clause-reported : goal.returns-clause-reported

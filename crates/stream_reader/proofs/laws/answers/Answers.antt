@@ -1,7 +1,5 @@
-use Rattle.unit_streams.proofs.Answers.{answers_are_first}
-use Rattle.unit_streams.proofs.Cuts.{cuts_change_nothing}
-use Rattle.unit_streams.proofs.Histories.{history_is_answers}
-use Rattle.unit_streams.proofs.Pending.{pending_history}
+use Rattle.unit_streams.proofs.{Answers.answers_are_first, Pending.pending_history}
+use Rattle.unit_streams.proofs.{Cuts.cuts_change_nothing, Histories.history_is_answers}
 use Rattle.stream_reader.specs.Stream.{stream}
 use Rattle.stream_reader.proofs.laws.answers.Goals as goal
 

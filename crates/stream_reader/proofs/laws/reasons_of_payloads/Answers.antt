@@ -1,5 +1,4 @@
-use Rattle.stream_reader.proofs.PayloadRefusals.{in_payload_is}
-use Rattle.stream_reader.proofs.ReasonsOfStreams.{in_payload_first}
+use Rattle.stream_reader.proofs.{PayloadRefusals.in_payload_is, ReasonsOfStreams.in_payload_first}
 use Rattle.stream_reader.proofs.laws.reasons_of_payloads.Goals as goal
 
 pub returns : goal.returns

@@ -1,5 +1,4 @@
-use Rattle.stream_reader.proofs.Reasons.{refused_by_record}
-use Rattle.stream_reader.proofs.ReasonsOfStreams.{refused_first}
+use Rattle.stream_reader.proofs.{Reasons.refused_by_record, ReasonsOfStreams.refused_first}
 use Rattle.stream_reader.proofs.laws.reasons_of_records.Goals as goal
 
 pub returns : goal.returns

@@ -1,8 +1,6 @@
-use Rattle.unit_streams.proofs.Accepted.{accepted_or_offended}
-use Rattle.unit_streams.proofs.Offences.{offences_are_first}
+use Rattle.unit_streams.proofs.{Accepted.accepted_or_offended, Offences.offences_are_first}
 use Rattle.unit_streams.proofs.Refusals.{refusals_are_three}
-use Rattle.stream_reader.specs.Stream.{stream}
-use Rattle.stream_reader.proofs.Grammar.{readable}
+use Rattle.stream_reader.{specs.Stream.stream, proofs.Grammar.readable}
 use Rattle.stream_reader.proofs.laws.refusals.Goals as goal
 
 pub returns : goal.returns

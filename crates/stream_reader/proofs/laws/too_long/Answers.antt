@@ -1,5 +1,4 @@
-use Rattle.stream_reader.proofs.Reasons.{too_long_is}
-use Rattle.stream_reader.proofs.ReasonsOfStreams.{too_long_at_quota}
+use Rattle.stream_reader.proofs.{Reasons.too_long_is, ReasonsOfStreams.too_long_at_quota}
 use Rattle.stream_reader.proofs.laws.too_long.Goals as goal
 
 pub returns : goal.returns

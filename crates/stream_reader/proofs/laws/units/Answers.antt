@@ -1,9 +1,6 @@
-use Rattle.unit_streams.proofs.Standing.{standing_append}
-use Rattle.unit_streams.proofs.Units.{no_unit_goes_on}
-use Rattle.unit_streams.proofs.Ends.{ends_are_closed}
-use Rattle.stream_reader.specs.Stream.{stream}
-use Rattle.stream_reader.proofs.Grammar.{readable, quiet_over}
-use Rattle.stream_reader.proofs.Closing.{closes}
+use Rattle.unit_streams.proofs.{Ends.ends_are_closed, Standing.standing_append}
+use Rattle.{unit_streams.proofs.Units.no_unit_goes_on, stream_reader.specs.Stream.stream}
+use Rattle.stream_reader.proofs.{Closing.closes, Grammar.quiet_over, Grammar.readable}
 use Rattle.stream_reader.proofs.laws.units.Goals as goal
 
 pub returns : goal.returns

@@ -1,10 +1,7 @@
-use Rattle.std.proofs.Common.{◌≡◌, ℕ, ◌+◌, ◌-◌, List, ◌++◌, ap, ◌∙◌, subst, length, take, drop}
-use Rattle.std.proofs.Common.{arith, length-drop}
-use Rattle.std.proofs.lemmas.List.{length-take-le, take_all}
-use Rattle.std.proofs.lemmas.Slice.{take-put_mid}
-use Rattle.std.proofs.lemmas.Grind.{pieces}
-use Rattle.stream_reader.specs.Runs.{HasShort}
-use Rattle.stream_reader.proofs.RunFacts.{run_gathered}
+use Rattle.std.proofs.Common.{◌≡◌, ℕ, ◌+◌, ◌-◌, List, ◌++◌, length, take, drop, ap, ◌∙◌, subst}
+use Rattle.std.proofs.Common.{arith, length-drop, length-take-le, take_all}
+use Rattle.std.proofs.lemmas.{Grind.pieces, Slice.take-put_mid}
+use Rattle.stream_reader.{specs.Runs.HasShort, proofs.RunFacts.run_gathered}
 use Rattle.stream_reader.proofs.runs.gather.Goals as goal
 
 pub loop-used-preserved : goal.loop-used-preserved

@@ -1,7 +1,6 @@
 use Rattle.std.proofs.Common.{◌≡◌, ℕ, ◌-◌, ◌≤◌, List, length}
 use Rattle.std.specs.List.{concat}
-use Rattle.stream_reader.specs.Runs.{chunks_of}
-use Rattle.stream_reader.proofs.RunFacts.{IsLeft}
+use Rattle.stream_reader.{specs.Runs.chunks_of, proofs.RunFacts.IsLeft}
 use Rattle.stream_reader.proofs.runs.place_in.Given as goal
 
 abbrev pub invariant-loop-left : goal.invariant-loop-left

@@ -1,6 +1,5 @@
-use Rattle.string_tables.proofs.SessionFacts.{gives_least_session}
+use Rattle.string_tables.proofs.{SessionFacts.gives_least_session, TableFacts.gives_least_id}
 use Rattle.string_tables.proofs.StaticFacts.{gives_least_static}
-use Rattle.string_tables.proofs.TableFacts.{gives_least_id}
 use Rattle.string_tables.proofs.laws.least_identifiers.Goals as goal
 
 pub returns-clause-both : goal.returns-clause-both

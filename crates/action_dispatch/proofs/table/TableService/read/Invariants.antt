@@ -1,7 +1,5 @@
-use Rattle.std.proofs.Common.{◌≡◌}
-use Rattle.csv_rows.specs.Rows.{rows_of}
-use Rattle.action_dispatch.specs.Actions.{texts_from, texts_of}
-use Rattle.action_dispatch.specs.Inside.{texts_in}
+use Rattle.{std.proofs.Common.◌≡◌, csv_rows.specs.Rows.rows_of}
+use Rattle.action_dispatch.specs.{Actions.texts_from, Actions.texts_of, Inside.texts_in}
 use Rattle.action_dispatch.proofs.table.TableService.read.Given as goal
 
 -- the rows to come lead from the texts so far to those of the file

@@ -1,8 +1,6 @@
-use Rattle.std.proofs.Common.{◌≡◌, ◌∙◌, None, Some, ap, refl, sym}
-use Rattle.action_dispatch.specs.declared.service.Served.TheVariants.{Reply}
-use Rattle.action_dispatch.specs.Actions.{text_for}
-use Rattle.action_dispatch.specs.Inside.{texts_in}
-use Rattle.action_dispatch.proofs.TextFacts.{text_for-get}
+use Rattle.std.proofs.Common.{◌≡◌, Some, None, sym, refl, ap, ◌∙◌}
+use Rattle.action_dispatch.specs.{declared.service.Served.TheVariants.Reply, Inside.texts_in}
+use Rattle.action_dispatch.{specs.Actions.text_for, proofs.TextFacts.text_for-get}
 use Rattle.action_dispatch.proofs.table.TableServiceService.serve.Goals as goal
 
 pub returns-in_ok-reply_of-in-Some-clause-same : goal.returns-in_ok-reply_of-in-Some-clause-same

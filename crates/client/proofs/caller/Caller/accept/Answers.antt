@@ -1,5 +1,4 @@
-use Rattle.std.proofs.Common.{refl}
-use Rattle.client.proofs.Hearing.{sends_now}
+use Rattle.{std.proofs.Common.refl, client.proofs.Hearing.sends_now}
 use Rattle.client.proofs.caller.Caller.accept.Goals as goal
 
 pub returns-clause-sends : goal.returns-clause-sends

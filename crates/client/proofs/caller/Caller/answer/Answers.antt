@@ -1,5 +1,4 @@
-use Rattle.std.proofs.Common.{rules, sym}
-use Rattle.client.proofs.Hearing.{not_acked}
+use Rattle.{std.proofs.Common.sym, std.proofs.Common.rules, client.proofs.Hearing.not_acked}
 use Rattle.client.proofs.caller.Caller.answer.Goals as goal
 
 pub returns-in_default-clause-sends : goal.returns-in_default-clause-sends

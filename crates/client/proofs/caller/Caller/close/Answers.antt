@@ -1,5 +1,4 @@
-use Rattle.std.proofs.Common.{refl}
-use Rattle.client.specs.Called.{closing_of}
+use Rattle.{std.proofs.Common.refl, client.specs.Called.closing_of}
 use Rattle.client.proofs.Hearing.{closed_at, closed_before, closed_well}
 use Rattle.client.proofs.caller.Caller.close.Goals as goal
 

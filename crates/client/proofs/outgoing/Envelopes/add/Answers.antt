@@ -1,6 +1,5 @@
-use Rattle.std.proofs.Common.{refl, sym, ◌∙◌}
-use Rattle.nbfx_encoder.specs.declared.faults.EncodeFault.TheVariants.{Memory}
-use Rattle.nbfx_encoder.specs.Sending.{state_in}
+use Rattle.std.proofs.Common.{sym, refl, ◌∙◌}
+use Rattle.nbfx_encoder.specs.{declared.faults.EncodeFault.TheVariants.Memory, Sending.state_in}
 use Rattle.client.proofs.Adding.{envelope_made, envelope_refused, fewer, none_stopped}
 use Rattle.client.proofs.Adding.{refused_ready, still_set, still_stopped, taken_back, too_many}
 use Rattle.client.proofs.outgoing.Envelopes.add.Goals as goal

@@ -1,6 +1,4 @@
-use Rattle.std.proofs.Common.{◌∙◌}
-use Rattle.client.proofs.Adding.{first_ready}
-use Rattle.client.proofs.Made.{none_made}
+use Rattle.{std.proofs.Common.◌∙◌, client.proofs.Adding.first_ready, client.proofs.Made.none_made}
 use Rattle.client.proofs.outgoing.Envelopes.new.Goals as goal
 
 pub returns-clause-added : goal.returns-clause-added

@@ -1,5 +1,4 @@
-use Rattle.std.proofs.Common.{sym, ◌∙◌}
-use Rattle.csv.specs.Records.{fields_of}
+use Rattle.{std.proofs.Common.sym, std.proofs.Common.◌∙◌, csv.specs.Records.fields_of}
 use Rattle.csv_rows.proofs.FieldFacts.{two_of-no_first, two_of-no_second, two_of-two}
 use Rattle.csv_rows.proofs.reader.RowReader.two.Goals as goal
 

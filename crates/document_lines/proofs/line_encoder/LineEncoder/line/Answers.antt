@@ -1,10 +1,9 @@
-use Rattle.std.proofs.Common.{Ok, refl, sym, ap, ◌∙◌}
-use Rattle.line_notation.specs.LineReaderState.{Standing, after, answer}
-use Rattle.document_lines.proofs.Sending.{line_done, line_more}
-use Rattle.document_lines.proofs.Standings.{next_after}
-use Rattle.document_lines.proofs.line_encoder.LineEncoder.line.Goals as goal
-use Rattle.document_lines.proofs.line_encoder.LineEncoder.line.Goals.{then-is_full+else-not-is_between}
+use Rattle.std.proofs.Common.{Ok, sym, refl, ap, ◌∙◌}
+use Rattle.line_notation.specs.LineReaderState.{after, answer, Standing}
+use Rattle.document_lines.proofs.{Sending.line_done, Sending.line_more, Standings.next_after}
 use Rattle.document_lines.proofs.line_encoder.LineEncoder.line.Goals.{else-is_full}
+use Rattle.document_lines.proofs.line_encoder.LineEncoder.line.Goals.{then-is_full+else-not-is_between}
+use Rattle.document_lines.proofs.line_encoder.LineEncoder.line.Goals as goal
 
 -- a document is whole
 pub returns-in-Ok-Done-clause-answers : goal.returns-in-Ok-Done-clause-answers

@@ -1,5 +1,4 @@
-use Rattle.std.proofs.Common.{ap}
-use Rattle.document_lines.specs.DocumentReaderState.{said_at_end}
+use Rattle.{std.proofs.Common.ap, document_lines.specs.DocumentReaderState.said_at_end}
 use Rattle.document_lines.proofs.reader.DocumentReader.end_of_input.Goals as goal
 
 pub returns-in-Some-fault_at_end-clause-answers : goal.returns-in-Some-fault_at_end-clause-answers

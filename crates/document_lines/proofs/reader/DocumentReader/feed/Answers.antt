@@ -1,20 +1,16 @@
-use Rattle.std.proofs.Common.{◌≡◌, ℕ, ◌+◌, ◌-◌, ◌<◌, ◌≤◌, inl, inr, List, ◌++◌, length, take, drop}
-use Rattle.std.proofs.Common.{Result, Ok, Err, refl, sym, ap, ◌∙◌, arith, length-append}
-use Rattle.std.proofs.Common.{length-drop}
-use Rattle.std.specs.Prelude.{Option}
-use Rattle.std.proofs.lemmas.Bool.{cases_lt}
-use Rattle.std.proofs.lemmas.List.{take-append-drop, length-take-le}
-use Rattle.nbfx_values.specs.declared.limits.Quotas.{Quotas}
+use Rattle.std.proofs.Common.{◌≡◌, ℕ, ◌+◌, ◌-◌, ◌<◌, ◌≤◌, List, ◌++◌, length, take, drop, Ok, Err}
+use Rattle.std.proofs.Common.{Option, Result, sym, refl, ap, ◌∙◌, inl, inr, arith, length-append}
+use Rattle.std.proofs.Common.{length-drop, take-append-drop, length-take-le}
+use Rattle.{std.proofs.lemmas.Bool.cases_lt, nbfx_values.specs.declared.limits.Quotas.Quotas}
 use Rattle.stream_loop.specs.declared.reading_end.FeedFault.{FeedFault}
-use Rattle.document_lines.specs.Input.{Settings}
-use Rattle.document_lines.specs.DocumentReaderState.{StandsFor, UnitAnswers, WhereItStands}
-use Rattle.document_lines.specs.DocumentReaderState.{settings_of}
-use Rattle.document_lines.specs.declared.InputFault.{InputFault}
+use Rattle.document_lines.specs.{declared.InputFault.InputFault, Input.Settings}
 use Rattle.document_lines.specs.declared.reader.DocumentReader.{DocumentReader}
+use Rattle.document_lines.specs.DocumentReaderState.{settings_of, StandsFor, UnitAnswers}
+use Rattle.document_lines.specs.DocumentReaderState.{WhereItStands}
 use Rattle.document_lines.proofs.FeedSteps.{Along, along_end, along_event, along_more}
 use Rattle.document_lines.proofs.FeedSteps.{along_refused, along_too_long, stands_by, unit_by}
-use Rattle.document_lines.proofs.reader.DocumentReader.feed.Goals as goal
 use Rattle.document_lines.proofs.reader.DocumentReader.feed.Goals.{At-loop-used}
+use Rattle.document_lines.proofs.reader.DocumentReader.feed.Goals as goal
 
 session_of : (r : DocumentReader) → (settings_of r).limits.session ≡ r.quotas.session
 unfolding settings_of

@@ -1,14 +1,10 @@
-use Rattle.std.proofs.Common.{◌≡◌, List, refl, sym, ap, subst}
-use Rattle.nbfx_values.specs.Limits.{Limits}
-use Rattle.nbfx_values.specs.QuotasOf.{limits_of}
-use Rattle.nbfx_values.specs.declared.session.Kind.{Kind}
-use Rattle.nbfx_values.specs.declared.session.Mode.{Mode}
+use Rattle.std.proofs.Common.{◌≡◌, List, sym, refl, ap, subst}
+use Rattle.string_tables.specs.{StaticStrings.Entry, StringTable.StringTable}
+use Rattle.nbfx_values.specs.declared.session.{Kind.Kind, Mode.Mode}
+use Rattle.nbfx_values.specs.{Limits.Limits, QuotasOf.limits_of}
 use Rattle.nbfx_encoder.specs.Sending.{kind_in, names_in}
-use Rattle.string_tables.specs.StaticStrings.{Entry}
-use Rattle.string_tables.specs.StringTable.{StringTable}
-use Rattle.document_lines.specs.Input.{Settings, start_of}
-use Rattle.document_lines.specs.DocumentReaderState.{IsAt, StandsFor, settings_of}
-use Rattle.document_lines.proofs.LineSteps.{starts}
+use Rattle.document_lines.specs.DocumentReaderState.{IsAt, settings_of, StandsFor}
+use Rattle.document_lines.{specs.Input.Settings, specs.Input.start_of, proofs.LineSteps.starts}
 use Rattle.document_lines.proofs.reader.DocumentReader.new.Goals as goal
 
 abbrev set : Limits → Kind → Mode → List Entry → Settings

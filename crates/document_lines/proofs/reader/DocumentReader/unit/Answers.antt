@@ -1,5 +1,4 @@
-use Rattle.std.proofs.Common.{◌≤◌, length, Ok, Err, arith}
-use Rattle.std.proofs.lemmas.List.{length-take-le}
+use Rattle.std.proofs.Common.{◌≤◌, length, Ok, Err, arith, length-take-le}
 use Rattle.document_lines.specs.DocumentReaderState.{settings_of}
 use Rattle.document_lines.proofs.Finding.{line_end, none_found}
 use Rattle.document_lines.proofs.LineSteps.{unit_begin, unit_line}

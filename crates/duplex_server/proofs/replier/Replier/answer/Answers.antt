@@ -1,7 +1,6 @@
-use Rattle.std.proofs.Common.{refl, sym}
+use Rattle.std.proofs.Common.{sym, refl}
 use Rattle.duplex_server.specs.declared.requests.Request.TheVariants.{Received}
-use Rattle.duplex_server.specs.Replying.{answering_of}
-use Rattle.duplex_server.proofs.Heard.{stopped_more}
+use Rattle.duplex_server.{specs.Replying.answering_of, proofs.Heard.stopped_more}
 use Rattle.duplex_server.proofs.replier.Replier.answer.Goals as goal
 
 pub returns-clause-answered : goal.returns-clause-answered

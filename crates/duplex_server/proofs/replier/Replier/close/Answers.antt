@@ -1,6 +1,5 @@
 use Rattle.std.proofs.Common.{refl}
-use Rattle.duplex_server.specs.Replying.{answering_of}
-use Rattle.duplex_server.specs.Serving.{closing_of}
+use Rattle.duplex_server.specs.{Replying.answering_of, Serving.closing_of}
 use Rattle.duplex_server.proofs.Heard.{closed_at, closed_before, closed_well}
 use Rattle.duplex_server.proofs.replier.Replier.close.Goals as goal
 

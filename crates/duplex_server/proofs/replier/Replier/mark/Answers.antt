@@ -1,6 +1,5 @@
 use Rattle.std.proofs.Common.{[], ◌∷◌, ◌++◌, ◌∙◌}
-use Rattle.duplex_server.specs.Replying.{answering_of}
-use Rattle.duplex_server.proofs.Heard.{marks, taken_back}
+use Rattle.duplex_server.{specs.Replying.answering_of, proofs.Heard.marks, proofs.Heard.taken_back}
 use Rattle.duplex_server.proofs.replier.Replier.mark.Goals as goal
 
 pub returns-then-is_err-clause-answered : goal.returns-then-is_err-clause-answered

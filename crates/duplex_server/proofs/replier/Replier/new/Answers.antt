@@ -1,8 +1,6 @@
-use Rattle.nbfx_values.specs.declared.session.Kind.TheVariants.{Session}
-use Rattle.nbfx_values.specs.declared.session.Mode.TheVariants.{Simplex}
+use Rattle.nbfx_values.specs.declared.session.{Kind.TheVariants.Session, Mode.TheVariants.Simplex}
 use Rattle.nbfx_encoder.specs.declared.sender.SendState.TheVariants.{Spent}
-use Rattle.duplex_server.specs.Owed.{no_strings}
-use Rattle.duplex_server.proofs.Replies.{replying_is}
+use Rattle.duplex_server.{specs.Owed.no_strings, proofs.Replies.replying_is}
 use Rattle.duplex_server.proofs.replier.Replier.new.Goals as goal
 
 pub returns-clause-state : goal.returns-clause-state

@@ -1,8 +1,6 @@
 use Rattle.std.proofs.Common.{[], ◌∷◌, refl}
-use Rattle.duplex_server.specs.declared.requests.Request.TheVariants.{Opened}
-use Rattle.duplex_server.specs.Replying.{answering_of}
-use Rattle.duplex_server.proofs.Heard.{gathers_quietly, stopped_more}
-use Rattle.duplex_server.proofs.Replies.{opened_is}
+use Rattle.duplex_server.specs.{declared.requests.Request.TheVariants.Opened, Replying.answering_of}
+use Rattle.duplex_server.proofs.{Heard.gathers_quietly, Heard.stopped_more, Replies.opened_is}
 use Rattle.duplex_server.proofs.replier.Replier.open.Goals as goal
 
 pub returns-then-not-is_going-clause-answered : goal.returns-then-not-is_going-clause-answered

@@ -1,10 +1,9 @@
 use Rattle.std.proofs.Common.{ℕ, length, sym, ap, ◌∙◌}
 use Rattle.nbfx_values.specs.QuotasOf.{limits_of}
 use Rattle.duplex_server.specs.declared.requests.Request.TheVariants.{Received}
-use Rattle.duplex_server.specs.Owed.{Replying, behind_reply, payload_of, told_reply}
+use Rattle.duplex_server.specs.Owed.{behind_reply, payload_of, Replying, told_reply}
 use Rattle.duplex_server.specs.Replying.{answering_of, answers_within, replying}
-use Rattle.duplex_server.proofs.Heard.{gathers_nothing}
-use Rattle.duplex_server.proofs.Replies.{none_due}
+use Rattle.duplex_server.proofs.{Heard.gathers_nothing, Replies.none_due}
 use Rattle.duplex_server.proofs.replier.Replier.reply.Goals as goal
 
 pub returns-in_default-clause-answered : goal.returns-in_default-clause-answered

@@ -1,10 +1,8 @@
-use Rattle.std.proofs.Common.{◌≡◌, List, [], ◌++◌, ℕ, length, refl, sym, ◌∙◌, subst}
-use Rattle.io_edges.specs.Faults.{one_more}
-use Rattle.nbfx_values.specs.QuotasOf.{limits_of}
-use Rattle.nbfx_values.specs.Limits.{Limits}
-use Rattle.action_dispatch.specs.declared.answers.Answer.{Answer}
+use Rattle.std.proofs.Common.{◌≡◌, ℕ, List, [], ◌++◌, length, sym, refl, ◌∙◌, subst}
+use Rattle.{io_edges.specs.Faults.one_more, action_dispatch.specs.declared.answers.Answer.Answer}
+use Rattle.nbfx_values.specs.{Limits.Limits, QuotasOf.limits_of}
 use Rattle.duplex_server.specs.declared.requests.Request.TheVariants.{Received}
-use Rattle.duplex_server.specs.Owed.{Replying, behind_reply, payload_of, told_reply}
+use Rattle.duplex_server.specs.Owed.{behind_reply, payload_of, Replying, told_reply}
 use Rattle.duplex_server.specs.Replying.{answering_of, answers_within, replying}
 use Rattle.duplex_server.proofs.Heard.{gathers_nothing}
 use Rattle.duplex_server.proofs.Replies.{left_is, left_so, nothing_told, told_is}

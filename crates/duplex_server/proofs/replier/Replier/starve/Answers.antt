@@ -1,5 +1,4 @@
-use Rattle.std.proofs.Common.{refl}
-use Rattle.duplex_server.specs.Replying.{answering_of}
+use Rattle.{std.proofs.Common.refl, duplex_server.specs.Replying.answering_of}
 use Rattle.duplex_server.proofs.Heard.{answered_starved, stopped_more}
 use Rattle.duplex_server.proofs.replier.Replier.starve.Goals as goal
 

@@ -1,5 +1,4 @@
-use Rattle.duplex_server.specs.Replying.{answering_of}
-use Rattle.duplex_server.proofs.Heard.{writes_gathered}
+use Rattle.duplex_server.{specs.Replying.answering_of, proofs.Heard.writes_gathered}
 use Rattle.duplex_server.proofs.replier.Replier.write.Goals as goal
 
 pub returns-clause-answered : goal.returns-clause-answered

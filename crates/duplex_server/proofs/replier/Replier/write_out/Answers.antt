@@ -1,6 +1,5 @@
 use Rattle.std.proofs.Common.{refl}
-use Rattle.duplex_server.specs.Replying.{answering_of}
-use Rattle.duplex_server.proofs.Heard.{answered_on}
+use Rattle.duplex_server.{specs.Replying.answering_of, proofs.Heard.answered_on}
 use Rattle.duplex_server.proofs.replier.Replier.write_out.Goals as goal
 
 pub returns-then-is_going-clause-answered : goal.returns-then-is_going-clause-answered

@@ -1,8 +1,7 @@
-use Rattle.std.proofs.Common.{◌++◌, ◌∷◌, [], inl, inr, sym, ap, ◌∙◌, subst}
+use Rattle.std.proofs.Common.{[], ◌∷◌, ◌++◌, sym, ap, ◌∙◌, subst, inl, inr}
 use Rattle.io_edges.specs.Faults.{one_more}
 use Rattle.duplex_server.specs.declared.requests.Request.TheVariants.{Opened, Received}
-use Rattle.duplex_server.specs.Owed.{Answering}
-use Rattle.duplex_server.specs.Replying.{HasHeard, answering_of}
+use Rattle.duplex_server.specs.{Owed.Answering, Replying.answering_of, Replying.HasHeard}
 use Rattle.duplex_server.proofs.Heard.{answered_quietly, messages_more, messages_quiet}
 use Rattle.duplex_server.proofs.replier.ReplierListenerRequest.hear.Goals as goal
 

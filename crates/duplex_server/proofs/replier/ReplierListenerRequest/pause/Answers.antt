@@ -1,10 +1,68 @@
-use Rattle.std.proofs.Common.{◌∙◌, sym, subst}
-use Rattle.duplex_server.specs.Owed.{Answering}
-use Rattle.duplex_server.specs.Replying.{HasHeard, answering_of}
+use Rattle.std.proofs.Common.{sym, refl, ◌∙◌, subst}
+use Rattle.duplex_server.specs.{Owed.Answering, Replying.answering_of, Replying.HasHeard}
+use Rattle.duplex_server.proofs.Heard.{answered_still, waits_ended, waits_going}
 use Rattle.duplex_server.proofs.replier.ReplierListenerRequest.pause.Goals as goal
 
-pub returns-then-is_going-clause-heard : goal.returns-then-is_going-clause-heard
-returns-then-is_going-clause-heard g c = λ first events heard.
+-- the writing had stopped before
+pub returns-then-not-is_going-clause-heard : goal.returns-then-not-is_going-clause-heard
+returns-then-not-is_going-clause-heard g c = λ first events heard.
+    let m = c.args.self.now in
+    let e = c.end.ensures in
+    record {
+      counted = heard.counted;
+      answered = answered_still g.K.Sink.written g.K.Sink.held g.K.Sink.faults g.K.Sink.may_want
+          (answering_of g.V.Service.served m) first events m.outbound
+          (c.if-not-is_going.ensures.stopped refl) m.sender m.answers m.gathered.items m.ends.items
+          c.args.sink.now c.end.new.self
+          (record {
+            written_is = e.written;
+            held_is = e.held;
+            faults_are = e.counted;
+            settled =
+                e.settled;
+          })
+          heard.answered;
+    }
+
+pub returns-then-not-is_going-clause-may_wait : goal.returns-then-not-is_going-clause-may_wait
+returns-then-not-is_going-clause-may_wait g c =
+    let m = c.args.self.now in
+    waits_ended g.K.Sink.held g.K.Sink.ended m.outbound (c.if-not-is_going.ensures.stopped refl)
+    m.gathered.items c.end.new.self c.end.ensures.ended
+
+-- it stopped now
+pub returns-then-not-is_going-2-clause-heard : goal.returns-then-not-is_going-2-clause-heard
+returns-then-not-is_going-2-clause-heard g c = λ first events heard.
+    let w = c.write_out.ensures in
+    let n = c.write_out.new.self in
+    let e = c.end-then-not-is_going-2.ensures in
+    subst (λ (y : Answering). HasHeard g.K.Sink.written g.K.Sink.held g.K.Sink.faults
+    g.K.Sink.may_want y first events n c.end-then-not-is_going-2.new.self)
+    (sym w.settings) (record {
+      counted = w.messages ∙ heard.counted;
+      answered = answered_still g.K.Sink.written g.K.Sink.held g.K.Sink.faults g.K.Sink.may_want
+          (answering_of g.V.Service.served c.args.self.now) first events n.outbound
+          (c.if-not-is_going-2.ensures.stopped refl) n.sender n.answers n.gathered.items
+          n.ends.items c.write_out.new.sink c.end-then-not-is_going-2.new.self
+          (record {
+            written_is = e.written;
+            held_is = e.held;
+            faults_are = e.counted;
+            settled =
+                e.settled;
+          })
+          (rw w.sender (w.answered first events c.args.self.now.sender heard.answered));
+    })
+
+pub returns-then-not-is_going-2-clause-may_wait : goal.returns-then-not-is_going-2-clause-may_wait
+returns-then-not-is_going-2-clause-may_wait g c =
+    let n = c.write_out.new.self in
+    waits_ended g.K.Sink.held g.K.Sink.ended n.outbound (c.if-not-is_going-2.ensures.stopped refl)
+    n.gathered.items c.end-then-not-is_going-2.new.self c.end-then-not-is_going-2.ensures.ended
+
+-- it goes on
+pub returns-else-not-is_going-2-clause-heard : goal.returns-else-not-is_going-2-clause-heard
+returns-else-not-is_going-2-clause-heard g c = λ first events heard.
     let e = c.write_out.ensures in
     subst (λ (y : Answering). HasHeard g.K.Sink.written g.K.Sink.held g.K.Sink.faults
     g.K.Sink.may_want y first events c.write_out.new.self c.write_out.new.sink)
@@ -12,3 +70,11 @@ returns-then-is_going-clause-heard g c = λ first events heard.
       counted = e.messages ∙ heard.counted;
       answered = rw e.sender (e.answered first events c.args.self.now.sender heard.answered);
     })
+
+pub returns-else-not-is_going-2-clause-may_wait : goal.returns-else-not-is_going-2-clause-may_wait
+returns-else-not-is_going-2-clause-may_wait g c =
+    let n = c.write_out.new.self in
+    let e = c.write_out.ensures in
+    let going = c.if-not-is_going-2.ensures.going refl in
+    waits_going g.K.Sink.held g.K.Sink.ended n.outbound going n.gathered.items c.write_out.new.sink
+    e.emptied (e.written going)

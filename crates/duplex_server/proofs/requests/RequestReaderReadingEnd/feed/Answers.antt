@@ -1,7 +1,5 @@
-use Rattle.std.proofs.Common.{length}
-use Rattle.unit_streams.specs.Judging.{answer}
-use Rattle.stream_reader.specs.Stream.{stream}
-use Rattle.receiver_machine.specs.ReceiverState.{settings_of}
+use Rattle.{std.proofs.Common.length, unit_streams.specs.Judging.answer}
+use Rattle.{stream_reader.specs.Stream.stream, receiver_machine.specs.ReceiverState.settings_of}
 use Rattle.duplex_server.proofs.Saying.{step_said}
 use Rattle.duplex_server.proofs.requests.RequestReaderReadingEnd.feed.Goals as goal
 

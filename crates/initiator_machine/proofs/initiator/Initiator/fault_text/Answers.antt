@@ -1,6 +1,5 @@
 use Rattle.std.proofs.Common.{◌∙◌}
-use Rattle.initiator_machine.specs.InitiatorState.{reader_of}
-use Rattle.initiator_machine.proofs.FaultTexts.{no_text}
+use Rattle.initiator_machine.{specs.InitiatorState.reader_of, proofs.FaultTexts.no_text}
 use Rattle.initiator_machine.proofs.initiator.Initiator.fault_text.Goals as goal
 
 pub returns-clause-text : goal.returns-clause-text

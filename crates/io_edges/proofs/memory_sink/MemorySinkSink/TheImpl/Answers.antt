@@ -1,5 +1,4 @@
-use Rattle.std.proofs.Common.{arith, refl, rules}
-use Rattle.std.proofs.lemmas.Grind.{common_steps}
+use Rattle.std.proofs.{Common.refl, Common.arith, Common.rules, lemmas.Grind.common_steps}
 use Rattle.io_edges.proofs.Pieces.{refused_front}
 use Rattle.io_edges.proofs.memory_sink.MemorySinkSink.TheImpl.Goals as goal
 

@@ -1,5 +1,4 @@
-use Rattle.std.proofs.Common.{sym, ◌∙◌, arith}
-use Rattle.std.proofs.lemmas.Grind.{common_steps}
+use Rattle.std.proofs.{Common.sym, Common.◌∙◌, Common.arith, lemmas.Grind.common_steps}
 use Rattle.io_edges.proofs.Tapes.{after_good_take}
 use Rattle.io_edges.proofs.memory_source.MemorySourceSource.take.Goals as goal
 

@@ -1,5 +1,4 @@
-use Rattle.std.proofs.Common.{arith}
-use Rattle.std.proofs.lemmas.Grind.{common_steps}
+use Rattle.std.proofs.{Common.arith, lemmas.Grind.common_steps}
 use Rattle.io_edges.proofs.Tapes.{after_sure_take}
 use Rattle.io_edges.proofs.sure_source.SureSourceSource.take.Goals as goal
 

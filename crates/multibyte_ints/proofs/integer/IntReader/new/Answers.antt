@@ -1,5 +1,4 @@
-use Rattle.std.proofs.Common.{refl}
-use Rattle.multibyte_ints.proofs.ReaderSteps.{stands_for_none}
+use Rattle.{std.proofs.Common.refl, multibyte_ints.proofs.ReaderSteps.stands_for_none}
 use Rattle.multibyte_ints.proofs.integer.IntReader.new.Goals as goal
 
 pub returns : goal.returns

@@ -1,5 +1,4 @@
-use Rattle.multibyte_ints.proofs.TextFacts.{above_is}
-use Rattle.multibyte_ints.proofs.TextSteps.{begins_text}
+use Rattle.multibyte_ints.proofs.{TextFacts.above_is, TextSteps.begins_text}
 use Rattle.multibyte_ints.proofs.text.StringReader.begin_text.Goals as goal
 
 pub returns-then-length-self-clause-reached : goal.returns-then-length-self-clause-reached

@@ -1,9 +1,8 @@
 use Rattle.std.proofs.Common.{◌≡◌, ℕ, ◌+◌, ◌-◌, ◌≤◌, List, length, take, drop, sym, ◌∙◌, arith}
-use Rattle.std.proofs.Common.{length-drop}
-use Rattle.std.proofs.lemmas.List.{take_rest}
-use Rattle.multibyte_ints.specs.TextReader.{StringStandsFor, limit_of}
-use Rattle.multibyte_ints.proofs.TextSteps.{all_when_more, waits_for_more, stands_after}
-use Rattle.multibyte_ints.proofs.TextSteps.{answers_after}
+use Rattle.std.proofs.{Common.length-drop, lemmas.List.take_rest}
+use Rattle.multibyte_ints.specs.TextReader.{limit_of, StringStandsFor}
+use Rattle.multibyte_ints.proofs.TextSteps.{all_when_more, answers_after, stands_after}
+use Rattle.multibyte_ints.proofs.TextSteps.{waits_for_more}
 use Rattle.multibyte_ints.proofs.text.StringReader.feed.Goals as goal
 
 rest_len : (piece : List ℕ) (i : ℕ) → i ≤ length piece → i

@@ -1,6 +1,5 @@
-use Rattle.std.proofs.Common.{◌≡◌, List, ◌++◌, ℕ, take}
-use Rattle.multibyte_ints.specs.declared.text.Part.TheVariants.{Length}
-use Rattle.multibyte_ints.specs.TextReader.{InLength}
+use Rattle.std.proofs.Common.{◌≡◌, ℕ, List, ◌++◌, take}
+use Rattle.multibyte_ints.specs.{declared.text.Part.TheVariants.Length, TextReader.InLength}
 use Rattle.multibyte_ints.proofs.text.StringReader.feed_length.Given as goal
 
 abbrev pub invariant-loop-i : goal.invariant-loop-i

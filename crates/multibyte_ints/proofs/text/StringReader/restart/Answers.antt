@@ -1,5 +1,4 @@
-use Rattle.std.proofs.Common.{refl}
-use Rattle.multibyte_ints.proofs.TextSteps.{stands_at_start}
+use Rattle.{std.proofs.Common.refl, multibyte_ints.proofs.TextSteps.stands_at_start}
 use Rattle.multibyte_ints.proofs.text.StringReader.restart.Goals as goal
 
 pub returns-clause-stands : goal.returns-clause-stands

@@ -1,9 +1,7 @@
-use Rattle.std.proofs.Common.{ap, ◌∙◌, sym, subst}
-use Rattle.std.specs.Prelude.{IsUtf8}
-use Rattle.multibyte_ints.specs.TextPart.{step_of}
-use Rattle.multibyte_ints.specs.TextReader.{StringStandsFor, limit_of, text_of}
-use Rattle.multibyte_ints.proofs.TextLaws.{string_from_whole}
-use Rattle.multibyte_ints.proofs.TextSteps.{no_text_in, text_in, read_as_text, done_part}
+use Rattle.std.proofs.Common.{IsUtf8, sym, ap, ◌∙◌, subst}
+use Rattle.multibyte_ints.{specs.TextPart.step_of, proofs.TextLaws.string_from_whole}
+use Rattle.multibyte_ints.specs.TextReader.{limit_of, StringStandsFor, text_of}
+use Rattle.multibyte_ints.proofs.TextSteps.{done_part, no_text_in, read_as_text, text_in}
 use Rattle.multibyte_ints.proofs.text.StringReader.text.Goals as goal
 
 pub returns-in-Done : goal.returns-in-Done

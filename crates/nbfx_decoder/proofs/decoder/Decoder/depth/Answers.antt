@@ -1,7 +1,6 @@
-use Rattle.std.proofs.Common.{◌∙◌, ap, arith}
-use Rattle.nbfx_values.specs.Measures.{opened_by}
-use Rattle.nbfx_decoder.proofs.ShownFacts.{open_here, open_small, failed_items}
-use Rattle.nbfx_decoder.proofs.StandsFacts.{depth_most}
+use Rattle.std.proofs.Common.{ap, ◌∙◌, arith}
+use Rattle.{nbfx_values.specs.Measures.opened_by, nbfx_decoder.proofs.StandsFacts.depth_most}
+use Rattle.nbfx_decoder.proofs.ShownFacts.{failed_items, open_here, open_small}
 use Rattle.nbfx_decoder.proofs.decoder.Decoder.depth.Goals as goal
 
 pub returns-clause-open : goal.returns-clause-open

@@ -1,6 +1,5 @@
 use Rattle.std.proofs.Common.{[], refl, arith}
-use Rattle.nbfx_values.specs.QuotasOf.{limits_of}
-use Rattle.nbfx_decoder.specs.Payload.{Settings}
+use Rattle.{nbfx_values.specs.QuotasOf.limits_of, nbfx_decoder.specs.Payload.Settings}
 use Rattle.nbfx_decoder.proofs.StandsFacts.{settings_at, stands_first}
 use Rattle.nbfx_decoder.proofs.decoder.Decoder.new.Goals as goal
 

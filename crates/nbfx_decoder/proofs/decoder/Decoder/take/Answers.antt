@@ -1,7 +1,6 @@
-use Rattle.std.proofs.Common.{◌≡◌, ◌++◌, ◌∙◌, List, [], ℕ, Ok, length, sym, ap, subst, arith}
-use Rattle.nbfx_decoder.specs.declared.units.UnitRead.TheVariants.{Done}
-use Rattle.nbfx_decoder.specs.Units.{UnitAnswers}
-use Rattle.nbfx_decoder.specs.DecoderState.{situation_of, from_of, begun_of}
+use Rattle.std.proofs.Common.{◌≡◌, ℕ, List, [], ◌++◌, length, Ok, sym, ap, ◌∙◌, subst, arith}
+use Rattle.nbfx_decoder.specs.{declared.units.UnitRead.TheVariants.Done, Units.UnitAnswers}
+use Rattle.nbfx_decoder.specs.DecoderState.{begun_of, from_of, situation_of}
 use Rattle.nbfx_decoder.proofs.TakeSteps.{no_bytes, takes_unit_of}
 use Rattle.nbfx_decoder.proofs.decoder.Decoder.take.Goals as goal
 

@@ -1,8 +1,7 @@
-use Rattle.std.proofs.Common.{◌++◌, ◌∙◌, ℕ, List, Ok, Err, length, take, ap, subst, arith}
+use Rattle.std.proofs.Common.{ℕ, List, ◌++◌, length, take, Ok, Err, ap, ◌∙◌, subst, arith}
 use Rattle.std.proofs.Common.{length-drop}
-use Rattle.nbfx_decoder.specs.Taking.{TakeAnswers}
-use Rattle.nbfx_decoder.proofs.Keeping.{settings_through}
-use Rattle.nbfx_decoder.proofs.AllSteps.{rest_of, taken_more, taken_fault}
+use Rattle.nbfx_decoder.{specs.Taking.TakeAnswers, proofs.Keeping.settings_through}
+use Rattle.nbfx_decoder.proofs.AllSteps.{rest_of, taken_fault, taken_more}
 use Rattle.nbfx_decoder.proofs.decoder.Decoder.take_all.Goals as goal
 
 pub returns-in_err-used-clause-answers : goal.returns-in_err-used-clause-answers

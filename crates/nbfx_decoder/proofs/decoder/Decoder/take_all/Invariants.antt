@@ -1,7 +1,5 @@
-use Rattle.std.proofs.Common.{◌≡◌, ◌+◌, ◌-◌, ◌≤◌, ℕ, List, length}
-use Rattle.nbfx_decoder.specs.Payload.{Settings}
-use Rattle.nbfx_decoder.specs.Units.{KeepsSettings}
-use Rattle.nbfx_decoder.specs.DecoderState.{Reached}
+use Rattle.std.proofs.Common.{◌≡◌, ℕ, ◌+◌, ◌-◌, ◌≤◌, List, length}
+use Rattle.nbfx_decoder.specs.{DecoderState.Reached, Payload.Settings, Units.KeepsSettings}
 use Rattle.nbfx_decoder.proofs.AllSteps.{HasTaken}
 use Rattle.nbfx_decoder.proofs.decoder.Decoder.take_all.Given as goal
 

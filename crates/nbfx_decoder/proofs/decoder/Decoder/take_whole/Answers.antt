@@ -1,11 +1,9 @@
-use Rattle.std.proofs.Common.{◌≡◌, ◌++◌, ◌∙◌, List, [], ℕ, Ok, Err, length, refl, sym, ap, subst}
+use Rattle.std.proofs.Common.{◌≡◌, ℕ, List, [], ◌++◌, length, Ok, Err, sym, refl, ap, ◌∙◌, subst}
 use Rattle.std.proofs.Common.{arith}
-use Rattle.nbfx_decoder.specs.declared.units.UnitRead.TheVariants.{More, Done}
-use Rattle.nbfx_decoder.specs.Payload.{unit_in}
-use Rattle.nbfx_decoder.specs.Units.{UnitAnswers}
-use Rattle.nbfx_decoder.specs.DecoderState.{situation_of, from_of, begun_of}
-use Rattle.nbfx_decoder.proofs.Waits.{waits_now}
-use Rattle.nbfx_decoder.proofs.TakeSteps.{takes_fault, takes_all, takes_unit_of}
+use Rattle.nbfx_decoder.specs.declared.units.UnitRead.TheVariants.{Done, More}
+use Rattle.nbfx_decoder.specs.DecoderState.{begun_of, from_of, situation_of}
+use Rattle.nbfx_decoder.{specs.Payload.unit_in, specs.Units.UnitAnswers, proofs.Waits.waits_now}
+use Rattle.nbfx_decoder.proofs.TakeSteps.{takes_all, takes_fault, takes_unit_of}
 use Rattle.nbfx_decoder.proofs.decoder.Decoder.take_whole.Goals as goal
 
 pub returns-in_err-used-clause-answers : goal.returns-in_err-used-clause-answers

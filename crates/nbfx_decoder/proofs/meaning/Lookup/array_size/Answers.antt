@@ -1,8 +1,6 @@
 use Rattle.std.specs.Str.{is_utf8}
-use Rattle.nbfx_records.specs.Contents.{name_is_text}
-use Rattle.nbfx_records.specs.Views.{array_seen}
-use Rattle.nbfx_decoder.specs.Meant.{table_of}
-use Rattle.nbfx_decoder.proofs.MeasureFacts.{array_measured}
+use Rattle.nbfx_records.specs.{Contents.name_is_text, Views.array_seen}
+use Rattle.nbfx_decoder.{specs.Meant.table_of, proofs.MeasureFacts.array_measured}
 use Rattle.nbfx_decoder.proofs.meaning.Lookup.array_size.Goals as goal
 
 pub returns : goal.returns

@@ -1,13 +1,10 @@
-use Rattle.std.proofs.Common.{◌+◌, Some, length}
-use Rattle.std.specs.Prelude.{◌&&◌}
-use Rattle.std.specs.Str.{is_utf8}
-use Rattle.nbfx_records.specs.declared.nodes.AttrNode.TheVariants as attribute_nodes
-use Rattle.nbfx_records.specs.Contents.{name_is_text, value_is_text, shape_value}
-use Rattle.nbfx_records.specs.Meaning.{name_text}
+use Rattle.std.proofs.Common.{◌+◌, ◌&&◌, length, Some}
+use Rattle.{std.specs.Str.is_utf8, nbfx_records.specs.Meaning.name_text}
+use Rattle.nbfx_records.specs.Contents.{name_is_text, shape_value, value_is_text}
 use Rattle.nbfx_records.specs.Views.{name_seen, prefix_seen, value_seen}
-use Rattle.nbfx_decoder.specs.Meant.{table_of}
-use Rattle.nbfx_decoder.specs.Measuring.{weigh_part, weighed}
+use Rattle.nbfx_decoder.specs.{Meant.table_of, Measuring.weigh_part, Measuring.weighed}
 use Rattle.nbfx_decoder.proofs.MeasureFacts.{attribute_measured, declaration_weighed, measured_as}
+use Rattle.nbfx_records.specs.declared.nodes.AttrNode.TheVariants as attribute_nodes
 use Rattle.nbfx_decoder.proofs.meaning.Lookup.attribute_size.Goals as goal
 
 pub returns-in_ok-value_size-in-Attribute : goal.returns-in_ok-value_size-in-Attribute

@@ -1,9 +1,8 @@
-use Rattle.std.proofs.Common.{◌∷◌, ◌++◌, [], Some, sum_by, ap, refl, arith}
+use Rattle.std.proofs.Common.{[], ◌∷◌, ◌++◌, Some, sum_by, refl, ap, arith}
 use Rattle.std.proofs.lemmas.List.Sums.{sum_by-append}
 use Rattle.nbfx_values.specs.Measures.{capped, scalar_content}
-use Rattle.nbfx_records.specs.Views.{cells_seen}
-use Rattle.nbfx_records.specs.Contents.{cells_judged}
 use Rattle.nbfx_records.proofs.CellFacts.{all_done, step_left, step_wrong}
+use Rattle.nbfx_records.specs.{Contents.cells_judged, Views.cells_seen}
 use Rattle.nbfx_decoder.proofs.MeasureFacts.{leaves, unmeasured}
 use Rattle.nbfx_decoder.proofs.meaning.Lookup.cells_size.Goals as goal
 

@@ -1,8 +1,6 @@
-use Rattle.nbfx_values.specs.Measures.{scalar_content}
+use Rattle.{nbfx_values.specs.Measures.scalar_content, nbfx_decoder.specs.Meant.table_of}
 use Rattle.nbfx_records.specs.Contents.{scalar_is_text, scalar_value}
-use Rattle.nbfx_records.specs.Meaning.{meant_scalar}
-use Rattle.nbfx_records.specs.Views.{listed, scalar_seen}
-use Rattle.nbfx_decoder.specs.Meant.{table_of}
+use Rattle.nbfx_records.specs.{Meaning.meant_scalar, Views.listed, Views.scalar_seen}
 use Rattle.nbfx_decoder.proofs.MeasureFacts.{all_weighed, leaves, none_yet, one_more, one_wrong}
 use Rattle.nbfx_decoder.proofs.meaning.Lookup.list_size.Goals as goal
 

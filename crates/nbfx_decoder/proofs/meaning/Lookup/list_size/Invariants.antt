@@ -1,10 +1,7 @@
-use Rattle.std.proofs.Common.{length}
-use Rattle.nbfx_values.specs.Measures.{scalar_content}
+use Rattle.{std.proofs.Common.length, nbfx_values.specs.Measures.scalar_content}
 use Rattle.nbfx_records.specs.Contents.{scalar_is_text, scalar_value}
-use Rattle.nbfx_records.specs.Meaning.{meant_scalar}
-use Rattle.nbfx_records.specs.Views.{IsList, listed}
-use Rattle.nbfx_decoder.specs.Meant.{table_of}
-use Rattle.nbfx_decoder.proofs.MeasureFacts.{AreWeighed}
+use Rattle.nbfx_records.specs.{Meaning.meant_scalar, Views.IsList, Views.listed}
+use Rattle.nbfx_decoder.{specs.Meant.table_of, proofs.MeasureFacts.AreWeighed}
 use Rattle.nbfx_decoder.proofs.meaning.Lookup.list_size.Given as goal
 
 abbrev pub invariant-loop-part : goal.invariant-loop-part

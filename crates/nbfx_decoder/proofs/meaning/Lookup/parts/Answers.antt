@@ -1,11 +1,7 @@
 use Rattle.std.proofs.Common.{List, [], ◌∷◌, ◌++◌, length, sym, subst}
-use Rattle.std.proofs.lemmas.Iterator.Adapters.{YieldsList-from_vec}
-use Rattle.std.proofs.lemmas.Iterator.Consumers.{YieldsList-turn}
-use Rattle.nbfx_values.specs.declared.content.AttrItem.{AttrItem}
-use Rattle.nbfx_values.specs.Items.{is_valid_attribute}
-use Rattle.nbfx_records.specs.Contents.{each}
-use Rattle.nbfx_records.specs.Meaning.{meant_part}
-use Rattle.nbfx_records.specs.Valid.{is_valid_part}
+use Rattle.std.proofs.lemmas.Iterator.{Adapters.YieldsList-from_vec, Consumers.YieldsList-turn}
+use Rattle.nbfx_values.specs.{declared.content.AttrItem.AttrItem, Items.is_valid_attribute}
+use Rattle.nbfx_records.specs.{Contents.each, Meaning.meant_part, Valid.is_valid_part}
 use Rattle.nbfx_decoder.specs.Meant.{table_of}
 use Rattle.nbfx_decoder.proofs.MeaningFacts.{AreFound, each_none, handed_on, one_more}
 use Rattle.nbfx_decoder.proofs.meaning.Lookup.parts.Goals as goal

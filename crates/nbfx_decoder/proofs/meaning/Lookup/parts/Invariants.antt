@@ -1,8 +1,6 @@
 use Rattle.nbfx_values.specs.Items.{is_valid_attribute}
-use Rattle.nbfx_records.specs.Meaning.{meant_part}
-use Rattle.nbfx_records.specs.Valid.{is_valid_part}
-use Rattle.nbfx_decoder.specs.Meant.{table_of}
-use Rattle.nbfx_decoder.proofs.MeaningFacts.{AreFound}
+use Rattle.nbfx_records.specs.{Meaning.meant_part, Valid.is_valid_part}
+use Rattle.nbfx_decoder.{specs.Meant.table_of, proofs.MeaningFacts.AreFound}
 use Rattle.nbfx_decoder.proofs.meaning.Lookup.parts.Given as goal
 
 abbrev pub invariant-loop-part : goal.invariant-loop-part

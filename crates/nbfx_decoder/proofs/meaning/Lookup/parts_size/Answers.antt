@@ -1,9 +1,7 @@
 use Rattle.nbfx_values.specs.Measures.{attribute_content}
 use Rattle.nbfx_records.specs.Contents.{attribute_is_text, attribute_value}
-use Rattle.nbfx_records.specs.Meaning.{meant_part}
-use Rattle.nbfx_records.specs.Views.{attribute_seen, parts_of}
-use Rattle.nbfx_decoder.specs.Meant.{table_of}
-use Rattle.nbfx_decoder.specs.Measuring.{weigh_part}
+use Rattle.nbfx_records.specs.{Meaning.meant_part, Views.attribute_seen, Views.parts_of}
+use Rattle.nbfx_decoder.specs.{Meant.table_of, Measuring.weigh_part}
 use Rattle.nbfx_decoder.proofs.MeasureFacts.{all_weighed, leaves, none_yet, one_more, one_wrong}
 use Rattle.nbfx_decoder.proofs.MeasureFacts.{unmade_so}
 use Rattle.nbfx_decoder.proofs.meaning.Lookup.parts_size.Goals as goal

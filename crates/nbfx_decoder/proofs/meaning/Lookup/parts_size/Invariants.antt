@@ -1,10 +1,7 @@
-use Rattle.std.proofs.Common.{length}
-use Rattle.nbfx_values.specs.Measures.{attribute_content}
+use Rattle.{std.proofs.Common.length, nbfx_values.specs.Measures.attribute_content}
 use Rattle.nbfx_records.specs.Contents.{attribute_is_text, attribute_value}
-use Rattle.nbfx_records.specs.Meaning.{meant_part}
-use Rattle.nbfx_records.specs.Views.{AreParts, parts_of}
-use Rattle.nbfx_decoder.specs.Meant.{table_of}
-use Rattle.nbfx_decoder.proofs.MeasureFacts.{AreWeighed}
+use Rattle.nbfx_records.specs.{Meaning.meant_part, Views.AreParts, Views.parts_of}
+use Rattle.nbfx_decoder.{specs.Meant.table_of, proofs.MeasureFacts.AreWeighed}
 use Rattle.nbfx_decoder.proofs.meaning.Lookup.parts_size.Given as goal
 
 abbrev pub invariant-loop-part : goal.invariant-loop-part

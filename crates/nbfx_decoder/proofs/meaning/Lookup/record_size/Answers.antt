@@ -1,18 +1,15 @@
-use Rattle.std.proofs.Common.{◌+◌, Some, length, refl}
-use Rattle.std.specs.Prelude.{◌&&◌}
-use Rattle.std.specs.Str.{is_utf8}
-use Rattle.nbfx_values.specs.Measures.{capped}
-use Rattle.nbfx_records.specs.declared.nodes.Node.TheVariants as nodes
+use Rattle.std.proofs.Common.{◌+◌, ◌&&◌, length, Some, refl}
+use Rattle.{std.specs.Str.is_utf8, nbfx_values.specs.Measures.capped}
 use Rattle.nbfx_records.specs.Contents.{array_of, attribute_is_text, attribute_node}
 use Rattle.nbfx_records.specs.Contents.{attribute_value, contents, is_text, name_is_text}
-use Rattle.nbfx_records.specs.Contents.{value_is_text, shape_value}
-use Rattle.nbfx_records.specs.Meaning.{name_text}
-use Rattle.nbfx_records.specs.Shapes.{repeats}
+use Rattle.nbfx_records.specs.Contents.{shape_value, value_is_text}
+use Rattle.nbfx_records.specs.{Meaning.name_text, Shapes.repeats}
 use Rattle.nbfx_records.specs.Views.{array_seen, attribute_seen, name_seen, prefix_seen, value_seen}
 use Rattle.nbfx_decoder.specs.Meant.{table_of}
 use Rattle.nbfx_decoder.specs.Measuring.{weigh_array, weigh_node, weigh_part, weigh_value, weighed}
 use Rattle.nbfx_decoder.proofs.MeasureFacts.{array_node_weighed, attribute_weighed, comment_weighed}
 use Rattle.nbfx_decoder.proofs.MeasureFacts.{element_weighed, measured_as, text_weighed}
+use Rattle.nbfx_records.specs.declared.nodes.Node.TheVariants as nodes
 use Rattle.nbfx_decoder.proofs.meaning.Lookup.record_size.Goals as goal
 
 pub returns-in-EndElement : goal.returns-in-EndElement

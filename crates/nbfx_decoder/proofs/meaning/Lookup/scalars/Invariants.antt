@@ -1,8 +1,6 @@
 use Rattle.nbfx_values.specs.Scalars.{is_valid_scalar}
-use Rattle.nbfx_records.specs.Meaning.{meant_scalar}
-use Rattle.nbfx_records.specs.Valid.{is_valid_raw}
-use Rattle.nbfx_decoder.specs.Meant.{table_of}
-use Rattle.nbfx_decoder.proofs.MeaningFacts.{AreFound}
+use Rattle.nbfx_records.specs.{Meaning.meant_scalar, Valid.is_valid_raw}
+use Rattle.nbfx_decoder.{specs.Meant.table_of, proofs.MeaningFacts.AreFound}
 use Rattle.nbfx_decoder.proofs.meaning.Lookup.scalars.Given as goal
 
 abbrev pub invariant-loop-scalar : goal.invariant-loop-scalar

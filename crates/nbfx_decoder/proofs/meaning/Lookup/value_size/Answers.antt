@@ -1,14 +1,11 @@
-use Rattle.std.proofs.Common.{Ok}
-use Rattle.std.specs.List.{list_all}
-use Rattle.nbfx_values.specs.Measures.{value_content}
-use Rattle.nbfx_values.specs.declared.scalars.Value.TheVariants as values
-use Rattle.nbfx_records.specs.declared.nodes.RawValue.TheVariants.{One, List as ListOf}
+use Rattle.std.{proofs.Common.Ok, specs.List.list_all}
+use Rattle.{nbfx_values.specs.Measures.value_content, nbfx_decoder.specs.Meant.table_of}
+use Rattle.nbfx_records.specs.declared.nodes.RawValue.TheVariants.{List as ListOf, One}
 use Rattle.nbfx_records.specs.Contents.{each, scalar_is_text, scalar_value}
-use Rattle.nbfx_records.specs.Meaning.{meant_scalar}
-use Rattle.nbfx_records.specs.Views.{listed, scalar_seen}
-use Rattle.nbfx_decoder.specs.Meant.{table_of}
+use Rattle.nbfx_records.specs.{Meaning.meant_scalar, Views.listed, Views.scalar_seen}
 use Rattle.nbfx_decoder.specs.Measuring.{weigh_scalar, weigh_scalars, weigh_value}
 use Rattle.nbfx_decoder.proofs.MeasureFacts.{measured_as, weighed-map}
+use Rattle.nbfx_values.specs.declared.scalars.Value.TheVariants as values
 use Rattle.nbfx_decoder.proofs.meaning.Lookup.value_size.Goals as goal
 
 pub returns-in_ok-raw-in-One : goal.returns-in_ok-raw-in-One

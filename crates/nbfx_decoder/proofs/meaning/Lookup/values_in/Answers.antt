@@ -1,8 +1,7 @@
 use Rattle.std.proofs.Common.{List, sym, subst}
-use Rattle.nbfx_values.specs.declared.scalars.Scalar.{Scalar}
+use Rattle.{nbfx_values.specs.declared.scalars.Scalar.Scalar, nbfx_decoder.specs.Meant.table_of}
 use Rattle.nbfx_records.specs.Views.{listed, scalar_seen}
-use Rattle.nbfx_decoder.specs.Meant.{table_of}
-use Rattle.nbfx_decoder.proofs.Listing.{SoFar, one_further, peeled}
+use Rattle.nbfx_decoder.proofs.Listing.{one_further, peeled, SoFar}
 use Rattle.nbfx_decoder.proofs.meaning.Lookup.values_in.Goals as goal
 
 pub value_in-requires : goal.value_in-requires

@@ -1,7 +1,6 @@
 use Rattle.std.proofs.Common.{length}
 use Rattle.nbfx_records.specs.Views.{IsList, listed}
-use Rattle.nbfx_decoder.specs.Meant.{table_of}
-use Rattle.nbfx_decoder.proofs.Listing.{SoFar}
+use Rattle.nbfx_decoder.{specs.Meant.table_of, proofs.Listing.SoFar}
 use Rattle.nbfx_decoder.proofs.meaning.Lookup.values_in.Given as goal
 
 abbrev pub invariant-loop-part : goal.invariant-loop-part

@@ -1,8 +1,7 @@
 use Rattle.std.proofs.Common.{Err, refl, ap, arith}
 use Rattle.nbfx_values.specs.Measures.{capped, content_of}
-use Rattle.nbfx_decoder.specs.Meant.{items_in}
-use Rattle.nbfx_decoder.proofs.Saying.{never_too_much}
-use Rattle.nbfx_decoder.proofs.UnitSteps.{unrefused, behind_node, leads_somewhere}
+use Rattle.nbfx_decoder.{specs.Meant.items_in, proofs.Saying.never_too_much}
+use Rattle.nbfx_decoder.proofs.UnitSteps.{behind_node, leads_somewhere, unrefused}
 use Rattle.nbfx_decoder.proofs.units.UnitReader.add.Goals as goal
 
 pub returns-in-Ok-clause-answers : goal.returns-in-Ok-clause-answers

@@ -1,8 +1,7 @@
-use Rattle.std.proofs.Common.{◌∙◌, refl, sym, ap, arith}
+use Rattle.std.proofs.Common.{sym, refl, ap, ◌∙◌, arith}
 use Rattle.nbfx_values.specs.Measures.{capped, content_of}
-use Rattle.nbfx_records.specs.Meaning.{items_of}
-use Rattle.nbfx_decoder.specs.Meant.{items_in}
-use Rattle.nbfx_decoder.proofs.UnitSteps.{unrefused, behind_node}
+use Rattle.{nbfx_records.specs.Meaning.items_of, nbfx_decoder.specs.Meant.items_in}
+use Rattle.nbfx_decoder.proofs.UnitSteps.{behind_node, unrefused}
 use Rattle.nbfx_decoder.proofs.units.UnitReader.add_quickly.Goals as goal
 
 pub returns-in-Ok-push-clause-answers : goal.returns-in-Ok-push-clause-answers

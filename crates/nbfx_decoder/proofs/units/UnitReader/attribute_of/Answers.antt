@@ -1,8 +1,7 @@
-use Rattle.std.proofs.Common.{subst, sym}
+use Rattle.{std.proofs.Common.sym, std.proofs.Common.subst, nbfx_decoder.specs.Units.HasOne}
 use Rattle.nbfx_records.specs.declared.attributes.AttributePart.TheVariants.{Attribute}
-use Rattle.nbfx_records.specs.declared.records.RecordPart.TheVariants as records
 use Rattle.nbfx_records.specs.Views.{record_seen, value_seen}
-use Rattle.nbfx_decoder.specs.Units.{HasOne}
+use Rattle.nbfx_records.specs.declared.records.RecordPart.TheVariants as records
 use Rattle.nbfx_decoder.proofs.units.UnitReader.attribute_of.Goals as goal
 
 pub pass_quickly-requires-clause-stands : goal.pass_quickly-requires-clause-stands

@@ -1,9 +1,6 @@
-use Rattle.std.proofs.Common.{subst, sym}
-use Rattle.std.specs.Prelude.{IfOk}
-use Rattle.nbfx_records.specs.Shapes.{Shape}
-use Rattle.nbfx_records.specs.Views.{listed, name_seen, prefix_seen}
-use Rattle.nbfx_decoder.specs.Meant.{table_of}
-use Rattle.nbfx_decoder.specs.Units.{IsSaid, MakesValid, MayMake}
+use Rattle.std.proofs.Common.{IfOk, sym, subst}
+use Rattle.nbfx_records.specs.{Shapes.Shape, Views.listed, Views.name_seen, Views.prefix_seen}
+use Rattle.nbfx_decoder.specs.{Meant.table_of, Units.IsSaid, Units.MakesValid, Units.MayMake}
 use Rattle.nbfx_decoder.proofs.Listing.{attribute_all_said, attribute_means, attribute_part}
 use Rattle.nbfx_decoder.proofs.units.UnitReader.attribute_said.Goals as goal
 

@@ -1,6 +1,5 @@
+use Rattle.{nbfx_records.specs.Views.record_seen, nbfx_decoder.specs.Units.place_in}
 use Rattle.nbfx_records.specs.declared.records.RecordPart.TheVariants as records
-use Rattle.nbfx_records.specs.Views.{record_seen}
-use Rattle.nbfx_decoder.specs.Units.{place_in}
 use Rattle.nbfx_decoder.proofs.units.UnitReader.element.Goals as goal
 
 pub pass_quickly-requires-clause-stands : goal.pass_quickly-requires-clause-stands

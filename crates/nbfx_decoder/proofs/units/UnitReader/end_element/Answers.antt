@@ -1,7 +1,5 @@
-use Rattle.nbfx_records.specs.Shapes.{ends_element}
-use Rattle.nbfx_records.proofs.BegunFacts.{end_begun}
-use Rattle.nbfx_decoder.specs.Units.{place_in}
-use Rattle.nbfx_decoder.proofs.Saying.{end_made}
+use Rattle.nbfx_records.{proofs.BegunFacts.end_begun, specs.Shapes.ends_element}
+use Rattle.nbfx_decoder.{specs.Units.place_in, proofs.Saying.end_made}
 use Rattle.nbfx_decoder.proofs.units.UnitReader.end_element.Goals as goal
 
 pub pass_quickly-requires-clause-stands : goal.pass_quickly-requires-clause-stands

@@ -1,5 +1,4 @@
-use Rattle.std.proofs.Common.{refl}
-use Rattle.nbfx_records.specs.Views.{record_seen}
+use Rattle.{std.proofs.Common.refl, nbfx_records.specs.Views.record_seen}
 use Rattle.nbfx_decoder.specs.Meant.{table_of}
 use Rattle.nbfx_decoder.proofs.Saying.{judged_room, judged_too_much, judged_unfit, judged_unnamed}
 use Rattle.nbfx_decoder.proofs.units.UnitReader.judge.Goals as goal

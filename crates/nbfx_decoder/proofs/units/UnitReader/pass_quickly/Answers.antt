@@ -1,12 +1,9 @@
-use Rattle.std.proofs.Common.{◌≡◌, true, Result, Ok, subst, arith}
-use Rattle.nbfx_records.specs.declared.nodes.Node.{Node}
-use Rattle.nbfx_records.specs.declared.nodes.NodeFault.{NodeFault}
-use Rattle.nbfx_records.specs.Contents.{contents}
-use Rattle.nbfx_records.specs.Judged.{Made}
+use Rattle.std.proofs.Common.{◌≡◌, true, Ok, Result, subst, arith}
+use Rattle.nbfx_records.specs.declared.nodes.{Node.Node, NodeFault.NodeFault}
+use Rattle.nbfx_records.specs.{Contents.contents, Judged.Made}
 use Rattle.nbfx_decoder.specs.Units.{place_in}
-use Rattle.nbfx_decoder.proofs.Keeping.{keeps_settings}
-use Rattle.nbfx_decoder.proofs.Saying.{added_said, record_few, reads_done, shape_size, shape_valid}
-use Rattle.nbfx_decoder.proofs.Singles.{single_made}
+use Rattle.nbfx_decoder.proofs.{Keeping.keeps_settings, Singles.single_made}
+use Rattle.nbfx_decoder.proofs.Saying.{added_said, reads_done, record_few, shape_size, shape_valid}
 use Rattle.nbfx_decoder.proofs.units.UnitReader.pass_quickly.Goals as goal
 
 pub add_quickly-requires-clause-valid : goal.add_quickly-requires-clause-valid

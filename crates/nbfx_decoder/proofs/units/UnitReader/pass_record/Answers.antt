@@ -1,10 +1,8 @@
-use Rattle.std.proofs.Common.{refl, arith}
-use Rattle.nbfx_records.specs.Views.{record_seen}
-use Rattle.nbfx_decoder.specs.declared.faults.UnitFault.TheVariants.{Memory}
-use Rattle.nbfx_decoder.specs.Units.{place_in}
+use Rattle.{std.proofs.Common.refl, std.proofs.Common.arith, nbfx_records.specs.Views.record_seen}
+use Rattle.nbfx_decoder.specs.{declared.faults.UnitFault.TheVariants.Memory, Units.place_in}
 use Rattle.nbfx_decoder.proofs.Keeping.{keeps_settings, stays_at}
-use Rattle.nbfx_decoder.proofs.Saying.{added_said, judged_said, made_fits, record_few, reads_done}
-use Rattle.nbfx_decoder.proofs.Saying.{reads_fault, shape_size, shape_stands, shape_valid}
+use Rattle.nbfx_decoder.proofs.Saying.{added_said, judged_said, made_fits, reads_done, reads_fault}
+use Rattle.nbfx_decoder.proofs.Saying.{record_few, shape_size, shape_stands, shape_valid}
 use Rattle.nbfx_decoder.proofs.units.UnitReader.pass_record.Goals as goal
 
 pub returns-in_err-judge : goal.returns-in_err-judge

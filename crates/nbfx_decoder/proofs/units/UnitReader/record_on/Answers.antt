@@ -1,9 +1,6 @@
-use Rattle.std.proofs.Common.{subst}
-use Rattle.nbfx_records.specs.Cursor.{IsWhole}
-use Rattle.nbfx_records.specs.Shapes.{shape_at}
-use Rattle.nbfx_records.specs.Views.{record_seen}
-use Rattle.nbfx_records.specs.declared.nodes.NodePlace.{NodePlace}
-use Rattle.nbfx_decoder.proofs.Saying.{reads_stopped}
+use Rattle.{std.proofs.Common.subst, nbfx_decoder.proofs.Saying.reads_stopped}
+use Rattle.nbfx_records.specs.{declared.nodes.NodePlace.NodePlace, Cursor.IsWhole}
+use Rattle.nbfx_records.specs.{Shapes.shape_at, Views.record_seen}
 use Rattle.nbfx_decoder.proofs.units.UnitReader.record_on.Goals as goal
 
 pub pass_record-requires-clause-stands : goal.pass_record-requires-clause-stands

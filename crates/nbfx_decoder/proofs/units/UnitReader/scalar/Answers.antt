@@ -1,6 +1,5 @@
-use Rattle.nbfx_records.specs.declared.attributes.ValuePart.TheVariants.{One}
+use Rattle.nbfx_records.specs.{declared.attributes.ValuePart.TheVariants.One, Views.record_seen}
 use Rattle.nbfx_records.specs.declared.records.RecordPart.TheVariants as records
-use Rattle.nbfx_records.specs.Views.{record_seen}
 use Rattle.nbfx_decoder.proofs.units.UnitReader.scalar.Goals as goal
 
 pub pass_quickly-requires-clause-stands : goal.pass_quickly-requires-clause-stands

@@ -1,11 +1,8 @@
-use Rattle.std.proofs.Common.{◌-◌, ◌∙◌, Ok, ap, arith}
-use Rattle.nbfx_decoder.specs.Tables.{TableString}
-use Rattle.nbfx_decoder.specs.Sections.{section_of}
-use Rattle.nbfx_decoder.specs.Payload.{table_string}
-use Rattle.nbfx_decoder.specs.Units.{StringStands}
-use Rattle.nbfx_decoder.specs.declared.strings.StringRead.TheVariants.{Done}
-use Rattle.nbfx_decoder.proofs.UnitSteps.{left_some, string_size, string_unrefused, string_whole}
-use Rattle.nbfx_decoder.proofs.UnitSteps.{string_waits, string_refused, behind_string}
+use Rattle.std.proofs.Common.{◌-◌, Ok, ap, ◌∙◌, arith}
+use Rattle.nbfx_decoder.specs.{declared.strings.StringRead.TheVariants.Done, Tables.TableString}
+use Rattle.nbfx_decoder.specs.{Payload.table_string, Sections.section_of, Units.StringStands}
+use Rattle.nbfx_decoder.proofs.UnitSteps.{behind_string, left_some, string_refused, string_size}
+use Rattle.nbfx_decoder.proofs.UnitSteps.{string_unrefused, string_waits, string_whole}
 use Rattle.nbfx_decoder.proofs.units.UnitReader.table_string.Goals as goal
 
 pub returns-in_err-wants-clause-answers : goal.returns-in_err-wants-clause-answers

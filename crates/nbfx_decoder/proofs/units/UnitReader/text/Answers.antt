@@ -1,8 +1,7 @@
-use Rattle.nbfx_records.specs.declared.attributes.ValuePart.TheVariants.{One}
+use Rattle.nbfx_records.specs.{declared.attributes.ValuePart.TheVariants.One, Views.record_seen}
 use Rattle.nbfx_records.specs.declared.parts.ScalarPart.TheVariants.{Bytes}
-use Rattle.nbfx_records.specs.declared.records.RecordPart.TheVariants as records
-use Rattle.nbfx_records.specs.Views.{record_seen}
 use Rattle.nbfx_decoder.specs.Units.{place_in}
+use Rattle.nbfx_records.specs.declared.records.RecordPart.TheVariants as records
 use Rattle.nbfx_decoder.proofs.units.UnitReader.text.Goals as goal
 
 pub pass_quickly-requires-clause-stands : goal.pass_quickly-requires-clause-stands

@@ -1,7 +1,6 @@
 use Rattle.std.proofs.Common.{◌∙◌}
-use Rattle.nbfx_encoder.specs.Inside.{names_of}
 use Rattle.nbfx_encoder.specs.EncoderState.{kind_in, names_in, payload_in}
-use Rattle.nbfx_encoder.proofs.ReadBack.{spelled_reads}
+use Rattle.nbfx_encoder.{specs.Inside.names_of, proofs.ReadBack.spelled_reads}
 use Rattle.nbfx_encoder.proofs.encoder.Encoder.prepare.Goals as goal
 
 pub returns-in-Err-clause-refused : goal.returns-in-Err-clause-refused

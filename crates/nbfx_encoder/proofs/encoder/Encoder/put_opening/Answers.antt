@@ -1,5 +1,4 @@
-use Rattle.std.proofs.Common.{ap, length, arith}
-use Rattle.std.proofs.lemmas.Grind.{common_steps}
+use Rattle.std.proofs.{Common.length, Common.ap, Common.arith, lemmas.Grind.common_steps}
 use Rattle.nbfx_encoder.proofs.Openings.{few_bytes, short_head}
 use Rattle.nbfx_encoder.proofs.encoder.Encoder.put_opening.Goals as goal
 

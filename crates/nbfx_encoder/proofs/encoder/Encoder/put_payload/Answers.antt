@@ -1,6 +1,5 @@
 use Rattle.std.proofs.Common.{◌++◌, ap, ◌∙◌}
-use Rattle.nbfx_encoder.specs.EncoderState.{payload_in}
-use Rattle.nbfx_encoder.proofs.Openings.{third_stopped}
+use Rattle.nbfx_encoder.{specs.EncoderState.payload_in, proofs.Openings.third_stopped}
 use Rattle.nbfx_encoder.proofs.encoder.Encoder.put_payload.Goals as goal
 
 pub returns-in_err-extend_from_slice-3 : goal.returns-in_err-extend_from_slice-3

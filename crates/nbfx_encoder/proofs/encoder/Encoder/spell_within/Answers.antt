@@ -1,9 +1,7 @@
 use Rattle.std.proofs.Common.{◌<◌, subst}
 use Rattle.nbfx_values.specs.declared.limits.Quotas.{Quotas}
+use Rattle.nbfx_encoder.{specs.EncoderState.payload_in, specs.Spelling.chosen, proofs.Sizes.large}
 use Rattle.nbfx_encoder.specs.Inside.{names_of, writing_of}
-use Rattle.nbfx_encoder.specs.Spelling.{chosen}
-use Rattle.nbfx_encoder.specs.EncoderState.{payload_in}
-use Rattle.nbfx_encoder.proofs.Sizes.{large}
 use Rattle.nbfx_encoder.proofs.encoder.Encoder.spell_within.Goals as goal
 
 pub returns-then-size-self-clause-spelled : goal.returns-then-size-self-clause-spelled

@@ -1,16 +1,10 @@
-use Rattle.std.proofs.Common.{◌+◌, ◌<◌, ◌^◌, ℕ, List, length, ap, ◌∙◌, sym, subst, arith}
-use Rattle.std.specs.Prelude.{◌&&◌, IsTrue, nat_lt}
-use Rattle.std.specs.List.{list_all}
-use Rattle.std.specs.Str.{is_utf8}
-use Rattle.std.proofs.lemmas.Bool.{and_parts}
+use Rattle.std.proofs.Common.{ℕ, ◌+◌, ◌^◌, ◌<◌, ◌&&◌, List, length, IsTrue, nat_lt, sym, ap, ◌∙◌}
+use Rattle.std.proofs.{Common.subst, Common.arith, lemmas.Bool.and_parts}
+use Rattle.std.specs.{List.list_all, Str.is_utf8}
 use Rattle.nbfx_values.specs.Items.{are_texts, fits_kind, is_valid_attribute}
-use Rattle.nbfx_records.specs.declared.nodes.NameRef.{NameRef}
-use Rattle.nbfx_records.specs.Valid.{fit_names}
-use Rattle.nbfx_records.specs.Views.{name_seen}
-use Rattle.nbfx_records.proofs.WritableFacts.{cells_count}
-use Rattle.nbfx_encoder.specs.Inside.{names_of, writing_of}
-use Rattle.nbfx_encoder.specs.Placing.{Placed, place}
-use Rattle.nbfx_encoder.proofs.Writable.{names_may}
+use Rattle.{nbfx_records.proofs.WritableFacts.cells_count, nbfx_encoder.proofs.Writable.names_may}
+use Rattle.nbfx_records.specs.{declared.nodes.NameRef.NameRef, Valid.fit_names, Views.name_seen}
+use Rattle.nbfx_encoder.specs.{Inside.names_of, Inside.writing_of, Placing.place, Placing.Placed}
 use Rattle.nbfx_encoder.proofs.speller.Speller.put_array.Goals as goal
 
 pub put_element-requires : goal.put_element-requires

@@ -1,24 +1,15 @@
-use Rattle.std.proofs.Common.{◌≡◌, ℕ, [], false, sym, refl, ap, ◌∙◌, ◌++◌, arith, append-nil, subst}
-use Rattle.std.specs.Prelude.{IsTrue}
-use Rattle.std.specs.Str.{is_utf8}
-use Rattle.std.proofs.lemmas.Bool.{and_parts}
-use Rattle.nbfx_values.specs.Items.{are_texts}
-use Rattle.nbfx_values.specs.Scalars.{is_valid_value}
-use Rattle.nbfx_records.specs.declared.nodes.AttrNode.TheVariants as attribute_nodes
-use Rattle.nbfx_records.specs.declared.nodes.NameRef.{NameRef}
+use Rattle.std.proofs.Common.{◌≡◌, ℕ, false, [], ◌++◌, IsTrue, Vec, option_map, sym, refl, ap, ◌∙◌}
+use Rattle.std.proofs.{Common.subst, Common.append-nil, Common.arith, lemmas.Bool.and_parts}
+use Rattle.std.specs.{Str.is_utf8, declared.alloc.Global.Global}
+use Rattle.nbfx_values.specs.{Items.are_texts, Scalars.is_valid_value}
+use Rattle.nbfx_records.specs.declared.nodes.{NameRef.NameRef, RawValue.RawValue}
 use Rattle.nbfx_records.specs.Chosen.{attribute_start, part_bytes, value_bytes}
-use Rattle.nbfx_records.specs.Valid.{fit_names}
-use Rattle.std.proofs.Common.{Vec}
-use Rattle.std.specs.declared.alloc.Global.{Global}
-use Rattle.std.specs.Option.{option_map}
-use Rattle.nbfx_records.specs.declared.nodes.RawValue.{RawValue}
-use Rattle.nbfx_records.specs.Views.{name_seen}
+use Rattle.nbfx_records.specs.{Valid.fit_names, Views.name_seen}
 use Rattle.nbfx_encoder.specs.declared.speller.Speller.{Speller}
 use Rattle.nbfx_encoder.specs.Inside.{Answers, names_of, writing_of}
-use Rattle.nbfx_encoder.specs.Placing.{Placed, Writing, spell_value}
-use Rattle.nbfx_encoder.proofs.InLists.{keeps_writing}
-use Rattle.nbfx_encoder.proofs.Parts.{made_answers}
-use Rattle.nbfx_encoder.proofs.Writable.{names_may}
+use Rattle.nbfx_encoder.specs.Placing.{Placed, spell_value, Writing}
+use Rattle.nbfx_encoder.proofs.{InLists.keeps_writing, Parts.made_answers, Writable.names_may}
+use Rattle.nbfx_records.specs.declared.nodes.AttrNode.TheVariants as attribute_nodes
 use Rattle.nbfx_encoder.proofs.speller.Speller.put_attribute.Goals as goal
 
 pub put_attribute_start-requires : goal.put_attribute_start-requires

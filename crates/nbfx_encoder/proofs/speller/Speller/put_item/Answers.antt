@@ -1,9 +1,7 @@
 use Rattle.std.proofs.Common.{sym, subst}
-use Rattle.nbfx_values.specs.declared.content.Item.{Item}
-use Rattle.nbfx_records.specs.Chosen.{chosen_bytes}
+use Rattle.{nbfx_values.specs.declared.content.Item.Item, nbfx_records.specs.Chosen.chosen_bytes}
 use Rattle.nbfx_encoder.specs.Inside.{Answers, names_of, writing_of}
-use Rattle.nbfx_encoder.specs.Spelling.{spell_item}
-use Rattle.nbfx_encoder.proofs.Records.{attribute_answers}
+use Rattle.nbfx_encoder.{specs.Spelling.spell_item, proofs.Records.attribute_answers}
 use Rattle.nbfx_encoder.proofs.speller.Speller.put_item.Goals as goal
 
 pub returns-in-Attr-clause-spelled : goal.returns-in-Attr-clause-spelled

@@ -1,10 +1,6 @@
-use Rattle.std.proofs.Common.{◌<◌, ◌^◌, List, sym, subst}
-use Rattle.std.specs.Prelude.{IsTrue}
-use Rattle.std.specs.List.{list_all}
-use Rattle.nbfx_values.specs.Items.{is_valid_item}
-use Rattle.nbfx_values.specs.Measures.{content_of}
-use Rattle.nbfx_values.specs.declared.content.Item.{Item}
-use Rattle.nbfx_encoder.specs.Inside.{PutFirst}
+use Rattle.std.proofs.Common.{◌^◌, ◌<◌, List, IsTrue, sym, subst}
+use Rattle.{std.specs.List.list_all, nbfx_encoder.specs.Inside.PutFirst}
+use Rattle.nbfx_values.specs.{declared.content.Item.Item, Items.is_valid_item, Measures.content_of}
 use Rattle.nbfx_encoder.proofs.InItems.{items_more, left_few, left_valid, rest_of}
 use Rattle.nbfx_encoder.proofs.speller.Speller.put_items.Goals as goal
 

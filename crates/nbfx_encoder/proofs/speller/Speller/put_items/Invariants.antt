@@ -1,6 +1,5 @@
 -- On the way through the items.
-use Rattle.std.proofs.Common.{◌-◌, length}
-use Rattle.nbfx_encoder.proofs.InItems.{AlongItems}
+use Rattle.{std.proofs.Common.◌-◌, std.proofs.Common.length, nbfx_encoder.proofs.InItems.AlongItems}
 use Rattle.nbfx_encoder.proofs.speller.Speller.put_items.Given as goal
 
 abbrev pub invariant-loop-at : goal.invariant-loop-at

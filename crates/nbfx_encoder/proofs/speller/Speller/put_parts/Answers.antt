@@ -1,5 +1,4 @@
-use Rattle.nbfx_records.specs.Chosen.{part_bytes}
-use Rattle.nbfx_encoder.specs.Placing.{spell_part}
+use Rattle.{nbfx_records.specs.Chosen.part_bytes, nbfx_encoder.specs.Placing.spell_part}
 use Rattle.nbfx_encoder.proofs.InLists.{along_first, along_more}
 use Rattle.nbfx_encoder.proofs.speller.Speller.put_parts.Goals as goal
 

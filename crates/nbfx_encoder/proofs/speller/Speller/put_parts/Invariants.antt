@@ -1,8 +1,6 @@
 -- On the way through the declarations and attributes.
-use Rattle.std.proofs.Common.{drop}
-use Rattle.nbfx_records.specs.Chosen.{part_bytes}
-use Rattle.nbfx_encoder.specs.Placing.{spell_part}
-use Rattle.nbfx_encoder.proofs.InLists.{Along}
+use Rattle.{std.proofs.Common.drop, nbfx_records.specs.Chosen.part_bytes}
+use Rattle.nbfx_encoder.{specs.Placing.spell_part, proofs.InLists.Along}
 use Rattle.nbfx_encoder.proofs.speller.Speller.put_parts.Given as goal
 
 abbrev pub invariant-loop-part : goal.invariant-loop-part

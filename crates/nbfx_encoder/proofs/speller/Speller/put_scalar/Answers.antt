@@ -1,6 +1,5 @@
 use Rattle.nbfx_records.specs.Choices.{choice_seen}
-use Rattle.nbfx_encoder.specs.Inside.{names_of, writing_of}
-use Rattle.nbfx_encoder.proofs.Writable.{scalar_may}
+use Rattle.nbfx_encoder.{specs.Inside.names_of, specs.Inside.writing_of, proofs.Writable.scalar_may}
 use Rattle.nbfx_encoder.proofs.speller.Speller.put_scalar.Goals as goal
 
 pub put_scalar-requires-clause-valid : goal.put_scalar-requires-clause-valid

@@ -1,5 +1,4 @@
-use Rattle.std.proofs.Common.{false}
-use Rattle.nbfx_records.specs.Chosen.{scalar_bytes}
+use Rattle.{std.proofs.Common.false, nbfx_records.specs.Chosen.scalar_bytes}
 use Rattle.nbfx_encoder.specs.Placing.{spell_scalar}
 use Rattle.nbfx_encoder.proofs.InLists.{along_first, along_more}
 use Rattle.nbfx_encoder.proofs.speller.Speller.put_scalars.Goals as goal

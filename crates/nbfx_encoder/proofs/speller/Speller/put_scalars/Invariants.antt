@@ -1,8 +1,6 @@
 -- On the way through the values.
-use Rattle.std.proofs.Common.{drop, false}
-use Rattle.nbfx_records.specs.Chosen.{scalar_bytes}
-use Rattle.nbfx_encoder.specs.Placing.{spell_scalar}
-use Rattle.nbfx_encoder.proofs.InLists.{Along}
+use Rattle.{std.proofs.Common.false, std.proofs.Common.drop, nbfx_records.specs.Chosen.scalar_bytes}
+use Rattle.nbfx_encoder.{specs.Placing.spell_scalar, proofs.InLists.Along}
 use Rattle.nbfx_encoder.proofs.speller.Speller.put_scalars.Given as goal
 
 abbrev pub invariant-loop-value : goal.invariant-loop-value

@@ -1,12 +1,7 @@
-use Rattle.std.proofs.Common.{ap, subst}
-use Rattle.std.specs.Prelude.{IsTrue}
-use Rattle.std.specs.Str.{is_utf8}
-use Rattle.std.proofs.lemmas.Bool.{and_parts}
-use Rattle.nbfx_records.specs.declared.nodes.NameRef.{NameRef}
-use Rattle.nbfx_records.specs.Valid.{fit_names}
-use Rattle.nbfx_encoder.specs.Inside.{names_of, writing_of}
-use Rattle.nbfx_encoder.specs.Placing.{Placed}
-use Rattle.nbfx_encoder.proofs.Writable.{names_may}
+use Rattle.std.proofs.{Common.IsTrue, Common.ap, Common.subst, lemmas.Bool.and_parts}
+use Rattle.{std.specs.Str.is_utf8, nbfx_encoder.proofs.Writable.names_may}
+use Rattle.nbfx_records.specs.{declared.nodes.NameRef.NameRef, Valid.fit_names}
+use Rattle.nbfx_encoder.specs.{Inside.names_of, Inside.writing_of, Placing.Placed}
 use Rattle.nbfx_encoder.proofs.speller.Speller.put_start.Goals as goal
 
 pub put_element-requires : goal.put_element-requires

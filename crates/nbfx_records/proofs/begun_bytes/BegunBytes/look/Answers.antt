@@ -1,7 +1,5 @@
-use Rattle.std.proofs.Common.{List, [], ℕ, ◌∙◌, sym, subst}
-use Rattle.std.proofs.lemmas.List.{append-nil}
-use Rattle.nbfx_records.specs.Resuming.{Fits}
-use Rattle.nbfx_records.proofs.ResumeFacts.{still_fits}
+use Rattle.std.proofs.Common.{ℕ, List, [], sym, ◌∙◌, subst, append-nil}
+use Rattle.nbfx_records.{specs.Resuming.Fits, proofs.ResumeFacts.still_fits}
 use Rattle.nbfx_records.proofs.begun_bytes.BegunBytes.look.Goals as goal
 
 pub shape_at-seen-requires : goal.shape_at-seen-requires

@@ -1,7 +1,5 @@
-use Rattle.std.proofs.Common.{List, [], ℕ, ◌∙◌, sym, subst}
-use Rattle.std.proofs.lemmas.List.{append-nil}
-use Rattle.multibyte_ints.specs.Integer.{IsBytes}
-use Rattle.nbfx_records.specs.Resuming.{Fits}
+use Rattle.std.proofs.Common.{ℕ, List, [], sym, ◌∙◌, subst, append-nil}
+use Rattle.{multibyte_ints.specs.Integer.IsBytes, nbfx_records.specs.Resuming.Fits}
 use Rattle.nbfx_records.proofs.begun_bytes.BegunBytes.parts.Goals as goal
 
 pub shape_at-requires : goal.shape_at-requires

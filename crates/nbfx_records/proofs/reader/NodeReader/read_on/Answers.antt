@@ -1,7 +1,6 @@
 use Rattle.std.proofs.Common.{refl, arith}
-use Rattle.nbfx_records.specs.Views.{record_seen}
+use Rattle.nbfx_records.{specs.Views.record_seen, proofs.ReaderFacts.fed_valid}
 use Rattle.nbfx_records.proofs.ReaderFacts.{fed_behind, fed_fault, fed_later, fed_more, fed_unfit}
-use Rattle.nbfx_records.proofs.ReaderFacts.{fed_valid}
 use Rattle.nbfx_records.proofs.reader.NodeReader.read_on.Goals as goal
 
 pub returns-in_err-node-in-Ok-clause-answers : goal.returns-in_err-node-in-Ok-clause-answers

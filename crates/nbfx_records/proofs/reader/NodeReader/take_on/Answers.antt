@@ -1,7 +1,6 @@
-use Rattle.std.proofs.Common.{◌++◌, ◌+◌, ◌∙◌, Ok, ap, sym, arith, take}
-use Rattle.nbfx_records.specs.Answers.{FeedAnswers, IsLeft}
-use Rattle.nbfx_records.specs.RecordAtFront.{node_at}
+use Rattle.std.proofs.Common.{◌+◌, ◌++◌, take, Ok, sym, ap, ◌∙◌, arith}
 use Rattle.nbfx_records.specs.declared.reader.NodeStep.TheVariants.{Done, More}
+use Rattle.nbfx_records.specs.{Answers.FeedAnswers, Answers.IsLeft, RecordAtFront.node_at}
 use Rattle.nbfx_records.proofs.ReaderFacts.{fed_refused, fed_whole, kept_on, part_within}
 use Rattle.nbfx_records.proofs.reader.NodeReader.take_on.Goals as goal
 

@@ -1,6 +1,5 @@
-use Rattle.std.proofs.Common.{◌≡◌, ◌++◌, ◌-◌, ◌≤◌, length, take}
-use Rattle.unit_streams.specs.Front.{begun}
-use Rattle.nbfx_records.specs.RecordAtFront.{node_at}
+use Rattle.std.proofs.Common.{◌≡◌, ◌-◌, ◌≤◌, ◌++◌, length, take}
+use Rattle.{unit_streams.specs.Front.begun, nbfx_records.specs.RecordAtFront.node_at}
 use Rattle.nbfx_records.proofs.reader.NodeReader.take_on.Given as goal
 
 abbrev pub invariant-loop-used : goal.invariant-loop-used

@@ -1,6 +1,5 @@
-use Rattle.std.proofs.Common.{ap, sym, Some, ◌≡◌, ◌∙◌}
-use Rattle.nbfx_values.specs.declared.position.Position.TheVariants.{After}
-use Rattle.nbfx_values.specs.Positions.{position_of}
+use Rattle.std.proofs.Common.{◌≡◌, Some, sym, ap, ◌∙◌}
+use Rattle.nbfx_values.specs.{declared.position.Position.TheVariants.After, Positions.position_of}
 use Rattle.nbfx_values.proofs.Walks.{document-position, position_of-document}
 use Rattle.nbfx_values.proofs.builder.DocBuilder.finish.Goals as goal
 

@@ -1,9 +1,7 @@
-use Rattle.std.proofs.Common.{◌<◌, ◌≤◌, ℕ, List, [], ◌∷◌, ◌++◌, sym, ap, refl, ◌∙◌, subst}
+use Rattle.std.proofs.Common.{ℕ, ◌<◌, ◌≤◌, List, [], ◌∷◌, ◌++◌, sym, refl, ap, ◌∙◌, subst}
 use Rattle.std.proofs.lemmas.Result.{err_from_is_err_and}
-use Rattle.nbfx_values.specs.declared.content.Item.{Item}
-use Rattle.nbfx_values.specs.declared.content.Item.TheVariants.{Text, Close}
-use Rattle.nbfx_values.specs.Measures.{capped, content_of}
-use Rattle.nbfx_values.specs.Positions.{position_of}
+use Rattle.nbfx_values.specs.declared.content.Item.{Item, TheVariants.Close, TheVariants.Text}
+use Rattle.nbfx_values.specs.{Measures.capped, Measures.content_of, Positions.position_of}
 use Rattle.nbfx_values.proofs.LastTexts.{last_text_leads, last_text_measured}
 use Rattle.nbfx_values.proofs.Positions.{open-position}
 use Rattle.nbfx_values.proofs.builder.DocBuilder.push_last_text.Goals as goal

@@ -1,8 +1,7 @@
-use Rattle.std.proofs.Common.{◌<◌, ◌≤◌, ℕ, List, [], ◌∷◌, ◌++◌, sym, ap, refl, ◌∙◌, subst}
+use Rattle.std.proofs.Common.{ℕ, ◌<◌, ◌≤◌, List, [], ◌∷◌, ◌++◌, sym, refl, ap, ◌∙◌, subst}
 use Rattle.std.proofs.lemmas.Result.{err_from_is_err_and}
-use Rattle.nbfx_values.specs.declared.content.Item.{Item}
+use Rattle.nbfx_values.specs.{declared.content.Item.Item, Positions.position_of}
 use Rattle.nbfx_values.specs.Measures.{capped, content_of}
-use Rattle.nbfx_values.specs.Positions.{position_of}
 use Rattle.nbfx_values.proofs.Positions.{open-position, position_of-valid_push}
 use Rattle.nbfx_values.proofs.builder.DocBuilder.push_within.Goals as goal
 

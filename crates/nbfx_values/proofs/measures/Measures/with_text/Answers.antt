@@ -1,8 +1,7 @@
 use Rattle.std.proofs.Common.{[], ◌∷◌, ap, arith}
-use Rattle.std.proofs.lemmas.List.Sums.{sum_by-append}
+use Rattle.{std.proofs.lemmas.List.Sums.sum_by-append, nbfx_values.proofs.Heights.most_open-append}
 use Rattle.nbfx_values.specs.declared.content.Item.TheVariants.{Text}
 use Rattle.nbfx_values.specs.Measures.{item_content, most_open}
-use Rattle.nbfx_values.proofs.Heights.{most_open-append}
 use Rattle.nbfx_values.proofs.measures.Measures.with_text.Goals as goal
 
 pub returns : goal.returns

@@ -1,9 +1,8 @@
 use Rattle.std.proofs.Common.{◌≡◌, ◌∙◌}
-use Rattle.nmf_records.specs.Reader.{StandsFor, limit_of}
-use Rattle.nmf_records.proofs.Settling.{IsSettled, settled_limit, settled_steps, settled_keeps}
-use Rattle.nmf_records.proofs.Showing.{shows_same}
+use Rattle.nmf_records.specs.Reader.{limit_of, StandsFor}
+use Rattle.nmf_records.proofs.Settling.{IsSettled, settled_keeps, settled_limit, settled_steps}
+use Rattle.nmf_records.proofs.{Showing.shows_same, reader.FrameReader.advance.Goals.After-settle}
 use Rattle.nmf_records.proofs.reader.FrameReader.advance.Goals as goal
-use Rattle.nmf_records.proofs.reader.FrameReader.advance.Goals.{After-settle}
 
 -- what the reader has settled at
 settled : (c : After-settle) → IsSettled c.read_some-n.new.self c.settle.new.self

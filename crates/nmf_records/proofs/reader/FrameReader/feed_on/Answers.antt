@@ -1,16 +1,14 @@
-use Rattle.std.proofs.Common.{◌≡◌, ℕ, ◌-◌, List, ◌++◌, length, take, drop, Some, refl, sym, ap, ◌∙◌}
-use Rattle.std.proofs.Common.{subst, arith, length-drop}
-use Rattle.std.proofs.lemmas.List.{append-nil, take_rest}
+use Rattle.std.proofs.Common.{◌≡◌, ℕ, ◌-◌, List, ◌++◌, length, take, drop, Some, sym, refl, ap, ◌∙◌}
+use Rattle.std.proofs.Common.{subst, append-nil, arith, length-drop}
+use Rattle.{std.proofs.lemmas.List.take_rest, unit_streams.proofs.Taken.all_taken}
 use Rattle.unit_streams.specs.Front.{begun, whole, wrong}
-use Rattle.unit_streams.proofs.Taken.{all_taken}
 use Rattle.nmf_records.specs.declared.frame.FrameRefusal.{FrameRefusal}
-use Rattle.nmf_records.specs.RecordFronts.{with_text, frame_at}
-use Rattle.nmf_records.specs.Reader.{StandsFor, ShowsText, text_after, limit_of}
-use Rattle.nmf_records.proofs.Feeding.{rest_of, along, len_along, after_after, begun_shows}
-use Rattle.nmf_records.proofs.Feeding.{begun_still, refusal_is, no_refusal, piece_decided}
-use Rattle.nmf_records.proofs.Feeding.{piece_shows}
-use Rattle.nmf_records.proofs.reader.FrameReader.feed_on.Goals as goal
+use Rattle.nmf_records.specs.Reader.{limit_of, ShowsText, StandsFor, text_after}
+use Rattle.nmf_records.specs.RecordFronts.{frame_at, with_text}
+use Rattle.nmf_records.proofs.Feeding.{after_after, along, begun_shows, begun_still, len_along}
+use Rattle.nmf_records.proofs.Feeding.{no_refusal, piece_decided, piece_shows, refusal_is, rest_of}
 use Rattle.nmf_records.proofs.reader.FrameReader.feed_on.Goals.{After-loop-used}
+use Rattle.nmf_records.proofs.reader.FrameReader.feed_on.Goals as goal
 
 pub returns-in-Failed-clause-answers : goal.returns-in-Failed-clause-answers
 unfolding StandsFor

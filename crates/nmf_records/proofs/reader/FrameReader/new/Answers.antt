@@ -1,7 +1,6 @@
-use Rattle.std.proofs.Common.{[], refl, sym, ap}
-use Rattle.multibyte_ints.specs.TextReader.{text_of}
-use Rattle.nmf_records.specs.Reader.{StandsFor, ShowsText, limit_of}
-use Rattle.multibyte_ints.proofs.TextBytes.{string_peels}
+use Rattle.std.proofs.Common.{[], sym, refl, ap}
+use Rattle.multibyte_ints.{proofs.TextBytes.string_peels, specs.TextReader.text_of}
+use Rattle.nmf_records.specs.Reader.{limit_of, ShowsText, StandsFor}
 use Rattle.nmf_records.proofs.Frames.{frame_peels}
 use Rattle.nmf_records.proofs.reader.FrameReader.new.Goals as goal
 

@@ -1,6 +1,5 @@
 use Rattle.std.proofs.Common.{refl, arith}
-use Rattle.nmf_records.specs.Reader.{StandsFor, pending_of}
-use Rattle.nmf_records.proofs.Short.{begun_short}
+use Rattle.nmf_records.{specs.Reader.pending_of, specs.Reader.StandsFor, proofs.Short.begun_short}
 use Rattle.nmf_records.proofs.reader.FrameReader.pending.Goals as goal
 
 pub returns-clause-counted : goal.returns-clause-counted

@@ -1,11 +1,10 @@
 use Rattle.std.proofs.Common.{◌≡◌, [], ◌∷◌, ◌++◌, ap}
 use Rattle.multibyte_ints.specs.Reader.{StandsFor as IntStandsFor}
+use Rattle.nmf_records.specs.{declared.reader.FrameReader.FrameReader, RecordFronts.frame_at}
+use Rattle.nmf_records.specs.Reader.{HasShape, limit_of, size_bytes, StandsFor}
+use Rattle.nmf_records.proofs.Leading.{field_leads, only_type, size_byte_leads}
+use Rattle.nmf_records.proofs.Showing.{field_head, plain_shows, shows_same, size_head}
 use Rattle.nmf_records.specs.declared.stage.Stage.TheVariants as stages
-use Rattle.nmf_records.specs.declared.reader.FrameReader.{FrameReader}
-use Rattle.nmf_records.specs.RecordFronts.{frame_at}
-use Rattle.nmf_records.specs.Reader.{StandsFor, limit_of, HasShape, size_bytes}
-use Rattle.nmf_records.proofs.Leading.{field_leads, size_byte_leads, only_type}
-use Rattle.nmf_records.proofs.Showing.{field_head, size_head, plain_shows, shows_same}
 use Rattle.nmf_records.proofs.reader.FrameReader.read_byte.Goals as goal
 
 pub returns-in-Field-clause-progresses : goal.returns-in-Field-clause-progresses

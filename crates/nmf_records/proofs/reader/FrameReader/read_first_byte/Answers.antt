@@ -1,14 +1,11 @@
 use Rattle.std.proofs.Common.{◌≡◌, [], ◌∷◌, refl, ap}
-use Rattle.multibyte_ints.specs.Reader.{StandsFor as IntStandsFor}
-use Rattle.nmf_records.specs.declared.frame.Expect.TheVariants as expects
-use Rattle.nmf_records.specs.declared.stage.SizeRecord.TheVariants as sizes
-use Rattle.nmf_records.specs.declared.reader.FrameReader.{FrameReader}
-use Rattle.nmf_records.specs.Steps.{is_text_start}
-use Rattle.nmf_records.specs.RecordFronts.{frame_at}
-use Rattle.nmf_records.specs.Reader.{StandsFor, limit_of}
-use Rattle.multibyte_ints.proofs.IntegerBytes.{int_peels}
+use Rattle.multibyte_ints.{proofs.IntegerBytes.int_peels, specs.Reader.StandsFor as IntStandsFor}
+use Rattle.nmf_records.specs.{declared.reader.FrameReader.FrameReader, Steps.is_text_start}
+use Rattle.nmf_records.specs.{Reader.limit_of, Reader.StandsFor, RecordFronts.frame_at}
 use Rattle.nmf_records.proofs.Leading.{fixed_leads, size_leads}
 use Rattle.nmf_records.proofs.Showing.{first_shows, shows_same}
+use Rattle.nmf_records.specs.declared.frame.Expect.TheVariants as expects
+use Rattle.nmf_records.specs.declared.stage.SizeRecord.TheVariants as sizes
 use Rattle.nmf_records.proofs.reader.FrameReader.read_first_byte.Goals as goal
 
 pub returns-in-Types-clause-progresses : goal.returns-in-Types-clause-progresses

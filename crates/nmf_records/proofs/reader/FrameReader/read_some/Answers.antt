@@ -1,12 +1,10 @@
 use Rattle.std.proofs.Common.{◌≡◌, ℕ, List, [], ◌∷◌, ◌++◌, take, drop, sym, ap, ◌∙◌}
 use Rattle.unit_streams.specs.Front.{begun}
-use Rattle.multibyte_ints.specs.Reader.{StandsFor as IntStandsFor}
-use Rattle.multibyte_ints.specs.TextReader.{StringStandsFor}
+use Rattle.multibyte_ints.specs.{Reader.StandsFor as IntStandsFor, TextReader.StringStandsFor}
+use Rattle.nmf_records.specs.{declared.reader.FrameReader.FrameReader, RecordFronts.frame_at}
+use Rattle.nmf_records.specs.Reader.{HasShape, kind_of_text, limit_of, StandsFor}
+use Rattle.nmf_records.proofs.Showing.{text_begun, text_leads, text_shows}
 use Rattle.nmf_records.specs.declared.stage.Stage.TheVariants as stages
-use Rattle.nmf_records.specs.declared.reader.FrameReader.{FrameReader}
-use Rattle.nmf_records.specs.RecordFronts.{frame_at}
-use Rattle.nmf_records.specs.Reader.{StandsFor, limit_of, HasShape, kind_of_text}
-use Rattle.nmf_records.proofs.Showing.{text_leads, text_shows, text_begun}
 use Rattle.nmf_records.proofs.reader.FrameReader.read_some.Goals as goal
 
 pub returns-in-Text-clause-progresses : goal.returns-in-Text-clause-progresses

@@ -1,5 +1,4 @@
-use Rattle.nmf_records.specs.Reader.{limit_of}
-use Rattle.nmf_records.proofs.TextBytes.{text_answers}
+use Rattle.nmf_records.{specs.Reader.limit_of, proofs.TextBytes.text_answers}
 use Rattle.nmf_records.proofs.reader.FrameReader.read_text.Goals as goal
 
 pub returns-clause-answers : goal.returns-clause-answers

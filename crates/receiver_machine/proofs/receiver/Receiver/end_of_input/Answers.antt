@@ -1,13 +1,12 @@
 use Rattle.std.proofs.Common.{◌≡◌, Err, ap}
+use Rattle.stream_reader.proofs.EndTold.{ends_refused, ends_well}
 use Rattle.stream_reader.specs.declared.reader.ReadRefusal.TheVariants.{Offence as Refused}
 use Rattle.stream_reader.specs.declared.reader.StreamReader.{StreamReader}
-use Rattle.receiver_machine.specs.declared.receiver.Receiver.{Receiver}
 use Rattle.stream_reader.specs.StreamReaderState.{failure_of as failure_at}
-use Rattle.stream_reader.proofs.EndTold.{ends_well, ends_refused}
-use Rattle.receiver_machine.proofs.Owing.{owed_failed}
-use Rattle.receiver_machine.specs.ReceiverState.{owed_unless, settings_of, taken_of, messages_of}
-use Rattle.receiver_machine.specs.ReceiverState.{failure_of, ShowsText, ShowsStrings, StandsFor}
-use Rattle.receiver_machine.specs.ReceiverState.{FailedBehind, owed_of}
+use Rattle.receiver_machine.{specs.declared.receiver.Receiver.Receiver, proofs.Owing.owed_failed}
+use Rattle.receiver_machine.specs.ReceiverState.{FailedBehind, failure_of, messages_of, owed_of}
+use Rattle.receiver_machine.specs.ReceiverState.{owed_unless, settings_of, ShowsStrings, ShowsText}
+use Rattle.receiver_machine.specs.ReceiverState.{StandsFor, taken_of}
 use Rattle.receiver_machine.proofs.receiver.Receiver.end_of_input.Goals as goal
 
 pub unreachable-requires : goal.unreachable-requires

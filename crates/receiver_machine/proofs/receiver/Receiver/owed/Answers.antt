@@ -1,7 +1,6 @@
 use Rattle.std.proofs.Common.{◌≡◌, Some}
 use Rattle.stream_reader.specs.StreamReaderState.{failure_of as failure_at}
-use Rattle.receiver_machine.specs.ReceiverState.{FailedBehind}
-use Rattle.receiver_machine.proofs.Owing.{failure_is}
+use Rattle.receiver_machine.{specs.ReceiverState.FailedBehind, proofs.Owing.failure_is}
 use Rattle.receiver_machine.proofs.receiver.Receiver.owed.Goals as goal
 
 pub returns-in-Some-clause-failed : goal.returns-in-Some-clause-failed

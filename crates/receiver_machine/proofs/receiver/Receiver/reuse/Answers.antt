@@ -1,7 +1,6 @@
-use Rattle.receiver_machine.specs.ReceiverState.{settings_of, taken_of, messages_of, failure_of}
-use Rattle.receiver_machine.specs.ReceiverState.{ShowsText, ShowsStrings, StandsFor, FailedBehind}
-use Rattle.receiver_machine.specs.ReceiverState.{owed_of}
-use Rattle.receiver_machine.proofs.Owing.{owed_kept}
+use Rattle.receiver_machine.specs.ReceiverState.{FailedBehind, failure_of, messages_of, owed_of}
+use Rattle.receiver_machine.specs.ReceiverState.{settings_of, ShowsStrings, ShowsText, StandsFor}
+use Rattle.receiver_machine.{specs.ReceiverState.taken_of, proofs.Owing.owed_kept}
 use Rattle.receiver_machine.proofs.receiver.Receiver.reuse.Goals as goal
 
 pub returns-clause-owed : goal.returns-clause-owed

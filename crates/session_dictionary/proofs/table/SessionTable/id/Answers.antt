@@ -1,6 +1,5 @@
-use Rattle.std.proofs.Common.{arith}
+use Rattle.{std.proofs.Common.arith, string_tables.proofs.SessionFacts.gives_least_session}
 use Rattle.string_tables.proofs.LeastFacts.{found_least, found_none}
-use Rattle.string_tables.proofs.SessionFacts.{gives_least_session}
 use Rattle.string_tables.specs.SessionStrings.{least_session_id, session_text}
 use Rattle.session_dictionary.proofs.TableFacts.{least_at, least_none, texts_few}
 use Rattle.session_dictionary.proofs.table.SessionTable.id.Goals as goal

@@ -1,5 +1,4 @@
-use Rattle.std.proofs.Common.{arith}
-use Rattle.string_tables.proofs.SessionFacts.{length-le-used_cost}
+use Rattle.{std.proofs.Common.arith, string_tables.proofs.SessionFacts.length-le-used_cost}
 use Rattle.session_dictionary.proofs.TableFacts.{texts_few}
 use Rattle.session_dictionary.proofs.table.SessionTable.len.Goals as goal
 

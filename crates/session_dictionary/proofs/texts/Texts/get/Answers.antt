@@ -1,7 +1,5 @@
-use Rattle.std.proofs.Common.{◌≡◌, ◌≤◌, ◌<◌, ℕ, List, ◌∷◌, length, get_or, Some, ◌∙◌, sym, ap}
-use Rattle.std.proofs.Common.{arith}
-use Rattle.std.specs.Prelude.{slice_get, slice_range}
-use Rattle.std.specs.Str.{IsUtf8}
+use Rattle.std.proofs.Common.{◌≡◌, ℕ, ◌<◌, ◌≤◌, List, ◌∷◌, length, get_or, slice_get, slice_range}
+use Rattle.std.proofs.Common.{Some, IsUtf8, sym, ap, ◌∙◌, arith}
 use Rattle.session_dictionary.specs.Pieces.{AreTexts, pieces}
 use Rattle.session_dictionary.proofs.PieceFacts.{piece_at, piece_known, piece_past}
 use Rattle.session_dictionary.proofs.texts.Texts.get.Goals as goal

@@ -1,5 +1,4 @@
-use Rattle.std.proofs.Common.{rules}
-use Rattle.session_dictionary.proofs.PieceFacts.{length-pieces}
+use Rattle.{std.proofs.Common.rules, session_dictionary.proofs.PieceFacts.length-pieces}
 use Rattle.session_dictionary.proofs.texts.Texts.len.Goals as goal
 
 pub returns : goal.returns

@@ -1,5 +1,4 @@
-use Rattle.std.proofs.Common.{refl}
-use Rattle.std.proofs.lemmas.Result.{err_from_is_err_and}
+use Rattle.std.proofs.{Common.refl, lemmas.Result.err_from_is_err_and}
 use Rattle.session_generator.proofs.Sending.{end_stopped_says, ended_says}
 use Rattle.session_generator.proofs.session.Session.close.Goals as goal
 

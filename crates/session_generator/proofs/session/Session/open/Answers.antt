@@ -1,6 +1,5 @@
-use Rattle.std.proofs.Common.{List, ℕ, ◌++◌, Ok, Err, refl, ap, ◌∙◌, arith}
-use Rattle.std.proofs.lemmas.Result.{err_from_is_err_and}
-use Rattle.nbfx_values.specs.QuotasOf.{limits_of}
+use Rattle.std.proofs.Common.{ℕ, List, ◌++◌, Ok, Err, refl, ap, ◌∙◌, arith}
+use Rattle.{std.proofs.lemmas.Result.err_from_is_err_and, nbfx_values.specs.QuotasOf.limits_of}
 use Rattle.session_generator.specs.Generated.{opening}
 use Rattle.session_generator.proofs.Sending.{opened_says, opening_stops}
 use Rattle.session_generator.proofs.session.Session.open.Goals as goal

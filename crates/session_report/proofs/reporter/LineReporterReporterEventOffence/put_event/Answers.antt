@@ -1,5 +1,4 @@
-use Rattle.std.proofs.lemmas.Result.{err_from_is_err_and}
-use Rattle.io_edges.proofs.Putting.{PutsAll-then}
+use Rattle.{std.proofs.lemmas.Result.err_from_is_err_and, io_edges.proofs.Putting.PutsAll-then}
 use Rattle.session_report.proofs.Saying.{said_cut}
 use Rattle.session_report.proofs.reporter.LineReporterReporterEventOffence.put_event.Goals as goal
 

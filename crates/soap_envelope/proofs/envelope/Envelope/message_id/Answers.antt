@@ -1,7 +1,5 @@
-use Rattle.std.proofs.Common.{◌≡◌, subst, sym}
-use Rattle.std.proofs.lemmas.Result.{IfOk-weaker}
-use Rattle.soap_envelope.specs.Making.{AreTexts}
-use Rattle.soap_envelope.specs.View.{texts_at}
+use Rattle.std.proofs.{Common.◌≡◌, Common.sym, Common.subst, lemmas.Result.IfOk-weaker}
+use Rattle.soap_envelope.specs.{Making.AreTexts, View.texts_at}
 use Rattle.soap_envelope.proofs.Contents.{texts_at-valid}
 use Rattle.soap_envelope.proofs.envelope.Envelope.message_id.Goals as goal
 

@@ -1,9 +1,6 @@
-use Rattle.std.proofs.Common.{◌≡◌, ◌∙◌, ap, subst, sym}
-use Rattle.std.specs.Prelude.{IfOk, Result}
-use Rattle.soap_envelope.specs.declared.refusals.SoapFault.{SoapFault}
-use Rattle.soap_envelope.specs.Seen.{BodyStands}
-use Rattle.soap_envelope.specs.View.{View, view}
-use Rattle.soap_envelope.proofs.Contents.{view-stands}
+use Rattle.std.proofs.Common.{◌≡◌, IfOk, Result, sym, ap, ◌∙◌, subst}
+use Rattle.soap_envelope.specs.{declared.refusals.SoapFault.SoapFault, Seen.BodyStands}
+use Rattle.soap_envelope.{specs.View.View, specs.View.view, proofs.Contents.view-stands}
 use Rattle.soap_envelope.proofs.envelope.Envelope.of.Goals as goal
 
 pub returns-in-Ok-clause-body : goal.returns-in-Ok-clause-body

@@ -1,7 +1,5 @@
-use Rattle.std.proofs.Common.{◌≡◌, ◌∙◌, ◌/◌, Some, ap, refl, sym}
-use Rattle.std.specs.List.{slice_get}
-use Rattle.std.proofs.lemmas.Option.{slice_get_read}
-use Rattle.static_dictionary.proofs.MapFacts.{placed-here}
+use Rattle.std.proofs.Common.{◌≡◌, ◌/◌, slice_get, Some, sym, refl, ap, ◌∙◌}
+use Rattle.{std.proofs.lemmas.Option.slice_get_read, static_dictionary.proofs.MapFacts.placed-here}
 use Rattle.static_dictionary.proofs.table.StaticTable.found.Goals as goal
 
 pub returns-in-Some-clause-text : goal.returns-in-Some-clause-text

@@ -1,34 +1,32 @@
-use Rattle.std.proofs.Common.{◌∙◌}
+use Rattle.{std.proofs.Common.◌∙◌, string_tables.proofs.StaticFacts.gives_least_static}
 use Rattle.string_tables.proofs.LeastFacts.{found_least, found_none}
-use Rattle.string_tables.proofs.StaticFacts.{gives_least_static}
 use Rattle.string_tables.specs.StaticStrings.{least_static_id, static_text}
-use Rattle.static_dictionary.specs.Inside.{entries_in}
-use Rattle.static_dictionary.proofs.MapFacts.{found-static}
+use Rattle.static_dictionary.{specs.Inside.entries_in, proofs.MapFacts.found-static}
 use Rattle.static_dictionary.proofs.table.StaticTable.id.Goals as goal
 
 pub returns-clause-found : goal.returns-clause-found
 returns-clause-found c =
     let entries = entries_in c.self.inside.by_id in
-    let found = c.copied.ensures ∙ c.get.ensures.value
+    let found = c.id.ensures
     ∙ c.self.invariant.maps.least c.args.text.now in
     rw (← c.self.view_is)
     (found_least (static_text entries) (least_static_id entries)
-    (gives_least_static entries c.self.invariant.maps.rises) c.args.text.now c.copied.result
+    (gives_least_static entries c.self.invariant.maps.rises) c.args.text.now c.id.result
     found)
 
 pub returns-clause-none : goal.returns-clause-none
 returns-clause-none c =
     let entries = entries_in c.self.inside.by_id in
-    let found = c.copied.ensures ∙ c.get.ensures.value
+    let found = c.id.ensures
     ∙ c.self.invariant.maps.least c.args.text.now in
     rw (← c.self.view_is)
     (found_none (static_text entries) (least_static_id entries)
-    (gives_least_static entries c.self.invariant.maps.rises) c.args.text.now c.copied.result
+    (gives_least_static entries c.self.invariant.maps.rises) c.args.text.now c.id.result
     found)
 
 pub returns-clause-static_id : goal.returns-clause-static_id
 returns-clause-static_id c =
-    let found = c.copied.ensures ∙ c.get.ensures.value
+    let found = c.id.ensures
     ∙ c.self.invariant.maps.least c.args.text.now in
-    found-static (entries_in c.self.inside.by_id) c.args.text.now c.copied.result found
+    found-static (entries_in c.self.inside.by_id) c.args.text.now c.id.result found
     c.self.invariant.maps.rises

@@ -1,5 +1,4 @@
-use Rattle.std.proofs.Common.{sym}
-use Rattle.string_tables.proofs.StaticFacts.{static_text-stands}
+use Rattle.{std.proofs.Common.sym, string_tables.proofs.StaticFacts.static_text-stands}
 use Rattle.static_dictionary.proofs.table.StaticTable.text.Goals as goal
 
 pub returns-clause-static_id : goal.returns-clause-static_id

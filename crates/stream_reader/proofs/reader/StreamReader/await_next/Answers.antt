@@ -1,6 +1,5 @@
 use Rattle.std.proofs.Math.Logic.{∥∥₁_map}
-use Rattle.stream_reader.specs.Bounds.{IsBounded}
-use Rattle.stream_reader.proofs.Bounded.{bounded_due}
+use Rattle.stream_reader.{specs.Bounds.IsBounded, proofs.Bounded.bounded_due}
 use Rattle.stream_reader.proofs.reader.StreamReader.await_next.Goals as goal
 
 pub invariant_of-self-clause-bounded : goal.invariant_of-self-clause-bounded

@@ -1,8 +1,7 @@
-use Rattle.std.proofs.Common.{◌∙◌, sym, ap, arith, refl}
-use Rattle.std.proofs.Math.Logic.{∥∥₁_map}
+use Rattle.std.proofs.Common.{sym, refl, ap, ◌∙◌, arith}
+use Rattle.{std.proofs.Math.Logic.∥∥₁_map, stream_reader.proofs.Bounded.bounded_at}
 use Rattle.stream_reader.specs.Bounds.{IsBounded, size_of, to_come}
-use Rattle.stream_reader.proofs.Bounded.{bounded_at}
-use Rattle.stream_reader.proofs.PayloadSteps.{behind_more, behind_chunk}
+use Rattle.stream_reader.proofs.PayloadSteps.{behind_chunk, behind_more}
 use Rattle.stream_reader.proofs.reader.StreamReader.awaits_more.Goals as goal
 
 pub returns-then-payload-gt0-clause-answers : goal.returns-then-payload-gt0-clause-answers

@@ -1,24 +1,17 @@
-use Rattle.std.proofs.Common.{◌≡◌, ℕ, ◌^◌, ◌<◌, List, Option, Some, None, Result, Ok, Err, arith}
-use Rattle.std.proofs.Common.{refl, sym, ◌∙◌, subst}
-use Rattle.std.proofs.Math.Logic.{∥∥₁_map}
-use Rattle.nbfx_values.specs.QuotasOf.{limits_of}
-use Rattle.nbfx_values.specs.declared.refusals.Reason.{Reason}
-use Rattle.nbfx_values.specs.declared.session.Kind.{Kind}
-use Rattle.nmf_records.specs.declared.frame.Frame.{Frame}
-use Rattle.nmf_records.specs.declared.frame.Frame.TheVariants as frames
-use Rattle.nmf_records.specs.Reader.{ShowsText as FramesShowText}
-use Rattle.stream_reader.specs.declared.awaited.PayloadLeft.{PayloadLeft}
-use Rattle.stream_reader.specs.declared.reader.StreamReader.{StreamReader}
-use Rattle.stream_reader.specs.Bounds.{IsBounded}
-use Rattle.stream_reader.specs.Sides.{side_of}
-use Rattle.stream_reader.specs.StreamReaderState.{Awaits, failure_of, settings_of}
+use Rattle.std.proofs.Common.{◌≡◌, ℕ, ◌^◌, ◌<◌, List, Some, None, Ok, Err, Option, Result, sym}
+use Rattle.std.proofs.{Common.refl, Common.◌∙◌, Common.subst, Common.arith, Math.Logic.∥∥₁_map}
+use Rattle.nbfx_values.specs.declared.{refusals.Reason.Reason, session.Kind.Kind}
+use Rattle.{nbfx_values.specs.QuotasOf.limits_of, stream_reader.proofs.MadePayloads.bounded_made}
+use Rattle.nmf_records.specs.{declared.frame.Frame.Frame, Reader.ShowsText as FramesShowText}
+use Rattle.stream_reader.specs.{declared.awaited.PayloadLeft.PayloadLeft, Sides.side_of}
+use Rattle.stream_reader.specs.declared.reader.{ReadRefusal.ReadRefusal, StreamStep.StreamStep}
+use Rattle.stream_reader.specs.{declared.reader.StreamReader.StreamReader, Bounds.IsBounded}
 use Rattle.stream_reader.specs.Stepping.{IsDue, MakesPayload, RecordAnswers}
-use Rattle.stream_reader.specs.declared.reader.ReadRefusal.{ReadRefusal}
-use Rattle.stream_reader.specs.declared.reader.StreamStep.{StreamStep}
-use Rattle.stream_reader.specs.Stream.{Settings, Situation, Stage, payloads, reason_in}
-use Rattle.stream_reader.proofs.MadePayloads.{bounded_made}
-use Rattle.stream_reader.proofs.Behind.{behind_refusal, bare_answers, made_answers, made_decoded}
-use Rattle.stream_reader.proofs.Behind.{made_some, no_payload, made_none}
+use Rattle.stream_reader.specs.Stream.{payloads, reason_in, Settings, Situation, Stage}
+use Rattle.stream_reader.specs.StreamReaderState.{Awaits, failure_of, settings_of}
+use Rattle.stream_reader.proofs.Behind.{bare_answers, behind_refusal, made_answers, made_decoded}
+use Rattle.stream_reader.proofs.Behind.{made_none, made_some, no_payload}
+use Rattle.nmf_records.specs.declared.frame.Frame.TheVariants as frames
 use Rattle.stream_reader.proofs.reader.StreamReader.behind.Goals as goal
 
 -- what it is set to

@@ -1,13 +1,11 @@
-use Rattle.std.proofs.Common.{◌≡◌, [], subst, ap, arith, sym, refl}
-use Rattle.std.proofs.Math.Logic.{∥∥₁_map}
-use Rattle.nbfx_decoder.specs.declared.decoder.Decoder.{Decoder}
-use Rattle.nbfx_decoder.specs.DecoderState.{settings_of as decoder_settings}
+use Rattle.std.proofs.Common.{◌≡◌, [], sym, refl, ap, subst, arith}
+use Rattle.{std.proofs.Math.Logic.∥∥₁_map, nbfx_decoder.specs.declared.decoder.Decoder.Decoder}
 use Rattle.nbfx_decoder.specs.DecoderState.{FailedBehind as DecoderFailedBehind}
-use Rattle.stream_reader.specs.declared.awaited.Awaited.TheVariants as awaits
-use Rattle.stream_reader.specs.Bounds.{IsBounded}
-use Rattle.stream_reader.specs.StreamReaderState.{failure_of}
+use Rattle.nbfx_decoder.specs.DecoderState.{settings_of as decoder_settings}
+use Rattle.stream_reader.specs.{Bounds.IsBounded, StreamReaderState.failure_of}
 use Rattle.stream_reader.proofs.Bounded.{bounded_finished, bounded_refused, failed_behind}
 use Rattle.stream_reader.proofs.PayloadSteps.{behind_document, behind_refused}
+use Rattle.stream_reader.specs.declared.awaited.Awaited.TheVariants as awaits
 use Rattle.stream_reader.proofs.reader.StreamReader.behind_last.Goals as goal
 
 pub invariant_of-self : goal.invariant_of-self

@@ -1,7 +1,5 @@
-use Rattle.std.proofs.Common.{subst}
-use Rattle.stream_reader.specs.declared.reader.StreamReader.{StreamReader}
-use Rattle.stream_reader.specs.Stepping.{KeepsFraming}
-use Rattle.stream_reader.proofs.PayloadSteps.{decoded_as}
+use Rattle.{std.proofs.Common.subst, stream_reader.proofs.PayloadSteps.decoded_as}
+use Rattle.stream_reader.specs.{declared.reader.StreamReader.StreamReader, Stepping.KeepsFraming}
 use Rattle.stream_reader.proofs.reader.StreamReader.behind_payload.Goals as goal
 
 pub returns-clause-answers : goal.returns-clause-answers

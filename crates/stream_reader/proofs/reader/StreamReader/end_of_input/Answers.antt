@@ -1,13 +1,11 @@
 use Rattle.std.proofs.Common.{◌≡◌, Bool, true, false, Err, sym, ap, ◌∙◌}
 use Rattle.nbfx_values.specs.declared.refusals.Reason.TheVariants.{Truncated}
 use Rattle.stream_reader.specs.declared.reader.ReadRefusal.TheVariants.{Offence as Refused}
-use Rattle.stream_reader.specs.Saying.{said_at_end}
-use Rattle.stream_reader.specs.Sides.{side_of}
-use Rattle.stream_reader.specs.declared.reader.StreamReader.{StreamReader}
-use Rattle.stream_reader.specs.StreamReaderState.{StandsFor, failure_of, settings_of}
-use Rattle.stream_reader.specs.Stepping.{may_end_at}
+use Rattle.stream_reader.specs.{declared.reader.StreamReader.StreamReader, Sides.side_of}
+use Rattle.stream_reader.specs.{Saying.said_at_end, Stepping.may_end_at}
 use Rattle.stream_reader.specs.Stream.{direction_of, offence_at}
-use Rattle.stream_reader.proofs.ReaderFacts.{not_failed, ending_is, failed_as_set, refused_shows}
+use Rattle.stream_reader.specs.StreamReaderState.{failure_of, settings_of, StandsFor}
+use Rattle.stream_reader.proofs.ReaderFacts.{ending_is, failed_as_set, not_failed, refused_shows}
 use Rattle.stream_reader.proofs.ReaderFacts.{same_settings}
 use Rattle.stream_reader.proofs.reader.StreamReader.end_of_input.Goals as goal
 

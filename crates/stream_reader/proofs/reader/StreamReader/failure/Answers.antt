@@ -1,5 +1,4 @@
-use Rattle.std.proofs.Common.{refl}
-use Rattle.stream_reader.specs.StreamReaderState.{failure_of}
+use Rattle.{std.proofs.Common.refl, stream_reader.specs.StreamReaderState.failure_of}
 use Rattle.stream_reader.proofs.reader.StreamReader.failure.Goals as goal
 
 pub returns : goal.returns

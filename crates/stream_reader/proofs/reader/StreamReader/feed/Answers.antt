@@ -1,28 +1,24 @@
-use Rattle.std.proofs.Common.{◌≡◌, ℕ, ◌+◌, ◌-◌, ◌<◌, ◌≤◌, inl, inr, List, ◌++◌, length, take, drop}
-use Rattle.std.proofs.Common.{true, false, Some, Result, Ok, Err, refl, sym, ap, ◌∙◌, subst, arith}
-use Rattle.std.proofs.Common.{length-append, length-drop}
+use Rattle.std.proofs.Common.{◌≡◌, ℕ, ◌+◌, ◌-◌, ◌<◌, ◌≤◌, true, false, List, ◌++◌, length, take}
+use Rattle.std.proofs.Common.{drop, Some, Ok, Err, Result, sym, refl, ap, ◌∙◌, subst, inl, inr}
+use Rattle.std.proofs.Common.{arith, length-append, length-drop, take-append-drop, length-take-le}
 use Rattle.std.proofs.lemmas.Bool.{cases_lt}
-use Rattle.std.proofs.lemmas.List.{take-append-drop, length-take-le}
 use Rattle.unit_streams.specs.Judging.{event_at, is_over_at}
-use Rattle.nbfx_values.specs.declared.refusals.Offence.{Offence}
-use Rattle.nbfx_values.specs.declared.refusals.Reason.TheVariants.{SessionTooLong}
-use Rattle.stream_reader.specs.declared.reader.ReadRefusal.{ReadRefusal}
+use Rattle.nbfx_values.specs.declared.refusals.{Offence.Offence, Reason.TheVariants.SessionTooLong}
+use Rattle.stream_reader.specs.declared.reader.{ReadRefusal.ReadRefusal, StreamStep.StreamStep}
 use Rattle.stream_reader.specs.declared.reader.ReadRefusal.TheVariants.{Offence as Refused}
-use Rattle.stream_reader.specs.declared.reader.StreamReader.{StreamReader}
-use Rattle.stream_reader.specs.declared.reader.StreamStep.{StreamStep}
-use Rattle.stream_reader.specs.declared.reader.StreamStep.TheVariants as steps
-use Rattle.stream_reader.specs.Saying.{Repeats}
-use Rattle.stream_reader.specs.Stream.{Settings, offence_at, stream}
-use Rattle.stream_reader.specs.StreamReaderState.{Reached, StandsFor, failure_of, settings_of}
+use Rattle.stream_reader.specs.{declared.reader.StreamReader.StreamReader, Saying.Repeats}
 use Rattle.stream_reader.specs.Stepping.{has_ended, taken_since, UnitAnswers}
+use Rattle.stream_reader.specs.Stream.{offence_at, Settings, stream}
+use Rattle.stream_reader.specs.StreamReaderState.{failure_of, Reached, settings_of, StandsFor}
+use Rattle.stream_reader.proofs.FeedSteps.{Along, along_end, along_event, along_more, along_none}
+use Rattle.stream_reader.proofs.FeedSteps.{along_refused, along_too_long, fails_at_once}
+use Rattle.stream_reader.proofs.FeedSteps.{fails_since, Fed, FedRefused, says_refused, some_taken}
+use Rattle.stream_reader.proofs.FeedSteps.{unit_by, wanted_payloads}
 use Rattle.stream_reader.proofs.ReaderFacts.{not_failed, open_as_opened, over_as_ended}
 use Rattle.stream_reader.proofs.ReaderFacts.{refused_shows, repeats_end, same_settings}
-use Rattle.stream_reader.proofs.FeedSteps.{Along, Fed, FedRefused, along_none, along_more}
-use Rattle.stream_reader.proofs.FeedSteps.{along_event, along_refused, along_too_long, along_end}
-use Rattle.stream_reader.proofs.FeedSteps.{fails_at_once, fails_since, says_refused, some_taken}
-use Rattle.stream_reader.proofs.FeedSteps.{unit_by, wanted_payloads}
-use Rattle.stream_reader.proofs.reader.StreamReader.feed.Goals as goal
 use Rattle.stream_reader.proofs.reader.StreamReader.feed.Goals.{At-loop-used}
+use Rattle.stream_reader.specs.declared.reader.StreamStep.TheVariants as steps
+use Rattle.stream_reader.proofs.reader.StreamReader.feed.Goals as goal
 
 session_is : (r other : StreamReader) → settings_of r ≡ settings_of other → r.quotas.session
     ≡ other.quotas.session

@@ -1,8 +1,7 @@
-use Rattle.std.proofs.Common.{◌≡◌, ℕ, ◌+◌, ◌-◌, ◌≤◌, List, false}
+use Rattle.std.proofs.Common.{◌≡◌, ℕ, ◌+◌, ◌-◌, ◌≤◌, false, List}
 use Rattle.unit_streams.specs.Judging.{is_over_at}
-use Rattle.stream_reader.specs.Stream.{stream}
+use Rattle.stream_reader.{specs.Stream.stream, proofs.FeedSteps.Along}
 use Rattle.stream_reader.specs.StreamReaderState.{settings_of, StandsFor}
-use Rattle.stream_reader.proofs.FeedSteps.{Along}
 use Rattle.stream_reader.proofs.reader.StreamReader.feed.Given as goal
 
 abbrev pub invariant-loop-used : goal.invariant-loop-used

@@ -1,23 +1,19 @@
-use Rattle.std.proofs.Common.{◌≡◌, ℕ, ◌+◌, ◌≤◌, List, ◌++◌, length, Ok, Err, refl, sym, ap, ◌∙◌}
-use Rattle.std.proofs.Common.{subst, arith}
-use Rattle.std.proofs.Math.Logic.{∥∥₁_map}
+use Rattle.std.proofs.Common.{◌≡◌, ℕ, ◌+◌, ◌≤◌, List, ◌++◌, length, Ok, Err, sym, refl, ap, ◌∙◌}
+use Rattle.std.proofs.{Common.subst, Common.arith, Math.Logic.∥∥₁_map}
 use Rattle.unit_streams.specs.Grammar.{standing}
 use Rattle.nbfx_decoder.specs.declared.decoder.Decoder.{Decoder}
-use Rattle.nbfx_decoder.specs.DecoderState.{settings_of as decoder_settings, FailedWithin}
-use Rattle.nbfx_decoder.specs.DecoderState.{FeedAnswers, StandsFor as DecoderStandsFor}
-use Rattle.stream_reader.specs.declared.awaited.Awaited.{Awaited}
-use Rattle.stream_reader.specs.declared.awaited.Awaited.TheVariants as awaits
-use Rattle.stream_reader.specs.declared.awaited.PayloadLeft.{PayloadLeft}
-use Rattle.stream_reader.specs.declared.reader.StreamReader.{StreamReader}
+use Rattle.nbfx_decoder.specs.DecoderState.{FailedWithin, FeedAnswers}
+use Rattle.nbfx_decoder.specs.DecoderState.{settings_of as decoder_settings}
+use Rattle.nbfx_decoder.specs.DecoderState.{StandsFor as DecoderStandsFor}
+use Rattle.stream_reader.specs.declared.awaited.{Awaited.Awaited, PayloadLeft.PayloadLeft}
+use Rattle.stream_reader.specs.{declared.reader.StreamReader.StreamReader, Stepping.UnitAnswers}
 use Rattle.stream_reader.specs.Bounds.{IsBounded, size_of, to_come}
-use Rattle.stream_reader.specs.Runs.{place_in as place_of}
-use Rattle.stream_reader.specs.StreamReaderState.{StandsFor, failure_of, settings_of}
-use Rattle.stream_reader.specs.Stepping.{UnitAnswers}
-use Rattle.stream_reader.specs.Stream.{Settings, stream}
+use Rattle.stream_reader.specs.{Runs.place_in as place_of, Stream.Settings, Stream.stream}
+use Rattle.stream_reader.specs.StreamReaderState.{failure_of, settings_of, StandsFor}
 use Rattle.stream_reader.proofs.Bounded.{bounded_at, bounded_fed, bounded_refused, failed_within}
-use Rattle.stream_reader.proofs.Bounded.{may_take}
-use Rattle.stream_reader.proofs.ReaderFacts.{same_settings}
+use Rattle.stream_reader.proofs.{Bounded.may_take, ReaderFacts.same_settings}
 use Rattle.stream_reader.proofs.RunFeeds.{chunk_part, run_fails, run_took}
+use Rattle.stream_reader.specs.declared.awaited.Awaited.TheVariants as awaits
 use Rattle.stream_reader.proofs.reader.StreamReader.joined_chunks.Goals as goal
 
 -- a payload of which so many bytes more are to come is within the quota too

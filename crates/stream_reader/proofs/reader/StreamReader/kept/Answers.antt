@@ -1,22 +1,18 @@
-use Rattle.std.proofs.Common.{◌≡◌, ℕ, ◌+◌, ◌≤◌, ◌⊎◌, inl, inr, List, length, ap, ◌∙◌, arith}
-use Rattle.std.proofs.Math.Bridge.{le_prop}
-use Rattle.std.proofs.Math.Logic.{∥∥₁_elim}
-use Rattle.nbfx_values.specs.Limits.{Limits}
-use Rattle.nbfx_values.specs.Measures.{content_of}
-use Rattle.nbfx_values.specs.declared.limits.Kept.{Kept}
-use Rattle.nbfx_decoder.specs.declared.decoder.Decoder.{Decoder}
-use Rattle.nbfx_decoder.specs.declared.faults.DecodeFault.{DecodeFault}
+use Rattle.std.proofs.Common.{◌≡◌, ℕ, ◌+◌, ◌≤◌, ◌⊎◌, List, length, ap, ◌∙◌, inl, inr, arith}
+use Rattle.std.proofs.Math.{Bridge.le_prop, Logic.∥∥₁_elim}
+use Rattle.nbfx_values.specs.{declared.limits.Kept.Kept, Limits.Limits, Measures.content_of}
+use Rattle.nbfx_decoder.specs.declared.{decoder.Decoder.Decoder, faults.DecodeFault.DecodeFault}
+use Rattle.nbfx_decoder.specs.DecoderState.{FailedBehind as DecoderFailedBehind}
 use Rattle.nbfx_decoder.specs.DecoderState.{settings_of as decoder_settings}
 use Rattle.nbfx_decoder.specs.DecoderState.{StandsFor as DecoderStandsFor}
-use Rattle.nbfx_decoder.specs.DecoderState.{FailedBehind as DecoderFailedBehind}
-use Rattle.nbfx_decoder.specs.DecoderState.{WhereItStands as WhereDecoderStands}
 use Rattle.nbfx_decoder.specs.DecoderState.{WhereItFailed as WhereDecoderFailed}
+use Rattle.nbfx_decoder.specs.DecoderState.{WhereItStands as WhereDecoderStands}
 use Rattle.stream_reader.specs.Bounds.{IsBounded}
-use Rattle.stream_reader.specs.StreamReaderState.{FailedBehind, ShowsTable, ShowsStrings, StandsFor}
-use Rattle.stream_reader.specs.StreamReaderState.{held_of, settings_of}
+use Rattle.stream_reader.specs.StreamReaderState.{FailedBehind, held_of, settings_of, ShowsStrings}
+use Rattle.stream_reader.specs.StreamReaderState.{ShowsTable, StandsFor}
 use Rattle.stream_reader.proofs.ReaderFacts.{comes_in, shows_in}
-use Rattle.stream_reader.proofs.reader.StreamReader.kept.Goals as goal
 use Rattle.stream_reader.proofs.reader.StreamReader.kept.Goals.{After-saturating_add}
+use Rattle.stream_reader.proofs.reader.StreamReader.kept.Goals as goal
 
 pub returns-clause-raw : goal.returns-clause-raw
 unfolding StandsFor settings_of

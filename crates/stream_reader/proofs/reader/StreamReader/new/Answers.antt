@@ -1,18 +1,13 @@
-use Rattle.std.proofs.Common.{◌≡◌, [], false, refl, sym, ap, ◌∙◌, arith}
-use Rattle.unit_streams.specs.Grammar.{Standing}
-use Rattle.nbfx_values.specs.QuotasOf.{limits_of}
-use Rattle.nbfx_values.specs.declared.refusals.Offence.{Offence}
+use Rattle.std.proofs.Common.{◌≡◌, false, [], sym, refl, ap, ◌∙◌, arith}
+use Rattle.unit_streams.specs.{Grammar.Standing, Judging.is_over_at}
+use Rattle.nbfx_values.specs.{declared.refusals.Offence.Offence, QuotasOf.limits_of}
 use Rattle.nmf_records.specs.Script.{first, may_come}
-use Rattle.unit_streams.specs.Judging.{is_over_at}
-use Rattle.stream_reader.specs.Sides.{side_of}
-use Rattle.stream_reader.specs.Stream.{Settings, Situation, StreamEvent, beginning, direction_of}
-use Rattle.stream_reader.specs.Stream.{payloads, stream}
-use Rattle.stream_reader.specs.StreamReaderState.{StandsFor, settings_of}
-use Rattle.stream_reader.proofs.Grammar.{readable}
 use Rattle.nbfx_decoder.specs.Payload.{Settings as PayloadSettings}
-use Rattle.stream_reader.proofs.Bounded.{bounded_new}
-use Rattle.stream_reader.proofs.Ending.{first_on}
-use Rattle.stream_reader.proofs.ReaderFacts.{stands_first}
+use Rattle.stream_reader.specs.{Sides.side_of, Stream.stream, Stream.StreamEvent}
+use Rattle.stream_reader.specs.Stream.{beginning, direction_of, payloads, Settings, Situation}
+use Rattle.stream_reader.specs.StreamReaderState.{settings_of, StandsFor}
+use Rattle.stream_reader.proofs.{Bounded.bounded_new, Ending.first_on}
+use Rattle.stream_reader.proofs.{Grammar.readable, ReaderFacts.stands_first}
 use Rattle.stream_reader.proofs.reader.StreamReader.new.Goals as goal
 
 -- no stream is over before its first byte

@@ -1,26 +1,23 @@
-use Rattle.std.proofs.Common.{◌≡◌, ℕ, ◌+◌, ◌≤◌, ◌<◌, ◌^◌, List, length, min, take, refl, sym, ap}
-use Rattle.std.proofs.Common.{◌∙◌, subst, arith}
-use Rattle.std.proofs.lemmas.List.{length-take-le}
-use Rattle.std.proofs.lemmas.Result.{err_from_is_err_and}
-use Rattle.std.proofs.Math.Logic.{∥∥₁_map}
+use Rattle.std.proofs.Common.{◌≡◌, ℕ, ◌+◌, ◌^◌, ◌<◌, ◌≤◌, min, List, length, take, sym, refl, ap}
+use Rattle.std.proofs.Common.{◌∙◌, subst, arith, length-take-le}
+use Rattle.std.proofs.{Math.Logic.∥∥₁_map, lemmas.Result.err_from_is_err_and}
 use Rattle.unit_streams.specs.Grammar.{standing}
 use Rattle.nbfx_decoder.specs.declared.decoder.Decoder.{Decoder}
-use Rattle.nbfx_decoder.specs.DecoderState.{settings_of as decoder_settings, FailedWithin}
-use Rattle.stream_reader.specs.declared.awaited.Awaited.TheVariants as awaits
+use Rattle.nbfx_decoder.specs.DecoderState.{FailedWithin, settings_of as decoder_settings}
 use Rattle.stream_reader.specs.declared.awaited.PayloadLeft.{PayloadLeft}
 use Rattle.stream_reader.specs.declared.reader.StreamReader.{StreamReader}
 use Rattle.stream_reader.specs.declared.reader.StreamStep.TheVariants.{More}
 use Rattle.stream_reader.specs.Bounds.{IsBounded, size_of, to_come}
-use Rattle.stream_reader.specs.StreamReaderState.{Reached, StandsFor, failure_of, settings_of}
 use Rattle.stream_reader.specs.Stream.{Settings, stream}
+use Rattle.stream_reader.specs.StreamReaderState.{failure_of, Reached, settings_of, StandsFor}
 use Rattle.stream_reader.proofs.Bounded.{bounded_fed, bounded_refused, failed_within, may_take}
-use Rattle.stream_reader.proofs.PayloadFeeds.{found, own, more_left, has_decoded, feed_took}
-use Rattle.stream_reader.proofs.PayloadFeeds.{feed_behind, feed_fails}
-use Rattle.stream_reader.proofs.PayloadSteps.{decoded_as}
+use Rattle.stream_reader.proofs.PayloadFeeds.{feed_behind, feed_fails, feed_took, found}
+use Rattle.stream_reader.proofs.PayloadFeeds.{has_decoded, more_left, own}
+use Rattle.stream_reader.proofs.{PayloadSteps.decoded_as, Situations.messages_within}
 use Rattle.stream_reader.proofs.ReaderFacts.{failure_as, same_settings}
-use Rattle.stream_reader.proofs.Situations.{messages_within}
-use Rattle.stream_reader.proofs.reader.StreamReader.payload.Goals as goal
 use Rattle.stream_reader.proofs.reader.StreamReader.payload.Goals.{After-feed}
+use Rattle.stream_reader.specs.declared.awaited.Awaited.TheVariants as awaits
+use Rattle.stream_reader.proofs.reader.StreamReader.payload.Goals as goal
 
 pub feed-requires : goal.feed-requires
 feed-requires c = λ none.

@@ -1,8 +1,6 @@
-use Rattle.std.proofs.Common.{ap}
-use Rattle.std.proofs.Math.Logic.{∥∥₁_map}
+use Rattle.std.proofs.{Common.ap, Math.Logic.∥∥₁_map}
 use Rattle.nbfx_decoder.specs.Payload.{Settings}
-use Rattle.stream_reader.specs.Bounds.{IsBounded}
-use Rattle.stream_reader.proofs.Bounded.{bounded_new}
+use Rattle.stream_reader.{specs.Bounds.IsBounded, proofs.Bounded.bounded_new}
 use Rattle.stream_reader.proofs.reader.StreamReader.read_as.Goals as goal
 
 pub invariant_of-self-2-clause-bounded : goal.invariant_of-self-2-clause-bounded

@@ -1,16 +1,14 @@
-use Rattle.std.proofs.Common.{◌≡◌, ℕ, ◌+◌, List, Bool, true, false, Some, None, refl, sym, ap, ◌∙◌}
-use Rattle.std.specs.Prelude.{if◌then◌else◌}
+use Rattle.std.proofs.Common.{◌≡◌, ℕ, ◌+◌, Bool, true, false, List, if◌then◌else◌, Some, None, sym}
+use Rattle.std.proofs.Common.{refl, ap, ◌∙◌}
 use Rattle.nbfx_values.specs.QuotasOf.{limits_of}
+use Rattle.stream_reader.specs.declared.{awaited.Awaited.Awaited, reader.StreamReader.StreamReader}
+use Rattle.stream_reader.specs.{Sides.side_of, Stepping.size_before_of}
+use Rattle.stream_reader.specs.Stream.{chunk_due, payload_open, reason_in, record_due, serves}
+use Rattle.stream_reader.specs.Stream.{size_before, Stage, too_large}
+use Rattle.stream_reader.specs.StreamReaderState.{Awaits, settings_of}
 use Rattle.nbfx_values.specs.declared.refusals.Reason.TheVariants as reasons
 use Rattle.nmf_records.specs.declared.frame.Frame.TheVariants as frames
-use Rattle.stream_reader.specs.declared.awaited.Awaited.{Awaited}
 use Rattle.stream_reader.specs.declared.awaited.Awaited.TheVariants as awaits
-use Rattle.stream_reader.specs.declared.reader.StreamReader.{StreamReader}
-use Rattle.stream_reader.specs.Sides.{side_of}
-use Rattle.stream_reader.specs.StreamReaderState.{Awaits, settings_of}
-use Rattle.stream_reader.specs.Stepping.{size_before_of}
-use Rattle.stream_reader.specs.Stream.{Stage, record_due, chunk_due, payload_open, reason_in}
-use Rattle.stream_reader.specs.Stream.{serves, size_before, too_large}
 use Rattle.stream_reader.proofs.reader.StreamReader.reason_in.Goals as goal
 
 -- what it is set to

@@ -1,33 +1,25 @@
-use Rattle.std.proofs.Common.{◌≡◌, ℕ, ◌+◌, ◌^◌, ◌<◌, ◌≤◌, false, List, ◌++◌, length, refl, sym, ap}
+use Rattle.std.proofs.Common.{◌≡◌, ℕ, ◌+◌, ◌^◌, ◌<◌, ◌≤◌, false, List, ◌++◌, length, sym, refl, ap}
 use Rattle.std.proofs.Common.{◌∙◌, subst, arith, length-append}
 use Rattle.std.proofs.lemmas.Result.{err_from_is_err_and}
-use Rattle.unit_streams.specs.Front.{whole}
-use Rattle.unit_streams.specs.Grammar.{standing}
-use Rattle.unit_streams.specs.Judging.{is_over_at}
 use Rattle.unit_streams.proofs.Standing.{standing_length}
-use Rattle.nmf_records.specs.declared.frame.Expect.{Expect}
-use Rattle.nmf_records.specs.declared.frame.Frame.{Frame}
-use Rattle.nmf_records.specs.declared.reader.FrameReader.{FrameReader}
-use Rattle.nmf_records.specs.RecordFronts.{frame_at, with_text}
+use Rattle.unit_streams.specs.{Front.whole, Grammar.standing, Judging.is_over_at}
+use Rattle.nmf_records.{proofs.Frames.frames_front, specs.Reader.StandsFor as FrameStandsFor}
+use Rattle.nmf_records.specs.declared.frame.{Expect.Expect, Frame.Frame}
+use Rattle.nmf_records.specs.{declared.reader.FrameReader.FrameReader, Script.may_come}
 use Rattle.nmf_records.specs.Reader.{limit_of, shown_behind, ShowsText as FramesShowText}
-use Rattle.nmf_records.specs.Reader.{StandsFor as FrameStandsFor}
-use Rattle.nmf_records.specs.Script.{may_come}
-use Rattle.nmf_records.proofs.Frames.{frames_front}
+use Rattle.nmf_records.specs.RecordFronts.{frame_at, with_text}
 use Rattle.stream_reader.specs.declared.reader.ReadRefusal.TheVariants.{Offence as Refused}
-use Rattle.stream_reader.specs.declared.reader.StreamReader.{StreamReader}
-use Rattle.stream_reader.specs.Sides.{side_of}
-use Rattle.stream_reader.specs.Stream.{Settings, Situation, direction_of, offence_at, reason_of}
-use Rattle.stream_reader.specs.Stream.{stream}
-use Rattle.stream_reader.specs.StreamReaderState.{Reached, StandsFor, failure_of, settings_of}
-use Rattle.stream_reader.specs.Stepping.{IsDue, due_of}
-use Rattle.stream_reader.proofs.Grammar.{readable}
+use Rattle.stream_reader.specs.{declared.reader.StreamReader.StreamReader, Sides.side_of}
+use Rattle.stream_reader.specs.{Stepping.due_of, Stepping.IsDue, Stream.stream}
+use Rattle.stream_reader.specs.Stream.{direction_of, offence_at, reason_of, Settings, Situation}
+use Rattle.stream_reader.specs.StreamReaderState.{failure_of, Reached, settings_of, StandsFor}
+use Rattle.stream_reader.proofs.{Grammar.readable, Situations.messages_within}
 use Rattle.stream_reader.proofs.ReaderFacts.{failure_as, same_settings}
 use Rattle.stream_reader.proofs.RecordFacts.{done_so, more_so, shown_so, wrong_so}
-use Rattle.stream_reader.proofs.RecordSteps.{frames_here, may_come_so, none_before, shown_via}
-use Rattle.stream_reader.proofs.RecordSteps.{record_more, record_done, record_refused, record_wrong}
-use Rattle.stream_reader.proofs.Situations.{messages_within}
-use Rattle.stream_reader.proofs.reader.StreamReader.record.Goals as goal
+use Rattle.stream_reader.proofs.RecordSteps.{frames_here, may_come_so, none_before, record_done}
+use Rattle.stream_reader.proofs.RecordSteps.{record_more, record_refused, record_wrong, shown_via}
 use Rattle.stream_reader.proofs.reader.StreamReader.record.Goals.{After-feed}
+use Rattle.stream_reader.proofs.reader.StreamReader.record.Goals as goal
 
 -- what it is set to
 limit_is : (r : StreamReader) → limit_of r.frames ≡ (settings_of r).limits.via

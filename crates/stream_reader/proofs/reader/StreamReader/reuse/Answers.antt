@@ -1,9 +1,7 @@
-use Rattle.std.proofs.Common.{refl, ◌∙◌}
-use Rattle.std.proofs.Math.Logic.{∥∥₁_map}
-use Rattle.stream_reader.specs.Bounds.{IsBounded}
-use Rattle.stream_reader.specs.StreamReaderState.{StandsFor, FailedBehind, ShowsText, ShowsStrings}
-use Rattle.stream_reader.specs.StreamReaderState.{settings_of, taken_of, messages_of, failure_of}
-use Rattle.stream_reader.proofs.Bounded.{bounded_reused}
+use Rattle.std.proofs.{Common.refl, Common.◌∙◌, Math.Logic.∥∥₁_map}
+use Rattle.stream_reader.{specs.Bounds.IsBounded, proofs.Bounded.bounded_reused}
+use Rattle.stream_reader.specs.StreamReaderState.{FailedBehind, failure_of, messages_of, taken_of}
+use Rattle.stream_reader.specs.StreamReaderState.{settings_of, ShowsStrings, ShowsText, StandsFor}
 use Rattle.stream_reader.proofs.ReaderFacts.{reads_too, shows_too}
 use Rattle.stream_reader.proofs.reader.StreamReader.reuse.Goals as goal
 

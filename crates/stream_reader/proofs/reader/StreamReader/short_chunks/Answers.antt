@@ -1,7 +1,5 @@
-use Rattle.std.proofs.Common.{take, drop, subst}
-use Rattle.std.proofs.lemmas.List.{take-append-drop}
-use Rattle.stream_reader.specs.StreamReaderState.{settings_of}
-use Rattle.stream_reader.specs.Stepping.{UnitAnswers}
+use Rattle.std.proofs.Common.{take, drop, subst, take-append-drop}
+use Rattle.stream_reader.specs.{Stepping.UnitAnswers, StreamReaderState.settings_of}
 use Rattle.stream_reader.proofs.RunFeeds.{answers_further}
 use Rattle.stream_reader.proofs.reader.StreamReader.short_chunks.Goals as goal
 

@@ -1,21 +1,16 @@
-use Rattle.std.proofs.Common.{◌≡◌, ℕ, ◌≤◌, ◌⊎◌, inl, inr, List, sym, ap, ◌∙◌, subst}
-use Rattle.std.proofs.Math.Bridge.{le_prop}
-use Rattle.std.proofs.Math.Logic.{∥∥₁_elim}
-use Rattle.nbfx_values.specs.Limits.{Limits}
-use Rattle.session_dictionary.specs.Strings.{LimitedStrings}
-use Rattle.string_tables.specs.SessionStrings.{used_cost}
-use Rattle.nbfx_decoder.specs.declared.decoder.Decoder.{Decoder}
-use Rattle.nbfx_decoder.specs.declared.faults.DecodeFault.{DecodeFault}
-use Rattle.nbfx_decoder.specs.DecoderState.{StandsFor as DecoderStandsFor}
+use Rattle.std.proofs.Common.{◌≡◌, ℕ, ◌≤◌, ◌⊎◌, List, sym, ap, ◌∙◌, subst, inl, inr}
+use Rattle.std.proofs.Math.{Bridge.le_prop, Logic.∥∥₁_elim}
+use Rattle.{string_tables.specs.SessionStrings.used_cost, nbfx_values.specs.Limits.Limits}
+use Rattle.{session_dictionary.specs.Strings.LimitedStrings, stream_reader.specs.Bounds.IsBounded}
+use Rattle.nbfx_decoder.specs.declared.{decoder.Decoder.Decoder, faults.DecodeFault.DecodeFault}
 use Rattle.nbfx_decoder.specs.DecoderState.{FailedBehind as DecoderFailedBehind}
+use Rattle.nbfx_decoder.specs.DecoderState.{StandsFor as DecoderStandsFor, table_at}
+use Rattle.nbfx_decoder.specs.DecoderState.{WhereItFailed as WhereDecoderFailed}
 use Rattle.nbfx_decoder.specs.DecoderState.{WhereItStands as WhereDecoderStands}
-use Rattle.nbfx_decoder.specs.DecoderState.{WhereItFailed as WhereDecoderFailed, table_at}
-use Rattle.stream_reader.specs.Bounds.{IsBounded}
-use Rattle.stream_reader.specs.StreamReaderState.{ShowsTable, ShowsStrings, StandsFor, FailedBehind}
-use Rattle.stream_reader.specs.StreamReaderState.{settings_of}
-use Rattle.stream_reader.proofs.ReaderFacts.{shows_in}
+use Rattle.stream_reader.specs.StreamReaderState.{FailedBehind, settings_of, ShowsStrings}
+use Rattle.stream_reader.specs.StreamReaderState.{ShowsTable, StandsFor}
+use Rattle.stream_reader.proofs.{ReaderFacts.shows_in, reader.StreamReader.table.Goals.After-table}
 use Rattle.stream_reader.proofs.reader.StreamReader.table.Goals as goal
-use Rattle.stream_reader.proofs.reader.StreamReader.table.Goals.{After-table}
 
 -- the table that a decoder has
 has_strings : (d : Decoder) (table : LimitedStrings) → WhereDecoderStands d

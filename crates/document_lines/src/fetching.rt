@@ -1,0 +1,50 @@
+//! Documents out of the lines of a shelf's file.
+
+ghost use Rattle.std.specs.Prelude.{◌≡◌, IsErrOf};
+ghost use Rattle.io_edges.specs.Faults.{CountsFaults, one_more};
+ghost use Rattle.document_lines.specs.Files.{Answers};
+
+use crate::InputFault;
+use crate::reading::{ListFault, read_documents};
+use io_edges::{Shelf, ShelfFault};
+use nbfx_values::Docs;
+use std::alloc::Global;
+
+/// Why a file gives no documents.
+#[derive(Clone, Copy, Debug, PartialEq, Eq)]
+pub enum FileFault {
+    /// The shelf has no file of that name.
+    Missing,
+    /// Its lines are refused so.
+    Refused(InputFault),
+    /// The shelf failed.
+    Failed,
+    /// Out of memory.
+    Memory,
+}
+
+/// Reads the documents of the shelf's file of that name.
+pub fn fetch_documents<F: Shelf>(
+    alloc: Global,
+    shelf: &mut F,
+    name: &str,
+) -> Result<Docs, FileFault>
+    ensures answers { Answers (F.files shelf.old) name.now result }
+    ensures kept { F.files shelf.new ≡ F.files shelf.old }
+    ensures fetched { F.fetches shelf.new ≡ one_more (F.fetches shelf.old) }
+    ensures counted { CountsFaults (F.faults shelf.old) (F.faults shelf.new)
+        (IsErrOf result FileFault.Failed) }
+{
+    let bytes = match shelf.fetch(name) {
+        Ok(Some(bytes)) => bytes,
+        Ok(None) => return Err(FileFault::Missing),
+        Err(ShelfFault::Failed) => return Err(FileFault::Failed),
+        Err(ShelfFault::Memory) => return Err(FileFault::Memory),
+    };
+    match read_documents(alloc, &bytes) {
+        Ok(docs) => Ok(docs),
+        Err(ListFault::Refused(fault)) => Err(FileFault::Refused(fault)),
+        Err(ListFault::Memory) => Err(FileFault::Memory),
+        Err(ListFault::ReadFault) => unreachable!(),
+    }
+}

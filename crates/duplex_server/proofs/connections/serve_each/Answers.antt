@@ -1,0 +1,59 @@
+use Rattle.std.proofs.Common.{Ok, Err, sym, subst}
+use Rattle.{std.proofs.lemmas.Result.err_from_is_err_and, stream_loop.specs.Writing.PutsTo}
+use Rattle.io_edges.specs.Wires.{Network, network_at}
+use Rattle.{nbfx_values.specs.QuotasOf.limits_of, stream_reader.specs.Sides.endpoint_of}
+use Rattle.duplex_server.specs.{declared.outcome.Outcome.Outcome, Owed.answering}
+use Rattle.duplex_server.specs.{Lines.connection_line, Served.Ends, Served.ends_at}
+use Rattle.duplex_server.proofs.Stops.{along_more, along_none, output_failed}
+use Rattle.duplex_server.proofs.connections.serve_each.Given.{Over}
+use Rattle.duplex_server.proofs.connections.serve_each.Goals as goal
+
+module _ (g : Over) where
+  abbrev seen : g.row.W.Denot → Network g.row.W-Reader.Denot g.row.W-Writer.Denot
+  seen wire = network_at g.W.Wire.waiting g.W.Wire.closed g.W.Wire.out g.W.Wire.faults
+      g.W.Wire.end_faults wire
+
+  abbrev ends : g.row.W-Reader.Denot × g.row.W-Writer.Denot → Ends
+  ends both = ends_at g.W.Reader.Source.left g.W.Reader.Source.taken g.W.Reader.Source.faults
+      g.W.Reader.Source.empty_takes g.W.Writer.Sink.written g.W.Writer.Sink.held
+      g.W.Writer.Sink.faults both
+
+pub loop-number-init : goal.loop-number-init
+loop-number-init g c =
+    let s = c.args.server.now in
+    along_none (answering (g.V.Service.served s.service.now) s.statics.now
+    (limits_of s.quotas.now)) (endpoint_of s.endpoint.now) (ends g) g.O.Sink.written
+    g.O.Sink.held g.O.Sink.faults g.O.Sink.may_want (seen g c.args.wire.now) c.args.output.now
+
+pub returns-in_err-put_line : goal.returns-in_err-put_line
+returns-in_err-put_line g c =
+    let s = c.args.server.now in
+    let l = c.loop-number in
+    let next = rw c.in-Some.is at c.in_ok-outcome.ensures in
+    let p = c.in_err-put_line in
+    let f = c.from_residual-in_err-put_line in
+    let r = err_from_is_err_and f.result f.ensures.1 in
+    rw (r.1, r.2) (output_failed (answering (g.V.Service.served s.service.now) s.statics.now
+    (limits_of s.quotas.now)) (endpoint_of s.endpoint.now) (ends g) g.O.Sink.written
+    g.O.Sink.held g.O.Sink.faults g.O.Sink.may_want c.args.connections (seen g c.args.wire.now)
+    (seen g l.wire) c.args.output.now l.output l.number l.invariant
+    (seen g c.serve_next.new.wire) next.0 next.2 c.put_line.new.output p.ensures.emptied
+    c.loop-number-test.true p.field-0.0
+    (subst (λ (o : Outcome). PutsTo g.O.Sink.written g.O.Sink.held g.O.Sink.faults
+    g.O.Sink.may_want l.output c.put_line.new.output (connection_line l.number o) (Err p.field-0.0))
+    (sym next.1) p.ensures.puts))
+
+pub loop-number-preserved : goal.loop-number-preserved
+loop-number-preserved g c =
+    let s = c.args.server.now in
+    let l = c.loop-number in
+    let next = rw c.in-Some.is at c.in_ok-outcome.ensures in
+    let p = c.in_ok-put_line in
+    along_more (answering (g.V.Service.served s.service.now) s.statics.now
+    (limits_of s.quotas.now)) (endpoint_of s.endpoint.now) (ends g) g.O.Sink.written
+    g.O.Sink.held g.O.Sink.faults g.O.Sink.may_want c.args.connections (seen g c.args.wire.now)
+    (seen g l.wire) c.args.output.now l.output l.number l.invariant
+    (seen g c.serve_next.new.wire) next.0 next.2 c.put_line.new.output p.ensures.emptied
+    (subst (λ (o : Outcome). PutsTo g.O.Sink.written g.O.Sink.held g.O.Sink.faults
+    g.O.Sink.may_want l.output c.put_line.new.output (connection_line l.number o) (Ok tt))
+    (sym next.1) p.ensures.puts)

@@ -1,0 +1,17 @@
+use Rattle.{io_edges.specs.Wires.network_at, nbfx_values.specs.QuotasOf.limits_of}
+use Rattle.stream_reader.specs.Sides.{endpoint_of}
+use Rattle.duplex_server.specs.{Along.IsAlong, Owed.answering, Served.ends_at}
+use Rattle.duplex_server.proofs.connections.serve_each.Given as goal
+
+abbrev pub invariant-loop-number : goal.invariant-loop-number
+invariant-loop-number g l =
+    let r = g.W.Reader.Source in
+    let w = g.W.Writer.Sink in
+    IsAlong (answering (g.V.Service.served l.fn.server.service.now) l.fn.server.statics.now
+    (limits_of l.fn.server.quotas.now)) (endpoint_of l.fn.server.endpoint.now)
+    (ends_at r.left r.taken r.faults r.empty_takes w.written w.held w.faults)
+    g.O.Sink.written g.O.Sink.held g.O.Sink.faults
+    (network_at g.W.Wire.waiting g.W.Wire.closed g.W.Wire.out g.W.Wire.faults
+    g.W.Wire.end_faults l.fn.wire)
+    (network_at g.W.Wire.waiting g.W.Wire.closed g.W.Wire.out g.W.Wire.faults
+    g.W.Wire.end_faults l.wire) l.fn.output l.output l.number

@@ -1,0 +1,61 @@
+//! A connection that is served and closed.
+
+ghost use Rattle.std.specs.Prelude.{◌<◌, ◌^◌};
+ghost use Rattle.nbfx_values.specs.QuotasOf.{limits_of};
+ghost use Rattle.stream_reader.specs.Sides.{endpoint_of};
+ghost use Rattle.duplex_server.specs.Owed.{answering};
+ghost use Rattle.duplex_server.specs.Along.{ServesNext};
+ghost use Rattle.io_edges.specs.Wires.{network_at};
+ghost use Rattle.duplex_server.specs.Served.{ends_at};
+
+use crate::outcome::Outcome;
+use crate::serving::serve_one;
+use action_dispatch::Service;
+use io_edges::{Failed, Wire};
+use nbfx_values::Quotas;
+use receiver_machine::Endpoint;
+use static_dictionary::StaticTable;
+use std::alloc::Global;
+
+/// How connections are answered: with which static strings, within which quotas, to which endpoint,
+/// and by which service.
+#[derive(Drop)]
+pub struct Server<'a, V> {
+    pub statics: &'a StaticTable,
+    pub quotas: &'a Quotas,
+    pub endpoint: &'a Endpoint,
+    pub service: &'a V,
+}
+
+/// Takes the next connection, serves it and closes it. Answers what became of the connection, or
+/// `None` where no other is to come.
+pub fn serve_next<W: Wire, V: Service>(
+    alloc: Global,
+    server: &Server<'_, V>,
+    wire: &mut W,
+    place: &str,
+) -> Result<Option<Outcome>, Failed>
+    requires { W.out wire.old < 2 ^ 63 }
+    ensures { ServesNext (answering (V.served server.now.service.now) server.now.statics.now
+        (limits_of server.now.quotas.now)) (endpoint_of server.now.endpoint.now)
+        (ends_at W.Reader.left W.Reader.taken W.Reader.faults W.Reader.empty_takes
+        W.Writer.written W.Writer.held W.Writer.faults)
+        (network_at W.waiting W.closed W.out W.faults W.end_faults wire.old)
+        (network_at W.waiting W.closed W.out W.faults W.end_faults wire.new) result }
+{
+    let Some(ends) = wire.accept(place)? else {
+        return Ok(None);
+    };
+    let (mut reader, mut writer) = ends;
+    let outcome = serve_one(
+        alloc,
+        &mut reader,
+        &mut writer,
+        server.statics,
+        server.quotas,
+        server.endpoint,
+        server.service,
+    );
+    wire.close(reader, writer);
+    Ok(Some(outcome))
+}

@@ -1,0 +1,87 @@
+//! Connections that are served one after the other.
+
+ghost use Rattle.std.specs.Prelude.{◌≡◌, ◌<◌, ◌^◌};
+ghost use Rattle.io_edges.specs.Faults.{CountsFaults};
+ghost use Rattle.nbfx_values.specs.QuotasOf.{limits_of};
+ghost use Rattle.stream_loop.specs.Edges.{output_at};
+ghost use Rattle.stream_reader.specs.Sides.{endpoint_of};
+ghost use Rattle.duplex_server.specs.Owed.{answering};
+ghost use Rattle.io_edges.specs.Wires.{network_at};
+ghost use Rattle.duplex_server.specs.Served.{ServesAll, ends_at};
+
+use crate::connection::{Server, serve_next};
+use crate::lines::put_line;
+use crate::stopping::ServeFault;
+use action_dispatch::Service;
+use io_edges::{GatheringSink, Sink, Wire, gathering_room};
+use std::alloc::Global;
+
+// Serves connections, and puts the line of each.
+fn serve_each<W: Wire, O: Sink, V: Service>(
+    alloc: Global,
+    server: &Server<'_, V>,
+    wire: &mut W,
+    place: &str,
+    connections: u32,
+    output: &mut O,
+) -> Result<(), ServeFault>
+    requires { W.out wire.old < 2 ^ 63 }
+    ensures { ServesAll (answering (V.served server.now.service.now) server.now.statics.now
+        (limits_of server.now.quotas.now)) (endpoint_of server.now.endpoint.now)
+        (ends_at W.Reader.left W.Reader.taken W.Reader.faults W.Reader.empty_takes
+        W.Writer.written W.Writer.held W.Writer.faults) connections
+        (network_at W.waiting W.closed W.out W.faults W.end_faults wire.old)
+        (network_at W.waiting W.closed W.out W.faults W.end_faults wire.new)
+        (output_at O.written O.held O.faults output.old)
+        (output_at O.written O.held O.faults output.new) (output.new ≡ output.old) result }
+{
+    for number in 0..connections {
+        let Some(outcome) = serve_next(alloc, server, wire, place)? else {
+            return Ok(());
+        };
+        put_line(number, outcome, output)?;
+    }
+    Ok(())
+}
+
+/// Serves at most so many connections that peers make to that place, one after the other, and
+/// writes the line of each to the output when it is over. It ends where no other connection is to
+/// come, which a wire over sockets never says. Answers with the output whether it stopped early,
+/// and why.
+///
+/// Each connection that was accepted is closed, whatever became of it. Neither a peer nor running
+/// out of memory to answer it stops the server: the wire does where an accept fails, the output
+/// where a line can't be written, and running out of memory for the lines. That the peer learns of
+/// the end, and for how long what it still sends is read then, is the wire's affair.
+pub fn serve_connections<W: Wire, O: Sink, V: Service>(
+    alloc: Global,
+    server: &Server<'_, V>,
+    wire: &mut W,
+    place: &str,
+    connections: u32,
+    output: O,
+) -> (Result<(), ServeFault>, O)
+    requires { W.out wire.old < 2 ^ 63 }
+    ensures out { W.out wire.new ≡ W.out wire.old }
+    ensures wire_fault { CountsFaults (W.faults wire.old) (W.faults wire.new)
+        (result.0 ≡ Err ServeFault.Wire) }
+    ensures output_fault { CountsFaults (O.faults output) (O.faults result.1)
+        (result.0 ≡ Err ServeFault.Output) }
+
+    // What was read and written on each connection, and what its line says.
+    ensures served { ServesAll (answering (V.served server.now.service.now) server.now.statics.now
+        (limits_of server.now.quotas.now)) (endpoint_of server.now.endpoint.now)
+        (ends_at W.Reader.left W.Reader.taken W.Reader.faults W.Reader.empty_takes
+        W.Writer.written W.Writer.held W.Writer.faults) connections
+        (network_at W.waiting W.closed W.out W.faults W.end_faults wire.old)
+        (network_at W.waiting W.closed W.out W.faults W.end_faults wire.new)
+        (output_at O.written O.held O.faults output)
+        (output_at O.written O.held O.faults result.1) (result.1 ≡ output) result.0 }
+{
+    let Ok(room) = gathering_room(alloc) else {
+        return (Err(ServeFault::Memory), output);
+    };
+    let mut lines = GatheringSink::new(room, output);
+    let served = serve_each(alloc, server, wire, place, connections, &mut lines);
+    (served, lines.into_sink())
+}

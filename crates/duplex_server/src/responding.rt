@@ -1,0 +1,70 @@
+//! What answers requests, by a file of actions or without one.
+
+ghost use Rattle.std.specs.Prelude.{◌≡◌, ℕ, ◌≤◌, IfOk, IfErr, IsErrOf};
+ghost use Rattle.io_edges.specs.Faults.{CountsFaults, one_more};
+ghost use Rattle.io_edges.specs.Files.{Tells};
+ghost use Rattle.duplex_server.specs.Responding.{GivesTexts, file_fault, reading_actions};
+
+use action_dispatch::{ActionFault, ActionKind, EchoService, Served, Service, TableService};
+use io_edges::{FileFault, Shelf, fetch_file};
+use nbfx_values::Items;
+use std::alloc::Global;
+use unit_streams::Memory;
+
+/// What answers the requests of a session.
+#[derive(Drop)]
+pub enum Responder {
+    /// The service that gives the content of a request's Body back.
+    Echo,
+    /// The service that has a text for each action of a file.
+    Texts(TableService),
+}
+
+impl Service for Responder {
+    ghost use Rattle.duplex_server.specs.Responding.{served_by};
+
+    ghost served = { served_by };
+
+    fn serve(&self, alloc: Global, action: &str, body: &Items) -> Result<Served, Memory> {
+        match self {
+            Responder::Echo => EchoService.serve(alloc, action, body),
+            Responder::Texts(table) => table.serve(alloc, action, body),
+        }
+    }
+
+    fn serve_owned(&self, alloc: Global, action: &str, body: Items) -> Result<Served, Memory> {
+        match self {
+            Responder::Echo => EchoService.serve_owned(alloc, action, body),
+            Responder::Texts(table) => table.serve_owned(alloc, action, body),
+        }
+    }
+}
+
+fn file_fault(fault: ActionFault) -> FileFault<ActionKind>
+    ensures { result ≡ file_fault fault }
+{
+    match fault {
+        ActionFault::Bad { row, kind } => FileFault::Bad { row, kind },
+        ActionFault::Memory => FileFault::Memory,
+    }
+}
+
+/// Reads the texts of actions out of the shelf's file of that name.
+pub fn read_actions<F: Shelf>(
+    alloc: Global,
+    shelf: &mut F,
+    name: &str,
+) -> Result<Responder, FileFault<ActionKind>>
+    ensures texts { IfOk result (GivesTexts (F.files shelf.old) name.now) }
+    ensures fault { IfErr result (Tells reading_actions (F.files shelf.old) name.now) }
+    ensures kept { F.files shelf.new ≡ F.files shelf.old }
+    ensures fetched { F.fetches shelf.new ≡ one_more (F.fetches shelf.old) }
+    ensures counted { CountsFaults (F.faults shelf.old) (F.faults shelf.new)
+        (IsErrOf result FileFault.Failed) }
+{
+    let bytes = fetch_file(shelf, name)?;
+    match TableService::read(alloc, &bytes) {
+        Ok(table) => Ok(Responder::Texts(table)),
+        Err(fault) => Err(file_fault(fault)),
+    }
+}

@@ -1,0 +1,140 @@
+//! The line of a generated session.
+
+ghost use Rattle.std.specs.Prelude.{◌≡◌, [], OnOk};
+ghost use Rattle.io_edges.specs.Puts.{Puts};
+ghost use Rattle.nbfx_values.specs.QuotasOf.{limits_of};
+ghost use Rattle.stream_loop.specs.Edges.{output_at};
+ghost use Rattle.session_generator.specs.Documents.{documents};
+ghost use Rattle.session_generator.specs.Summary.{Summarizes, status_of, summary_line};
+ghost use Rattle.session_generator.specs.Measuring.{Measures, line_of, summary_by};
+
+use crate::ends::GenFault;
+use crate::generating::generate;
+use io_edges::{GatheringSink, Sink, SinkFault, gathering_room};
+use line_notation::{Word, put_words};
+use nbfx_values::{Offence, Quotas};
+use static_dictionary::StaticTable;
+use std::alloc::Global;
+
+/// What became of the line of a generated session.
+#[derive(Clone, Copy, Debug, PartialEq, Eq)]
+pub enum Summary {
+    /// It is written.
+    Written,
+    /// The session has more bytes than the session quota, which its reader refuses so. Nothing is
+    /// written.
+    TooLong(Offence),
+    /// The output failed.
+    WriteFault,
+    /// Out of memory.
+    Memory,
+}
+
+impl Summary {
+    /// The status of a run that ends so.
+    pub fn status(&self) -> u8
+        ensures { result ≡ status_of self.now }
+    {
+        match self {
+            Summary::Written => 0,
+            Summary::TooLong(_) => 10,
+            Summary::WriteFault => 4,
+            Summary::Memory => 5,
+        }
+    }
+}
+
+/// What a session measures.
+#[derive(Clone, Copy, Debug, PartialEq, Eq)]
+pub struct Measured {
+    pub documents: u64,
+    pub bytes: u64,
+    pub strings: u32,
+    pub used: u32,
+}
+
+// Puts the line of a session that measures this.
+fn put_measured<O: Sink>(measured: Measured, output: &mut O) -> Result<(), SinkFault>
+    ensures { Puts O.written O.held O.faults O.may_want output.old output.new (line_of measured)
+        result }
+{
+    let words = [
+        Word::Plain("documents"),
+        Word::Natural(u128::from(measured.documents)),
+        Word::Plain("bytes"),
+        Word::Natural(u128::from(measured.bytes)),
+        Word::Plain("strings"),
+        Word::Natural(u128::from(measured.strings)),
+        Word::Plain("used"),
+        Word::Natural(u128::from(measured.used)),
+    ];
+    put_words("gen", &words, output)
+}
+
+// Puts it, and writes what the output holds.
+fn put_summary<O: Sink>(measured: Measured, output: &mut O) -> Result<(), SinkFault>
+    ensures puts { Puts O.written O.held O.faults O.may_want output.old output.new
+        (line_of measured) result }
+    ensures emptied { OnOk result (O.held output.new ≡ []) }
+{
+    put_measured(measured, output)?;
+    output.flush()
+}
+
+// By the answer of putting the line.
+fn summary_by(put: Result<(), SinkFault>) -> Summary
+    ensures { result ≡ summary_by put }
+{
+    match put {
+        Ok(()) => Summary::Written,
+        Err(SinkFault::Failed) => Summary::WriteFault,
+        Err(SinkFault::Memory) => Summary::Memory,
+    }
+}
+
+// Makes the session, and measures it.
+fn measure(
+    alloc: Global,
+    statics: &StaticTable,
+    quotas: &Quotas,
+    seed: u64,
+    count: u32,
+) -> Result<Measured, GenFault>
+    ensures { Measures (limits_of quotas.now) statics.now (documents seed count) result }
+{
+    let ends = generate(alloc, statics, *quotas, seed, count)?;
+    let table = ends.receiver.table();
+    Ok(Measured {
+        documents: ends.documents,
+        bytes: ends.bytes,
+        strings: table.len(),
+        used: table.used(),
+    })
+}
+
+/// Makes the session of so many documents that follow the seed, and writes a line of what it
+/// measures. Answers what became of that with the output.
+pub fn summarize<O: Sink>(
+    alloc: Global,
+    statics: &StaticTable,
+    quotas: &Quotas,
+    seed: u64,
+    count: u32,
+    output: O,
+) -> (Summary, O)
+    ensures { Summarizes (limits_of quotas.now) statics.now (documents seed count)
+        (output_at O.written O.held O.faults output)
+        (output_at O.written O.held O.faults result.1) result.0 }
+{
+    let measured = match measure(alloc, statics, quotas, seed, count) {
+        Ok(measured) => measured,
+        Err(GenFault::SessionTooLong(offence)) => return (Summary::TooLong(offence), output),
+        Err(GenFault::Memory) => return (Summary::Memory, output),
+    };
+    let Ok(room) = gathering_room(alloc) else {
+        return (Summary::Memory, output);
+    };
+    let mut gathered = GatheringSink::new(room, output);
+    let put = put_summary(measured, &mut gathered);
+    (summary_by(put), gathered.into_sink())
+}

@@ -1,0 +1,92 @@
+//! How bytes go to a sink, and what becomes of the writing then.
+
+ghost use Rattle.std.specs.Prelude.{◌≡◌, ⊤, Result, List, ℕ, [], true, false};
+ghost use Rattle.io_edges.specs.declared.SinkFault.{SinkFault as Fault};
+ghost use Rattle.stream_loop.specs.Writing.{Goes, IsCut, PutsParts, PutsTo};
+ghost use Rattle.stream_loop.specs.Writing.{outbound_by, outbound_of};
+
+use io_edges::{Sink, SinkFault};
+
+/// How the writing to a sink stands, or ended.
+#[derive(Clone, Copy, Debug, PartialEq, Eq)]
+pub enum Outbound {
+    /// All that was put is written or held.
+    Done,
+    /// A write failed.
+    WriteFault,
+    /// Out of memory while writing.
+    Memory,
+}
+
+impl Outbound {
+    /// Whether more may be written.
+    pub fn is_going(self) -> bool
+        ensures going { result ≡ true → self ≡ Outbound.Done }
+        ensures stopped { result ≡ false → self ≡ Outbound.Done → ⊥ }
+    {
+        matches!(self, Outbound::Done)
+    }
+}
+
+fn outbound_of(fault: SinkFault) -> Outbound
+    ensures { result ≡ outbound_of fault }
+{
+    match fault {
+        SinkFault::Failed => Outbound::WriteFault,
+        SinkFault::Memory => Outbound::Memory,
+    }
+}
+
+/// Puts bytes, where there are some.
+pub fn put_bytes<K: Sink>(bytes: &[u8], sink: &mut K) -> Outbound
+    ensures goes { Goes K.written K.held K.faults K.may_want result bytes.now sink.old sink.new }
+    ensures wanted { result ≡ Outbound.Memory → K.may_want sink.old ≡ true }
+{
+    if bytes.is_empty() {
+        return Outbound::Done;
+    }
+    match sink.put(bytes) {
+        Ok(()) => Outbound::Done,
+        Err(fault) => outbound_of(fault),
+    }
+}
+
+/// Puts bytes, a part at a time. Answers how many were put, and how the writing stands: all were,
+/// or a put failed at the others.
+pub fn put_parts<K: Sink>(bytes: &[u8], sink: &mut K) -> (usize, Outbound)
+    ensures { PutsParts K.written K.held K.faults K.may_want bytes.now sink.old sink.new result.0
+        result.1 }
+{
+    let mut at = 0;
+    while at < bytes.len() {
+        match sink.put_some(&bytes[at..]) {
+            Ok(n) => at += n,
+            Err(fault) => return (at, outbound_of(fault)),
+        }
+    }
+    (at, Outbound::Done)
+}
+
+/// Writes what the sink holds.
+pub fn flush<K: Sink>(sink: &mut K) -> Outbound
+    ensures flushed { (flush : Result ⊤ Fault)
+        × PutsTo K.written K.held K.faults K.may_want sink.old sink.new [] flush
+        × (result ≡ outbound_by flush) }
+    ensures emptied { K.held sink.new ≡ [] }
+{
+    match sink.flush() {
+        Ok(()) => Outbound::Done,
+        Err(fault) => outbound_of(fault),
+    }
+}
+
+/// Ends the writing since there was no memory for the next bytes. What the sink holds is written.
+pub fn starve<K: Sink>(sink: &mut K) -> Outbound
+    ensures { (next : List ℕ) → IsCut K.written K.held K.faults K.may_want result next
+        sink.old sink.new }
+{
+    match flush(sink) {
+        Outbound::Done => Outbound::Memory,
+        stopped => stopped,
+    }
+}
