@@ -47,7 +47,8 @@ class Packet:
         self.stream, self.number = int(fields[0]), int(fields[1])
         self.sender, self.receiver = place(*fields[2:5]), place(*fields[5:8])
         self.sequence, self.length = int(fields[8]), int(fields[9])
-        self.flags, self.data = int(fields[10], 16), bytes.fromhex(fields[11])
+        # Old versions put colons between the bytes.
+        self.flags, self.data = int(fields[10], 16), bytes.fromhex(fields[11].replace(":", ""))
 
 
 def place(address, address_of_6, port):
