@@ -78,7 +78,9 @@ class Direction:
         begin = self.size + (packet.sequence - 1 - self.size + 2**31) % 2**32 - 2**31
         self.finished |= bool(packet.flags & FIN)
         self.was_reset |= bool(packet.flags & RST)
-        self.sent = max(self.sent, begin + packet.length)
+        # A reset may have any place.
+        if packet.length or packet.flags & FIN:
+            self.sent = max(self.sent, begin + packet.length)
         if packet.data and not self.is_dropped:
             heapq.heappush(self.ahead, (begin, packet.number, packet.data))
             self.ahead_size += len(packet.data)
