@@ -1,14 +1,7 @@
 -- When a service is asked.
-use Rattle.std.proofs.Common.{◌≡◌, ◌∙◌, ap, refl}
-use Rattle.action_dispatch.specs.Answers.{answer_to, answered_by}
-use Rattle.action_dispatch.specs.Laws.{AsksNoServiceElse, AsksWhereContentFits}
+use Rattle.std.proofs.Common.{ap, ◌∙◌}
+use Rattle.action_dispatch.specs.{Answers.answer_to, Answers.answered_by, Laws.AsksTheService}
 
-pub asks-fitting : AsksWhereContentFits
-asks-fitting quota serves items v action viewed asked fit =
-    ap (answered_by quota serves) viewed
-    ∙ ap (answer_to quota serves v.body v.message_id) asked ∙ rw fit refl
-
-pub asks-none : AsksNoServiceElse
-asks-none quota serves items v action viewed asked unfit =
-    ap (answered_by quota serves) viewed
-    ∙ ap (answer_to quota serves v.body v.message_id) asked ∙ rw unfit refl
+pub asks_the_service : AsksTheService
+asks_the_service serves items v action viewed asked =
+    ap (answered_by serves) viewed ∙ ap (answer_to serves v.body v.message_id) asked

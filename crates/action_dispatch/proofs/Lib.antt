@@ -5,6 +5,8 @@ pub mod BlockFacts
 pub mod Replies
 pub mod AnswerFacts
 pub mod AskedFacts
+pub mod MeasuredFacts
+pub mod TextSizes
 -- worked cases
 mod Requests
 mod Worked

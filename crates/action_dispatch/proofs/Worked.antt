@@ -1,5 +1,5 @@
 -- Worked cases: the answers to literal requests.
-use Rattle.std.proofs.Common.{◌≡◌, ℕ, List, [], ◌∷◌, ◌++◌, map, codes, refl}
+use Rattle.std.proofs.Common.{◌≡◌, List, [], ◌∷◌, ◌++◌, map, codes, refl}
 use Rattle.nbfx_values.specs.declared.content.Item.{Item}
 use Rattle.nbfx_values.specs.declared.content.Item.TheVariants.{Close, Start, Xmlns}
 use Rattle.soap_envelope.proofs.Documents.{acting, action, addressing_action, attribute, echo}
@@ -16,10 +16,9 @@ use Rattle.action_dispatch.specs.declared.service.Served.TheVariants as said
 abbrev Row : Type 0
 Row = List Item × Answer
 
--- under the usual quota on content
 abbrev AllAnswered : Serves → List Row → Type 0
 AllAnswered serves rows =
-    map (λ (r : Row). answered 262144 serves r.0) rows ≡ map (λ (r : Row). r.1) rows
+    map (λ (r : Row). answered serves r.0) rows ≡ map (λ (r : Row). r.1) rows
 
 -- a request that is served is echoed under its action, and relates to its identifier
 echoes : AllAnswered echoed (
@@ -141,41 +140,8 @@ of_texts : AllAnswered texts ((
 unfolding envelopes_on_literals texts unsupported
 of_texts = refl
 
--- The content of Body counts 3 bytes. With a smaller quota no service is asked: not one that would
--- give the content back, nor one that has no such action or no answer.
-does_not_fit : List Item
-does_not_fit = fault soap_action related (codes "s:Receiver") [] (codes "The reply does not fit.")
-
-abbrev Quota : Type 0
-Quota = ℕ × Serves × List Item × Answer
-
-abbrev AllWithin : List Quota → Type 0
-AllWithin rows =
-    map (λ (r : Quota). answered r.0 r.1 r.2) rows ≡ map (λ (r : Quota). r.3) rows
-
 silent : Serves
 silent asked body = said.Nothing
-
-quotas_of_content : AllWithin (
-    (3, echoed, echo, Reply (reply (codes "urn:echoResponse") hi) identified)
-    ∷ (2, echoed, echo, Reply does_not_fit identified)
-    ∷ (3, texts, request (acting (codes "urn:other") ++ message), Reply unsupported identified)
-    ∷ (2, texts, request (acting (codes "urn:other") ++ message), Reply does_not_fit identified)
-    ∷ (3, silent, echo, Nothing)
-    ∷ (2, silent, echo, Reply does_not_fit identified)
-    ∷ [])
-unfolding envelopes_on_literals does_not_fit unsupported texts silent
-quotas_of_content = refl
-
--- and a request that isn't served is refused as before, but that names of 8 bytes fit as well
-quotas_of_names : AllWithin (
-    (0, echoed, request message, Reply no_action identified)
-    ∷ (8, echoed, request (secured [] ++ action ++ message), Reply not_understood identified)
-    ∷ (7, echoed, request (secured [] ++ action ++ message), Reply does_not_fit identified)
-    ∷ (7, echoed, request (secured [] ++ action ++ nobody), Nothing)
-    ∷ [])
-unfolding envelopes_on_literals no_action not_understood does_not_fit nobody
-quotas_of_names = refl
 
 of_silent : AllAnswered silent ((echo, Nothing) ∷ [])
 unfolding envelopes_on_literals silent
@@ -191,6 +157,9 @@ unfolding envelopes_on_literals unwilling
 of_unwilling = refl
 
 -- the fault in place of a reply that doesn't fit
+does_not_fit : List Item
+does_not_fit = fault soap_action related (codes "s:Receiver") [] (codes "The reply does not fit.")
+
 unfit : unfit_fault identified ≡ does_not_fit
 unfolding envelopes_on_literals does_not_fit
 unfit = refl

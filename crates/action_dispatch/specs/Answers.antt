@@ -1,22 +1,24 @@
 -- What a server answers a request with, by its service.
-use Rattle.std.specs.Prelude.{ℕ, List, [], ◌∷◌, if◌then◌else◌, Some, None, Ok, Err, codes, Option}
-use Rattle.std.specs.Prelude.{Result, bytes_eq, ⊤}
-use Rattle.nbfx_values.specs.declared.content.Item.{Item}
+use Rattle.std.specs.Prelude.{◌≡◌, ℕ, false, List, [], ◌∷◌, if◌then◌else◌, Some, None, Ok, Err}
+use Rattle.std.specs.Prelude.{codes, Option, Result, bytes_eq, ⊤}
+use Rattle.nbfx_values.specs.{declared.content.Item.Item, Limits.Limits}
+use Rattle.least_payloads.specs.Least.{may_fit}
 use Rattle.soap_envelope.specs.{declared.refusals.SoapFault.SoapFault, Qualified.Name}
-use Rattle.soap_envelope.specs.{Fitting.fitting, Understanding.not_understood, View.View, View.view}
 use Rattle.soap_envelope.specs.Making.{AreTexts, reply_items}
 use Rattle.soap_envelope.specs.Names.{addressing, anonymous_address, no_address, qualified_name}
-use Rattle.action_dispatch.specs.declared.{answers.Answer.Answer, judging.Judged.Judged}
+use Rattle.soap_envelope.specs.{Understanding.not_understood, View.View, View.view}
+use Rattle.action_dispatch.specs.declared.answers.{Answer.Answer, Measured.Measured}
 use Rattle.action_dispatch.specs.declared.answers.Answer.TheVariants.{Nothing, Reply}
+use Rattle.action_dispatch.specs.declared.answers.Measured.TheVariants.{Made, TooLarge}
 use Rattle.action_dispatch.specs.declared.judging.Destination.{Destination, TheVariants.Sender}
 use Rattle.action_dispatch.specs.declared.judging.Destination.TheVariants.{Elsewhere, Nobody}
+use Rattle.action_dispatch.specs.declared.{judging.Judged.Judged, service.Served.Served}
 use Rattle.action_dispatch.specs.declared.judging.Judged.TheVariants.{Asked, Refused, Unanswered}
 use Rattle.action_dispatch.specs.declared.refusals.Refusal.{Refusal, TheVariants.NotUnderstood}
 use Rattle.action_dispatch.specs.declared.refusals.Refusal.TheVariants.{ByService, NoAction}
-use Rattle.action_dispatch.specs.declared.refusals.Refusal.TheVariants.{OtherReplyAddress, Unfit}
+use Rattle.action_dispatch.specs.declared.refusals.Refusal.TheVariants.{OtherReplyAddress}
 use Rattle.action_dispatch.specs.declared.refusals.Refusal.TheVariants.{UnknownAction}
-use Rattle.action_dispatch.specs.declared.service.Served.{Served}
-use Rattle.action_dispatch.specs.Refusals.{fault_of, fitting as fitting_refusal, refusal_of}
+use Rattle.action_dispatch.specs.Refusals.{fault_of, refusal_of}
 use Rattle.action_dispatch.specs.declared.service.Served.TheVariants as said
 
 -- a service, as a function of action and content of Body
@@ -74,28 +76,35 @@ answer_by action relates said.Nothing = Nothing
 answer_by action relates said.Unknown = refusal_answer UnknownAction relates
 answer_by action relates (said.Refuse reason) = refusal_answer (ByService reason) relates
 
--- the answer where the service is asked for an action, with the content of Body where that fits
-abbrev pub asked : Serves → (action : List ℕ) → (relates : List Item) → Option (List Item) → Answer
-asked serves action relates None = refusal_answer Unfit relates
-asked serves action relates (Some body) = answer_by action relates (serves action body)
-
 -- the answer to a request that was judged, which has this content of Body
-abbrev pub answer_to : ℕ → Serves → (body relates : List Item) → Judged → Answer
-answer_to quota serves body relates Unanswered = Nothing
-answer_to quota serves body relates (Refused refusal) =
-    refusal_answer (fitting_refusal quota refusal) relates
-answer_to quota serves body relates (Asked action) =
-    asked serves action relates (fitting quota body)
+abbrev pub answer_to : Serves → (body relates : List Item) → Judged → Answer
+answer_to serves body relates Unanswered = Nothing
+answer_to serves body relates (Refused refusal) = refusal_answer refusal relates
+answer_to serves body relates (Asked action) =
+    answer_by action relates (serves action body)
 
-abbrev pub answered_by : ℕ → Serves → Result View SoapFault → Answer
-answered_by quota serves (Err fault) = refusal_answer (refusal_of fault) []
-answered_by quota serves (Ok v) = answer_to quota serves v.body v.message_id (judged v)
+abbrev pub answered_by : Serves → Result View SoapFault → Answer
+answered_by serves (Err fault) = refusal_answer (refusal_of fault) []
+answered_by serves (Ok v) = answer_to serves v.body v.message_id (judged v)
 
--- the answer to the request that is this document, where this is the quota on content
-abbrev pub answered : ℕ → Serves → List Item → Answer
-answered quota serves items = answered_by quota serves (view items)
+-- the answer to the request that is this document
+abbrev pub answered : Serves → List Item → Answer
+answered serves items = answered_by serves (view items)
+
+-- An answer was made; or it wasn't, and is a document that isn't written, whatever strings the
+-- session has: its content is above the limits, or the least that it has in a payload.
+abbrev pub IsMeasured : Limits → Answer → Measured → Type 0
+IsMeasured limits answer (Made made) = made ≡ answer
+IsMeasured limits answer (TooLarge relates) =
+    (document : List Item) × (answer ≡ Reply document relates)
+    × (may_fit limits document ≡ false)
 
 -- what an answer relates to are texts, which another answer may relate to
 abbrev pub RelatesToTexts : Answer → Type 0
 RelatesToTexts (Reply document relates) = AreTexts relates
 RelatesToTexts Nothing = ⊤
+
+-- also where the answer wasn't made
+abbrev pub MeasuresTexts : Measured → Type 0
+MeasuresTexts (Made answer) = RelatesToTexts answer
+MeasuresTexts (TooLarge relates) = AreTexts relates

@@ -1,39 +1,47 @@
 -- What is left to do for a request once it was judged, which needs no name from its document.
-use Rattle.std.specs.Prelude.{◌≡◌, ℕ, List, IsTrue, slice_get}
-use Rattle.nbfx_values.specs.declared.content.Item.{Item}
-use Rattle.soap_envelope.specs.{Body.body_items, Children.is_start, Fitting.fitting, View.View}
-use Rattle.soap_envelope.specs.{Making.AreTexts, Parts.root_scope}
-use Rattle.action_dispatch.specs.declared.answers.Answer.{Answer, TheVariants.Nothing}
+use Rattle.std.specs.Prelude.{◌≡◌, ℕ, List, if◌then◌else◌, IsTrue, slice_get}
+use Rattle.nbfx_values.specs.{declared.content.Item.Item, Limits.Limits}
+use Rattle.soap_envelope.specs.{Body.body_items, Children.is_start, Making.AreTexts, View.View}
+use Rattle.soap_envelope.specs.{Fitting.names_fit, Parts.root_scope}
+use Rattle.action_dispatch.specs.declared.answers.{Answer.TheVariants.Nothing, Measured.Measured}
+use Rattle.action_dispatch.specs.declared.answers.Measured.TheVariants.{Made, TooLarge}
 use Rattle.action_dispatch.specs.declared.{judging.Judged.Judged, planning.Plan.Plan}
 use Rattle.action_dispatch.specs.declared.judging.Judged.TheVariants.{Asked, Refused, Unanswered}
 use Rattle.action_dispatch.specs.declared.planning.Plan.TheVariants.{Answered, Asks}
-use Rattle.action_dispatch.specs.Answers.{answered, asked, judged, refusal_answer, RelatesToTexts}
-use Rattle.action_dispatch.specs.{Answers.Serves, Refusals.fitting as fitting_refusal}
+use Rattle.action_dispatch.specs.{declared.refusals.Refusal.Refusal, Refusals.names_of}
+use Rattle.action_dispatch.specs.Answers.{answer_by, answered, IsMeasured, judged, MeasuresTexts}
+use Rattle.action_dispatch.specs.Answers.{refusal_answer, Serves}
+
+-- a fault is made only where the names in it fit the quota on content
+abbrev pub refused : Limits → Refusal → (relates : List Item) → Measured
+refused limits refusal relates =
+    if names_fit limits.content (names_of refusal)
+    then Made (refusal_answer refusal relates)
+    else TooLarge relates
 
 -- for a request that was judged, which has this identifier and this place of Body
-abbrev pub planned : ℕ → Judged → (relates : List Item) → (body_at : ℕ) → Plan
-planned quota Unanswered relates body_at = Answered Nothing
-planned quota (Refused refusal) relates body_at =
-    Answered (refusal_answer (fitting_refusal quota refusal) relates)
-planned quota (Asked action) relates body_at = Asks action relates body_at
+abbrev pub planned : Limits → Judged → (relates : List Item) → (body_at : ℕ) → Plan
+planned limits Unanswered relates body_at = Answered (Made Nothing)
+planned limits (Refused refusal) relates body_at = Answered (refused limits refusal relates)
+planned limits (Asked action) relates body_at = Asks action relates body_at
 
-abbrev pub planned_of : ℕ → View → Plan
-planned_of quota v = planned quota (judged v) v.message_id v.body_at
+abbrev pub planned_of : Limits → View → Plan
+planned_of limits v = planned limits (judged v) v.message_id v.body_at
 
--- the answer that a plan leads to
-abbrev pub answer_by_plan : ℕ → Serves → List Item → Plan → Answer
-answer_by_plan quota serves items (Answered answer) = answer
-answer_by_plan quota serves items (Asks action relates body_at) =
-    asked serves action relates (fitting quota (body_items items (root_scope items) body_at))
+-- a plan leads to the answer to the request that is this document
+abbrev pub Leads : Limits → List Item → Plan → Serves → Type 0
+Leads limits items (Answered measured) serves = IsMeasured limits (answered serves items) measured
+Leads limits items (Asks action relates body_at) serves =
+    answered serves items
+    ≡ answer_by action relates (serves action (body_items items (root_scope items) body_at))
 
 -- whether a plan is one for a document: Body begins at its place, and answers relate to texts
 abbrev pub IsFor : List Item → Plan → Type 0
-IsFor items (Answered answer) = RelatesToTexts answer
+IsFor items (Answered measured) = MeasuresTexts measured
 IsFor items (Asks action relates body_at) =
     AreTexts relates × IsTrue (is_start (slice_get items body_at))
 
--- a plan leads to the answer to the request that is this document, whatever the service
-pub record Plans (quota : ℕ) (items : List Item) (plan : Plan) : Type 0 where
-  pub leads : (serves : Serves) → answer_by_plan quota serves items plan ≡ answered quota serves
-      items
+-- it does whatever the service
+pub record Plans (limits : Limits) (items : List Item) (plan : Plan) : Type 0 where
+  pub leads : (serves : Serves) → Leads limits items plan serves
   pub is_for : IsFor items plan

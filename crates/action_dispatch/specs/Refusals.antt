@@ -1,9 +1,8 @@
 -- The fault of each reason not to serve a request.
-use Rattle.std.specs.Prelude.{ℕ, List, [], if◌then◌else◌, codes}
-use Rattle.nbfx_values.specs.declared.content.Item.{Item}
+use Rattle.std.specs.Prelude.{ℕ, List, [], codes}
+use Rattle.{nbfx_values.specs.declared.content.Item.Item, soap_envelope.specs.Faults.fault_items}
 use Rattle.soap_envelope.specs.{declared.refusals.SoapFault.SoapFault, Qualified.Name}
 use Rattle.soap_envelope.specs.declared.report.{Code.Code, FaultReport.FaultReport, Sub.Sub}
-use Rattle.soap_envelope.specs.{Faults.fault_items, Fitting.names_fit}
 use Rattle.action_dispatch.specs.declared.refusals.Refusal.{Refusal, TheVariants.NotUnderstood}
 use Rattle.action_dispatch.specs.declared.refusals.Refusal.TheVariants.{ByService, IllFormed}
 use Rattle.action_dispatch.specs.declared.refusals.Refusal.TheVariants.{NoAction, NoEnvelope}
@@ -45,12 +44,6 @@ reason_of OtherReplyAddress = codes "Only the anonymous reply address is support
 reason_of UnknownAction = codes "The action is not supported."
 reason_of (ByService reason) = reason
 reason_of Unfit = codes "The reply does not fit."
-
--- the refusal where the names in its fault fit the quota on content
-abbrev pub fitting : ℕ → Refusal → Refusal
-fitting quota (NotUnderstood names) =
-    if names_fit quota names then NotUnderstood names else Unfit
-fitting quota refusal = refusal
 
 -- the blocks that weren't understood
 abbrev pub names_of : Refusal → List Name

@@ -11,3 +11,13 @@ pub enum Answer {
     /// No answer is sent.
     Nothing,
 }
+
+/// An answer, as far as it is made.
+#[derive(Debug, Drop)]
+pub enum Measured {
+    /// The answer.
+    Made(Answer),
+    /// The answer is a reply or a fault with more content, or more bytes in any payload, than the
+    /// quotas admit. Its document isn't made. It relates to these texts.
+    TooLarge { relates: Items },
+}

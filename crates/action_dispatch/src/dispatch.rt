@@ -1,21 +1,21 @@
 //! What a server answers to a request.
 
-ghost use Rattle.std.specs.Prelude.{◌≡◌, IfOk, IsTrue, slice_get};
+ghost use Rattle.std.specs.Prelude.{◌≡◌, [], IfOk, IsTrue, slice_get};
+ghost use Rattle.nbfx_values.specs.QuotasOf.{limits_of};
 ghost use Rattle.soap_envelope.specs.Body.{body_items};
 ghost use Rattle.soap_envelope.specs.Children.{is_start};
-ghost use Rattle.soap_envelope.specs.Fitting.{fitting};
-ghost use Rattle.soap_envelope.specs.Making.{AreTexts};
+ghost use Rattle.soap_envelope.specs.Making.{AreTexts, reply_items};
 ghost use Rattle.soap_envelope.specs.Parts.{root_scope};
 ghost use Rattle.action_dispatch.specs.Answers as spec;
-ghost use Rattle.action_dispatch.specs.Answers.{RelatesToTexts, answered};
+ghost use Rattle.action_dispatch.specs.Answers.{IsMeasured, MeasuresTexts, RelatesToTexts, answered};
 ghost use Rattle.action_dispatch.specs.Services.{MayStand};
 
-use crate::answers::Answer;
+use crate::answers::{Answer, Measured};
 use crate::planning::{Plan, plan_for, refusal_answer};
 use crate::refusals::Refusal;
-use crate::service::{Served, Service};
+use crate::service::{BodyUse, Served, Service};
 use nbfx_values::{Copied, Doc, Items, Quotas};
-use soap_envelope::{reply_doc_with, take_body};
+use soap_envelope::{reply_doc_with, return_body, take_body};
 use std::alloc::Global;
 use unit_streams::Memory;
 
@@ -38,8 +38,48 @@ fn answer_by(alloc: Global, action: &str, relates: Items, said: Served) -> Resul
     }
 }
 
-// The answer to a request for this action, which is this document.
-fn answer_asked<V: Service>(
+// The answer of a service to this action and no content.
+fn answer_unread<V: Service>(
+    alloc: Global,
+    service: &V,
+    action: &str,
+    relates: Items,
+) -> Result<Answer, Memory>
+    requires { AreTexts relates }
+    ensures answered { IfOk result (λ answer. answer
+        ≡ spec.answer_by action.now relates (V.served service.now action.now [])) }
+    ensures texts { IfOk result RelatesToTexts }
+{
+    let said = service.serve(alloc, action, &Items::new(alloc))?;
+    answer_by(alloc, action, relates, said)
+}
+
+// The answer that has the request's content of Body, which isn't made where that doesn't fit the
+// quotas.
+fn answer_returned(
+    alloc: Global,
+    quotas: &Quotas,
+    action: &str,
+    relates: Items,
+    doc: Doc,
+    body_at: usize,
+) -> Result<Measured, Memory>
+    requires relates { AreTexts relates }
+    requires body { IsTrue (is_start (slice_get doc body_at)) }
+    ensures measured { let body = body_items doc (root_scope doc) body_at in
+        IfOk result (IsMeasured (limits_of quotas.now)
+        (Answer.Reply (reply_items action.now relates body) relates)) }
+    ensures texts { IfOk result MeasuresTexts }
+{
+    match return_body(alloc, quotas, action, &relates, doc, body_at)? {
+        Some(doc) => Ok(Measured::Made(Answer::Reply { doc, relates })),
+        None => Ok(Measured::TooLarge { relates }),
+    }
+}
+
+// The answer of a service to this action and the content of the request's Body. There is no memory
+// for content that doesn't fit the quotas.
+fn answer_read<V: Service>(
     alloc: Global,
     quotas: &Quotas,
     service: &V,
@@ -50,8 +90,9 @@ fn answer_asked<V: Service>(
 ) -> Result<Answer, Memory>
     requires relates { AreTexts relates }
     requires body { IsTrue (is_start (slice_get doc body_at)) }
-    ensures answered { let body = fitting quotas.now.content (body_items doc (root_scope doc) body_at) in
-        IfOk result (λ answer. answer ≡ spec.asked (V.served service.now) action.now relates body) }
+    ensures answered { let body = body_items doc (root_scope doc) body_at in
+        IfOk result (λ answer. answer
+        ≡ spec.answer_by action.now relates (V.served service.now action.now body)) }
     ensures texts { IfOk result RelatesToTexts }
 {
     match take_body(alloc, quotas, doc, body_at)? {
@@ -59,29 +100,64 @@ fn answer_asked<V: Service>(
             let said = service.serve_owned(alloc, action, body)?;
             answer_by(alloc, action, relates, said)
         }
-        None => refusal_answer(alloc, Refusal::Unfit, relates),
+        None => Err(Memory),
+    }
+}
+
+// The answer to a request for this action, which is this document. Where the service's reply is too
+// large whatever Body has, nothing is made.
+fn answer_asked<V: Service>(
+    alloc: Global,
+    quotas: &Quotas,
+    service: &V,
+    action: &str,
+    relates: Items,
+    doc: Doc,
+    body_at: usize,
+) -> Result<Measured, Memory>
+    requires relates { AreTexts relates }
+    requires body { IsTrue (is_start (slice_get doc body_at)) }
+    ensures measured { let body = body_items doc (root_scope doc) body_at in
+        IfOk result (IsMeasured (limits_of quotas.now)
+        (spec.answer_by action.now relates (V.served service.now action.now body))) }
+    ensures texts { IfOk result MeasuresTexts }
+{
+    if service.is_too_large(quotas, action) {
+        return Ok(Measured::TooLarge { relates });
+    }
+    match service.body_use() {
+        BodyUse::Unused => {
+            let answer = answer_unread(alloc, service, action, relates)?;
+            Ok(Measured::Made(answer))
+        }
+        BodyUse::Returned => answer_returned(alloc, quotas, action, relates, doc, body_at),
+        BodyUse::Read => {
+            let answer = answer_read(alloc, quotas, service, action, relates, doc, body_at)?;
+            Ok(Measured::Made(answer))
+        }
     }
 }
 
 /// What a server with this service answers to the request that is this document: a fault where the
-/// document is no envelope or the request isn't one to serve, and else what the service says. The
-/// service is asked only where the content of Body, with the declarations of its elements, counts
-/// no more than the quotas admit, and blocks that weren't understood are named only where their
-/// names do; else the answer is the fault that a reply doesn't fit. Where the service gives the
-/// content back, its items are moved into the reply, and copied only where the root or Body
-/// declares other prefixes than those of every reply.
+/// document is no envelope or the request isn't one to serve, and else what the service says. What
+/// the answer has of the request is measured before it is made: an answer whose content of Body,
+/// with the declarations of its elements, or whose names of blocks that weren't understood count
+/// more than the quotas admit isn't made, since it is never written. Nor is a reply that the service
+/// says is too large. A service that doesn't use Body answers whatever Body has. Where a service gives the content back, its items are moved into
+/// the reply, and copied only where the root or Body declares other prefixes than those of every
+/// reply.
 pub fn answer_owned<V: Service>(
     alloc: Global,
     quotas: &Quotas,
     service: &V,
     doc: Doc,
-) -> Result<Answer, Memory>
-    ensures answered { IfOk result
-        (λ answer. answer ≡ answered quotas.now.content (V.served service.now) doc) }
-    ensures texts { IfOk result RelatesToTexts }
+) -> Result<Measured, Memory>
+    ensures measured { IfOk result
+        (IsMeasured (limits_of quotas.now) (answered (V.served service.now) doc)) }
+    ensures texts { IfOk result MeasuresTexts }
 {
     match plan_for(alloc, quotas, &doc)? {
-        Plan::Answered(answer) => Ok(answer),
+        Plan::Answered(measured) => Ok(measured),
         Plan::Asks {
             action,
             relates,
@@ -106,10 +182,10 @@ pub fn answer<V: Service>(
     quotas: &Quotas,
     service: &V,
     doc: &Doc,
-) -> Result<Answer, Memory>
-    ensures answered { IfOk result
-        (λ answer. answer ≡ answered quotas.now.content (V.served service.now) doc.now) }
-    ensures texts { IfOk result RelatesToTexts }
+) -> Result<Measured, Memory>
+    ensures measured { IfOk result
+        (IsMeasured (limits_of quotas.now) (answered (V.served service.now) doc.now)) }
+    ensures texts { IfOk result MeasuresTexts }
 {
     answer_owned(alloc, quotas, service, doc.copy()?)
 }

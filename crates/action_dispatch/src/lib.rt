@@ -4,7 +4,8 @@
 //! answer is a function of the request's document and that function. `answered` of
 //! `specs/Answers.antt` has its cases in the order in which a request is judged by SOAP 1.2 and
 //! WS-Addressing 1.0, and `specs/Refusals.antt` has the fault of each reason not to serve one.
-//! `answer` and `answer_owned` are proved to give it.
+//! `answer` and `answer_owned` are proved to give it, or to say that it is larger than may be sent:
+//! what an answer has of its request, or of a file, is measured before it is made.
 //!
 //! There are two services: `EchoService` gives the content of Body back, and `TableService` gives
 //! the text that a file has for the action (`specs/Actions.antt`).
@@ -23,10 +24,10 @@ mod service;
 mod table;
 mod understanding;
 
-pub use answers::Answer;
+pub use answers::{Answer, Measured};
 pub use dispatch::{answer, answer_owned};
 pub use echo::EchoService;
 pub use fault::{ActionFault, ActionKind};
 pub use refusals::unfit_doc;
-pub use service::{Served, Service};
+pub use service::{BodyUse, Served, Service};
 pub use table::TableService;

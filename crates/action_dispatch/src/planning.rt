@@ -1,13 +1,14 @@
 //! What is left to do for a request once it was judged.
 
 ghost use Rattle.std.specs.Prelude.{◌≡◌, IfOk, OnOk};
+ghost use Rattle.nbfx_values.specs.QuotasOf.{limits_of};
 ghost use Rattle.soap_envelope.specs.Making.{AreTexts};
 ghost use Rattle.action_dispatch.specs.Answers as answers;
 ghost use Rattle.action_dispatch.specs.Answers.{RelatesToTexts};
 ghost use Rattle.action_dispatch.specs.Planning as spec;
 ghost use Rattle.action_dispatch.specs.Planning.{Plans};
 
-use crate::answers::Answer;
+use crate::answers::{Answer, Measured};
 use crate::judging::{Judged, judge};
 use crate::refusals::Refusal;
 use nbfx_values::{Doc, Items, Quotas, Txt};
@@ -19,7 +20,7 @@ use unit_streams::Memory;
 #[derive(Drop)]
 pub(crate) enum Plan {
     /// Nothing, since no service is asked.
-    Answered(Answer),
+    Answered(Measured),
     /// The service is asked for this action. An answer relates to these texts, and Body begins at
     /// this place of the document.
     Asks {
@@ -44,6 +45,24 @@ pub(crate) fn refusal_answer(
     Ok(Answer::Reply { doc, relates })
 }
 
+// The same, where the names in the fault fit the quota on content. Else the fault isn't made.
+fn refused(
+    alloc: Global,
+    quotas: &Quotas,
+    refusal: Refusal<'_>,
+    relates: Items,
+) -> Result<Measured, Memory>
+    requires { AreTexts relates }
+    ensures { IfOk result
+        (λ measured. measured ≡ spec.refused (limits_of quotas.now) refusal.entry relates) }
+{
+    if !refusal.names_fit(quotas) {
+        return Ok(Measured::TooLarge { relates });
+    }
+    let answer = refusal_answer(alloc, refusal, relates)?;
+    Ok(Measured::Made(answer))
+}
+
 // What is left to do for a request that was judged, which has this identifier and this place of
 // Body.
 fn plan_judged(
@@ -55,13 +74,13 @@ fn plan_judged(
 ) -> Result<Plan, Memory>
     requires { AreTexts relates }
     ensures { IfOk result
-        (λ plan. plan ≡ spec.planned quotas.now.content judged.entry relates body_at) }
+        (λ plan. plan ≡ spec.planned (limits_of quotas.now) judged.entry relates body_at) }
 {
     match judged {
-        Judged::Unanswered => Ok(Plan::Answered(Answer::Nothing)),
+        Judged::Unanswered => Ok(Plan::Answered(Measured::Made(Answer::Nothing))),
         Judged::Refused(refusal) => {
-            let answer = refusal_answer(alloc, refusal.fitting(quotas), relates)?;
-            Ok(Plan::Answered(answer))
+            let measured = refused(alloc, quotas, refusal, relates)?;
+            Ok(Plan::Answered(measured))
         }
         Judged::Asked(action) => Ok(Plan::Asks {
             action,
@@ -74,7 +93,7 @@ fn plan_judged(
 // What is left to do for the request with this view.
 fn plan_viewed(alloc: Global, quotas: &Quotas, envelope: Envelope<'_>) -> Result<Plan, Memory>
     ensures planned { IfOk result
-        (λ plan. plan ≡ spec.planned_of quotas.now.content envelope.entry) }
+        (λ plan. plan ≡ spec.planned_of (limits_of quotas.now) envelope.entry) }
     ensures texts { OnOk result (AreTexts envelope.entry.message_id) }
 {
     let relates = envelope.message_id(alloc)?;
@@ -85,14 +104,14 @@ fn plan_viewed(alloc: Global, quotas: &Quotas, envelope: Envelope<'_>) -> Result
 
 /// What is left to do for the request that is this document.
 pub(crate) fn plan_for(alloc: Global, quotas: &Quotas, doc: &Doc) -> Result<Plan, Memory>
-    ensures { IfOk result (Plans quotas.now.content doc.now) }
+    ensures { IfOk result (Plans (limits_of quotas.now) doc.now) }
 {
     match Envelope::of(alloc, doc) {
         Ok(envelope) => plan_viewed(alloc, quotas, envelope),
         Err(SoapFault::Memory) => Err(Memory),
         Err(fault) => {
             let answer = refusal_answer(alloc, Refusal::of(fault), Items::new(alloc))?;
-            Ok(Plan::Answered(answer))
+            Ok(Plan::Answered(Measured::Made(answer)))
         }
     }
 }

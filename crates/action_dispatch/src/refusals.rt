@@ -1,6 +1,7 @@
 //! Why a request isn't served.
 
 ghost use Rattle.std.specs.Prelude.{◌≡◌, IfOk};
+ghost use Rattle.soap_envelope.specs.Fitting as fitting;
 ghost use Rattle.soap_envelope.specs.Making.{AreTexts};
 ghost use Rattle.action_dispatch.specs.Refusals as spec;
 ghost use Rattle.action_dispatch.specs.Refusals.{fault_of, report_of, unfit_fault};
@@ -45,20 +46,13 @@ impl<'d> Refusal<'d> {
         }
     }
 
-    /// The refusal where the names in its fault fit the quota on content, and else that the reply
-    /// doesn't fit.
-    pub(crate) fn fitting(self, quotas: &Quotas) -> Refusal<'d>
-        ensures { result ≡ spec.fitting quotas.now.content self.entry }
+    /// Whether the names in its fault fit the quota on content. If they don't, the fault doesn't.
+    pub(crate) fn names_fit(&self, quotas: &Quotas) -> bool
+        ensures { result ≡ fitting.names_fit quotas.now.content (spec.names_of self.now) }
     {
         match self {
-            Refusal::NotUnderstood(names) => {
-                if names_fit(quotas, names.as_slice()) {
-                    Refusal::NotUnderstood(names)
-                } else {
-                    Refusal::Unfit
-                }
-            }
-            other => other,
+            Refusal::NotUnderstood(names) => names_fit(quotas, names.as_slice()),
+            _ => true,
         }
     }
 

@@ -1,20 +1,21 @@
 //! The service of a file.
 
-ghost use Rattle.std.specs.Prelude.{◌≡◌, IfErr, IfOk, OnOk};
+ghost use Rattle.std.specs.Prelude.{◌≡◌, IfErr, IfOk, OnOk, true};
 ghost use Rattle.std.specs.BTreeMap.{insert_entry};
 ghost use Rattle.std.specs.Cmp.Lexicographic.{slice_cmp};
 ghost use Rattle.std.specs.Ordering.{nat_cmp};
 ghost use Rattle.csv_rows.specs.Rows.{rows_of};
+ghost use Rattle.nbfx_values.specs.QuotasOf.{limits_of};
 ghost use Rattle.soap_envelope.specs.Making.{IsContent};
-ghost use Rattle.action_dispatch.specs.Actions.{Explains, and_then, row_read, texts_of, with_entry, with_row};
+ghost use Rattle.action_dispatch.specs.Actions.{Explains, and_then, row_read, text_for, texts_of, with_entry, with_row};
 ghost use Rattle.action_dispatch.specs.Inside.{texts_in};
-ghost use Rattle.action_dispatch.specs.Services.{text_reply};
+ghost use Rattle.action_dispatch.specs.Services.{RepliesTooMuch, is_text_above, reply_with, text_reply};
 
 use crate::actions::{entry_of, take_header};
 use crate::fault::{ActionFault, ActionKind};
-use crate::service::{Served, Service};
+use crate::service::{BodyUse, Served, Service};
 use csv_rows::RowReader;
-use nbfx_values::{Copied, Item, Items, Scalar, Txt, Value};
+use nbfx_values::{Copied, Item, Items, Quotas, Scalar, Txt, Value};
 use std::alloc::Global;
 use std::collections::BTreeMap;
 use std::marker::Model;
@@ -117,6 +118,16 @@ impl TableService {
     }
 }
 
+// Whether an action has a text that alone counts more than the quota on content.
+fn has_text_above(texts: &BTreeMap<String, Txt>, action: &str, quota: u32) -> bool
+    ensures { result ≡ is_text_above quota (text_for (texts_in texts.now) action.now) }
+{
+    match texts.get(action) {
+        Some(text) => text.len() > quota as usize,
+        None => false,
+    }
+}
+
 // The element that holds a text.
 fn reply_of(alloc: Global, text: &Txt) -> Result<Items, Memory>
     ensures same { IfOk result (λ items. items ≡ text_reply text.now) }
@@ -136,10 +147,21 @@ fn reply_of(alloc: Global, text: &Txt) -> Result<Items, Memory>
 }
 
 impl Service for TableService {
-    ghost use Rattle.action_dispatch.specs.Actions.{text_for};
-    ghost use Rattle.action_dispatch.specs.Services.{reply_with};
-
     ghost served = { λ table action body. reply_with (text_for table action) };
+
+    fn body_use(&self) -> BodyUse
+        ensures same { result ≡ BodyUse.Unused }
+    {
+        BodyUse::Unused
+    }
+
+    fn is_too_large(&self, quotas: &Quotas, action: &str) -> bool
+        ensures unfit { result ≡ true → RepliesTooMuch (limits_of quotas.now)
+            (λ asked body. reply_with (text_for self.now asked)) action.now }
+        ensures above { result ≡ is_text_above quotas.now.content (text_for self.now action.now) }
+    {
+        has_text_above(&self.texts, action, quotas.content)
+    }
 
     fn serve(&self, alloc: Global, action: &str, _body: &Items) -> Result<Served, Memory> {
         match self.texts.get(action) {

@@ -44,3 +44,22 @@ module _ (mode again : Mode) (old mid new : List ℕ) (before between behind : S
     },
   )
   second_try (Err memory) h = tt
+
+-- where no first try was needed, since it can't be enough
+module _ (mode : Mode) (old new : List ℕ) (before behind : StringTable) (was moment : SendState)
+    (why : Unfit) (encoded other other' : Result (Placed (List ℕ)) Unfit) (same : other' ≡ other)
+    (ready : was ≡ Ready) (unwritten : encoded ≡ Err why) where
+  alone : (a : Result (Placed (List ℕ)) Unfit) → other' ≡ a
+      → when_ready was (first_fitting encoded other) ≡ first_fitting (Err why) a
+  alone a is =
+      ap (λ m. when_ready m (first_fitting encoded other)) ready
+      ∙ ap (λ e. first_fitting e other) unwritten
+      ∙ ap (λ e. first_fitting (Err why) e) (sym same ∙ is)
+
+  pub only_try : (result : Result Bool Memory)
+      → Tries mode old new before behind was moment other' result
+      → Spells mode old new before behind was moment (when_ready was (first_fitting encoded other))
+      result
+  only_try (Ok true) h = (h.0, alone (Ok h.0) h.1, h.2)
+  only_try (Ok false) h = (alone (Err h.0) h.1, h.2)
+  only_try (Err memory) h = tt

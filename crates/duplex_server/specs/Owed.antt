@@ -101,7 +101,7 @@ behind_reply (Some payload) s = record s {
 module _ (x : Answering) where
   -- the payload of the answer to a document
   abbrev pub reply_to : Replying → List Item → Option (Placed (List ℕ))
-  reply_to s document = payload_of x.limits s (answered x.limits.content x.serves document)
+  reply_to s document = payload_of x.limits s (answered x.serves document)
 
   -- what is owed for a request, and what it leaves
   abbrev pub owed_for : Replying → Request → List ℕ

@@ -4,8 +4,10 @@ use Rattle.io_edges.specs.{declared.fault.FileFault.FileFault, Store.Store}
 use Rattle.io_edges.specs.Files.{bad, Has, Reading, ShelfFile, whole}
 use Rattle.csv_rows.specs.Rows.{rows_of}
 use Rattle.action_dispatch.specs.declared.fault.{ActionFault.ActionFault, ActionKind.ActionKind}
+use Rattle.action_dispatch.specs.{declared.service.BodyUse.BodyUse, Answers.Serves}
+use Rattle.action_dispatch.specs.declared.service.BodyUse.TheVariants.{Returned, Unused}
 use Rattle.action_dispatch.specs.Actions.{Fault, text_for, Texts as ActionTexts, texts_of}
-use Rattle.action_dispatch.specs.{Answers.Serves, Services.echoed, Services.reply_with}
+use Rattle.action_dispatch.specs.Services.{echoed, reply_with}
 use Rattle.duplex_server.specs.declared.responding.Responder.{Responder}
 use Rattle.duplex_server.specs.declared.responding.Responder.TheVariants.{Echo, Texts}
 use Rattle.io_edges.specs.declared.fault.FileFault.TheVariants as faults
@@ -15,6 +17,11 @@ use Rattle.action_dispatch.specs.declared.fault.ActionFault.TheVariants as acts
 abbrev pub served_by : Responder → Serves
 served_by Echo = echoed
 served_by (Texts texts) = λ action body. reply_with (text_for texts action)
+
+-- what it does with that content
+abbrev pub body_use_of : Responder → BodyUse
+body_use_of Echo = Returned
+body_use_of (Texts texts) = Unused
 
 -- what the rows of a file of actions say
 abbrev pub file_by : Result ActionTexts Fault → ShelfFile ActionTexts ActionKind

@@ -1,6 +1,7 @@
 //! What answers the requests of a connection.
 
 ghost use Rattle.std.specs.Prelude.{◌≡◌, ◌≤◌, [], ◌∷◌, ◌++◌, ℕ, List, length, true, OnErr, OnOk};
+ghost use Rattle.std.specs.Option.{option_copied};
 ghost use Rattle.nbfx_values.specs.QuotasOf.{limits_of};
 ghost use Rattle.nbfx_values.specs.declared.content.Item.{Item as Part};
 ghost use Rattle.nbfx_encoder.specs.declared.sender.Sender.{Sender as Sending};
@@ -11,11 +12,12 @@ ghost use Rattle.stream_loop.specs.Writing.{Goes, Wrote};
 ghost use Rattle.duplex_server.specs.declared.requests.Request.{Request as Heard};
 ghost use Rattle.duplex_server.specs.Owed.{replies, start};
 ghost use Rattle.duplex_server.specs.Serving.{closing_of};
+ghost use Rattle.duplex_server.specs.Spelling.{IsSaid};
 
 use crate::counting::answers_within;
 use crate::requests::Request;
 use crate::spelling::spell_answer;
-use action_dispatch::{Answer, Service, answer_owned};
+use action_dispatch::{Answer, Measured, Service, answer_owned};
 use io_edges::Sink;
 use nbfx_encoder::{Sender, Side};
 use nbfx_values::{Doc, Items, Kind, Mode, Offence, Quotas};
@@ -211,12 +213,13 @@ impl<'s, 'v, V: Service> Replier<'s, 'v, V> {
     }
 
     // Gathers an answer, or the fault in its place, where either fits and the mode admits one.
-    fn send<K: Sink>(&mut self, doc: &Doc, relates: &Items, sink: &mut K)
+    // Where the answer wasn't made it doesn't fit.
+    fn send<K: Sink>(&mut self, doc: Option<&Doc>, relates: &Items, sink: &mut K)
         requires texts { AreTexts relates.now }
         requires going { self.old.outbound ≡ Outbound.Done }
-        ensures answered { (first : K) (requests : List Heard) (document : List Part)
-            → answered (limits_of self.old.quotas).content (V.served self.old.service.now) document
-            ≡ Answer.Reply doc.now relates.now
+        ensures answered { (first : K) (requests : List Heard) (document reply : List Part)
+            → IsSaid (limits_of self.old.quotas) (option_copied doc.entry) reply
+            → answered (V.served self.old.service.now) document ≡ Answer.Reply reply relates.now
             → Answered K.written K.held K.faults K.may_want
             (answering_of V.served self.old) first requests self.old.sender self.old sink.old
             → Answered K.written K.held K.faults K.may_want
@@ -268,8 +271,7 @@ impl<'s, 'v, V: Service> Replier<'s, 'v, V> {
         requires texts { RelatesToTexts answer }
         requires going { self.old.outbound ≡ Outbound.Done }
         ensures answered { (first : K) (requests : List Heard) (document : List Part)
-            → answered (limits_of self.old.quotas).content (V.served self.old.service.now) document
-            ≡ answer
+            → answered (V.served self.old.service.now) document ≡ answer
             → Answered K.written K.held K.faults K.may_want
             (answering_of V.served self.old) first requests self.old.sender self.old sink.old
             → Answered K.written K.held K.faults K.may_want
@@ -281,7 +283,7 @@ impl<'s, 'v, V: Service> Replier<'s, 'v, V> {
         let Answer::Reply { doc, relates } = answer else {
             return Request::Ended;
         };
-        self.send(&doc, &relates, sink);
+        self.send(Some(&doc), &relates, sink);
         Request::Received(doc)
     }
 
@@ -306,8 +308,14 @@ impl<'s, 'v, V: Service> Replier<'s, 'v, V> {
         if !self.outbound.is_going() {
             return Ok(Request::Received(doc));
         }
-        let answer = answer_owned(self.alloc, &self.quotas, self.service, doc)?;
-        Ok(self.reply(answer, sink))
+        let measured = answer_owned(self.alloc, &self.quotas, self.service, doc)?;
+        match measured {
+            Measured::Made(answer) => Ok(self.reply(answer, sink)),
+            Measured::TooLarge { relates } => {
+                self.send(None, &relates, sink);
+                Ok(Request::Ended)
+            }
+        }
     }
 }
 

@@ -3,11 +3,13 @@
 ghost use Rattle.std.specs.Prelude.{◌≡◌, ℕ, ◌≤◌, IfOk, IfErr, IsErrOf};
 ghost use Rattle.io_edges.specs.Faults.{CountsFaults, one_more};
 ghost use Rattle.io_edges.specs.Files.{Tells};
-ghost use Rattle.duplex_server.specs.Responding.{GivesTexts, file_fault, reading_actions};
+ghost use Rattle.duplex_server.specs.Responding.{GivesTexts, body_use_of, file_fault, reading_actions};
 
-use action_dispatch::{ActionFault, ActionKind, EchoService, Served, Service, TableService};
+use action_dispatch::{
+    ActionFault, ActionKind, BodyUse, EchoService, Served, Service, TableService,
+};
 use io_edges::{FileFault, Shelf, fetch_file};
-use nbfx_values::Items;
+use nbfx_values::{Items, Quotas};
 use std::alloc::Global;
 use unit_streams::Memory;
 
@@ -24,6 +26,22 @@ impl Service for Responder {
     ghost use Rattle.duplex_server.specs.Responding.{served_by};
 
     ghost served = { served_by };
+
+    fn body_use(&self) -> BodyUse
+        ensures same { result ≡ body_use_of self.now }
+    {
+        match self {
+            Responder::Echo => EchoService.body_use(),
+            Responder::Texts(table) => table.body_use(),
+        }
+    }
+
+    fn is_too_large(&self, quotas: &Quotas, action: &str) -> bool {
+        match self {
+            Responder::Echo => EchoService.is_too_large(quotas, action),
+            Responder::Texts(table) => table.is_too_large(quotas, action),
+        }
+    }
 
     fn serve(&self, alloc: Global, action: &str, body: &Items) -> Result<Served, Memory> {
         match self {

@@ -1,13 +1,16 @@
 //! How the envelope of an answer is spelled.
 
-ghost use Rattle.std.specs.Prelude.{◌≡◌, ⊤, IfOk, OnErr, false};
+ghost use Rattle.std.specs.Prelude.{◌≡◌, ⊤, List, IfOk, OnErr, false};
+ghost use Rattle.std.specs.Option.{option_copied};
+ghost use Rattle.nbfx_values.specs.declared.content.Item.{Item};
+ghost use Rattle.least_payloads.specs.Least.{may_fit};
 ghost use Rattle.nbfx_encoder.specs.Sending.{KeepsSettings, kind_in, limits_in, mode_in, names_in};
 ghost use Rattle.nbfx_encoder.specs.Sending.{state_in};
 ghost use Rattle.nbfx_encoder.specs.Spelling.{encoded};
 ghost use Rattle.soap_envelope.specs.Making.{AreTexts};
 ghost use Rattle.action_dispatch.specs.Refusals.{unfit_fault};
 ghost use Rattle.duplex_server.specs.Owed.{first_fitting, when_ready};
-ghost use Rattle.duplex_server.specs.Spelling.{Spells, Tries};
+ghost use Rattle.duplex_server.specs.Spelling.{IsSaid, Spells, Tries};
 
 use action_dispatch::unfit_doc;
 use nbfx_encoder::{EncodeFault, SendFault, SendState, Sender};
@@ -41,10 +44,8 @@ fn spell_if_fits(sender: &mut Sender<'_>, doc: &Doc, out: &mut Vec<u8>) -> Resul
     }
 }
 
-/// Appends the envelope of an answer, or, where it doesn't fit, of the fault in its place, which
-/// relates to the same texts. Says whether either fits. Where the session admits no answer now, or
-/// when out of memory, nothing is appended.
-pub fn spell_answer(
+// Appends the envelope of a document, or, where it doesn't fit, of the fault in its place.
+fn spell_made(
     alloc: Global,
     sender: &mut Sender<'_>,
     doc: &Doc,
@@ -69,4 +70,58 @@ pub fn spell_answer(
     }
     let fault = unfit_doc(alloc, relates)?;
     spell_if_fits(sender, &fault, out)
+}
+
+// Appends the envelope of the fault in place of a document that isn't written, whatever strings the
+// session has.
+fn spell_unmade(
+    alloc: Global,
+    sender: &mut Sender<'_>,
+    relates: &Items,
+    out: &mut Vec<u8>,
+) -> Result<bool, Memory>
+    requires { AreTexts relates.now }
+    ensures spells { (document : List Item) → may_fit (limits_in sender.old) document ≡ false
+        → Spells (mode_in sender.old) out.old.items out.new.items
+        (names_in sender.old) (names_in sender.new) (state_in sender.old) (state_in sender.new)
+        (when_ready (state_in sender.old) (first_fitting
+        (encoded (limits_in sender.old) (kind_in sender.old) (names_in sender.old) document)
+        (encoded (limits_in sender.old) (kind_in sender.old) (names_in sender.old)
+        (unfit_fault relates.now)))) result }
+    ensures unchanged { OnErr result (out.new.items ≡ out.old.items) }
+    ensures kept { KeepsSettings sender.old sender.new }
+{
+    if sender.state() != SendState::Ready {
+        return Ok(false);
+    }
+    let unfit = unfit_doc(alloc, relates)?;
+    spell_if_fits(sender, &unfit, out)
+}
+
+/// Appends the envelope of an answer, or, where it doesn't fit, of the fault in its place, which
+/// relates to the same texts. An answer that wasn't made is larger than any that fits. Says whether
+/// either fits. Where the session admits no answer now, or when out of memory, nothing is appended.
+pub fn spell_answer(
+    alloc: Global,
+    sender: &mut Sender<'_>,
+    doc: Option<&Doc>,
+    relates: &Items,
+    out: &mut Vec<u8>,
+) -> Result<bool, Memory>
+    requires { AreTexts relates.now }
+    ensures spells { (document : List Item)
+        → IsSaid (limits_in sender.old) (option_copied doc.entry) document
+        → Spells (mode_in sender.old) out.old.items out.new.items
+        (names_in sender.old) (names_in sender.new) (state_in sender.old) (state_in sender.new)
+        (when_ready (state_in sender.old) (first_fitting
+        (encoded (limits_in sender.old) (kind_in sender.old) (names_in sender.old) document)
+        (encoded (limits_in sender.old) (kind_in sender.old) (names_in sender.old)
+        (unfit_fault relates.now)))) result }
+    ensures unchanged { OnErr result (out.new.items ≡ out.old.items) }
+    ensures kept { KeepsSettings sender.old sender.new }
+{
+    match doc {
+        Some(doc) => spell_made(alloc, sender, doc, relates, out),
+        None => spell_unmade(alloc, sender, relates, out),
+    }
 }

@@ -41,7 +41,7 @@ short_one most (Ok other) payload is =
     let same : other ≡ payload = cc n.rest in
     record { is = ap Ok same; within = rw (← same) n.within }
 
-fits_so : (limits : Limits) (kind : Kind) (table : StringTable) (items : List Item)
+pub fits_so : (limits : Limits) (kind : Kind) (table : StringTable) (items : List Item)
     (payload : Placed (List ℕ)) → encoded limits kind table items ≡ Ok payload
     → (fits : Fits limits kind table items) × (fits.payload ≡ payload)
 fits_so limits kind table items payload is =

@@ -11,6 +11,7 @@ pub mod InItems
 pub mod Openings
 pub mod Sizes
 pub mod LawFacts
+pub mod Leasts
 pub mod ReadBack
 mod OnLiterals
 mod Worked

@@ -8,6 +8,7 @@ use Rattle.soap_envelope.specs.Faults.{fault_action, fault_body, fault_items, no
 use Rattle.soap_envelope.specs.Fitting.{fits, name_content, names_content}
 use Rattle.soap_envelope.{specs.Laws.UnfitNamesAreUnfit, proofs.OnLiterals.envelopes_on_literals}
 use Rattle.soap_envelope.specs.Making.{action_block, ending, middle, opening, relates_block}
+use Rattle.soap_envelope.proofs.ReplySizes.{behind-least, within-least}
 
 block-least : (name : Name) → name_content name ≤ content_of (not_understood_block name)
 unfolding envelopes_on_literals
@@ -22,16 +23,6 @@ names-least (name ∷ more) =
     rw (sum_by-append item_content (not_understood_block name) (flat_map not_understood_block more))
     (omega (arith, sum_by-cons name_content name more))
 
--- what stands between others counts no more than all
-within-least : (before items behind : List Item)
-    → content_of items ≤ content_of (before ++ (items ++ behind))
-within-least before items behind =
-    rw (sum_by-append item_content before (items ++ behind))
-    (rw (sum_by-append item_content items behind) (omega arith))
-
-behind-least : (before items : List Item) → content_of items ≤ content_of (before ++ items)
-behind-least before items = rw (sum_by-append item_content before items) (omega arith)
-
 fault-least : (report : FaultReport) (relates : List Item)
     → names_content report.names ≤ content_of (fault_items report relates)
 fault-least report relates =
@@ -39,9 +30,10 @@ fault-least report relates =
     let action = action_block (fault_action report.sub) in
     let behind = middle ++ (fault_body report ++ ending) in
     let named = names-least report.names in
-    let inner = within-least (relates_block relates) blocks behind in
-    let around = behind-least action (relates_block relates ++ (blocks ++ behind)) in
-    let all = behind-least opening (action ++ (relates_block relates ++ (blocks ++ behind))) in
+    let inner = within-least item_content (relates_block relates) blocks behind in
+    let around = behind-least item_content action (relates_block relates ++ (blocks ++ behind)) in
+    let all =
+    behind-least item_content opening (action ++ (relates_block relates ++ (blocks ++ behind))) in
     omega arith
 
 pub unfit_names_are_unfit : UnfitNamesAreUnfit

@@ -7,11 +7,13 @@ pub mod OnLiterals
 pub mod Documents
 pub mod PutFacts
 pub mod FitFacts
+pub mod ChildFacts
 pub mod Apart
 pub mod GoodNames
 pub mod Standing
 pub mod Places
 pub mod FaultPlaces
+pub mod ReplySizes
 pub mod FaultSizes
 pub mod Nesting
 pub mod MadeNames

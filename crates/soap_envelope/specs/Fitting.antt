@@ -1,22 +1,44 @@
--- Which items and which names fit a quota on content.
-use Rattle.std.specs.Prelude.{ℕ, ◌+◌, ◌-◌, Bool, List, length, if◌then◌else◌, nat_le, Some, None}
-use Rattle.{std.specs.Prelude.sum_by, std.specs.Prelude.Option, soap_envelope.specs.Qualified.Name}
-use Rattle.nbfx_values.specs.{declared.content.Item.Item, Measures.content_of}
-
--- the greatest quota on content that is good
-abbrev pub greatest_quota : ℕ
-greatest_quota = 16777216
+-- Which items and which names fit a quota on content, and which items may fit all quotas.
+use Rattle.std.specs.Prelude.{◌≡◌, ℕ, ◌+◌, ◌-◌, Bool, true, false, List, ◌++◌, length}
+use Rattle.std.specs.Prelude.{if◌then◌else◌, nat_le, Some, None, sum_by, Option}
+use Rattle.nbfx_values.specs.{declared.content.Item.Item, Limits.IsGood, Limits.Limits}
+use Rattle.nbfx_values.specs.Measures.{content_of, item_content}
+use Rattle.least_payloads.specs.Least.{least_of_item, may_fit}
+use Rattle.soap_envelope.specs.{declared.fitting.Measure.Measure, Qualified.Name}
+use Rattle.soap_envelope.specs.declared.fitting.Measure.TheVariants.{Content, Payload}
 
 abbrev pub fits : ℕ → List Item → Bool
 fits quota items = nat_le (content_of items) quota
 
--- the items, where they fit
-abbrev pub fitting : ℕ → List Item → Option (List Item)
-fitting quota items = if fits quota items then Some items else None
+-- the items, where they may fit the limits
+abbrev pub fitting : Limits → List Item → Option (List Item)
+fitting limits items = if may_fit limits items then Some items else None
 
--- what a quota leaves behind so much content, where that fits
+-- the items, or nothing, which is right only where they don't fit
+abbrev pub IsTaken : {A : Type 0} → Limits → List Item → A → Option A → Type 0
+IsTaken limits items whole (Some taken) = taken ≡ whole
+IsTaken limits items whole None = may_fit limits items ≡ false
+
+-- items were put behind others, or not, which is right only where they don't fit
+abbrev pub IsPut : Limits → (items old new : List Item) → Bool → Type 0
+IsPut limits items old new true = new ≡ old ++ items
+IsPut limits items old new false = may_fit limits items ≡ false
+
+-- the items may fit some limits, so that nobody copies what was never counted
+abbrev pub WereCounted : List Item → Type 0
+WereCounted items = (limits : Limits) × IsGood limits × (may_fit limits items ≡ true)
+
+-- what an item counts by a measure, and what items do
+abbrev pub item_measure : Measure → Item → ℕ
+item_measure Content = item_content
+item_measure Payload = least_of_item
+
+abbrev pub measure_of : Measure → List Item → ℕ
+measure_of measure = sum_by (item_measure measure)
+
+-- what a quota leaves behind so much, where that fits
 abbrev pub left_behind : ℕ → ℕ → Option ℕ
-left_behind quota content = if nat_le content quota then Some (quota - content) else None
+left_behind quota n = if nat_le n quota then Some (quota - n) else None
 
 -- how much names count, each with its namespace written out, and whether a quota admits them
 abbrev pub name_content : Name → ℕ

@@ -20,6 +20,7 @@ pub mod Made
 pub mod Resolved
 pub mod Renaming
 pub mod Laws
+pub mod Sizes
 -- for private calls
 pub mod Bindings
 pub mod Spelled

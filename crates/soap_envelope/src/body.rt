@@ -1,14 +1,16 @@
 // The content of Body, so that it means the same in any other place.
-ghost use Rattle.std.specs.Prelude.{◌≡◌, ◌++◌, IfOk, IsTrue, OnOk, Some, map};
+ghost use Rattle.std.specs.Prelude.{◌≡◌, ◌++◌, IfOk, OnOk, Some, map};
+ghost use Rattle.nbfx_values.specs.QuotasOf.{limits_of};
+ghost use Rattle.least_payloads.specs.Least.{may_fit};
 ghost use Rattle.soap_envelope.specs.Body as spec;
 ghost use Rattle.soap_envelope.specs.Body.{attribute_of, missing, xmlns_of};
-ghost use Rattle.soap_envelope.specs.Fitting.{fits, fitting, greatest_quota};
+ghost use Rattle.soap_envelope.specs.Fitting.{IsPut, WereCounted, fitting};
 ghost use Rattle.soap_envelope.specs.Layers.{kept, layer_of, shown};
 ghost use Rattle.soap_envelope.specs.Parts.{root_scope};
 ghost use Rattle.soap_envelope.specs.Scopes.{within};
 
 use crate::children::{behind, open_behind};
-use crate::fitting::content_fits;
+use crate::fitting::body_may_fit;
 use crate::layers::{Declared, Layer};
 use crate::namespaces::{ADDRESSING, SOAP};
 use crate::scopes::{declarations_in, declared_in, declared_on};
@@ -198,24 +200,27 @@ fn put_item(
     Ok(())
 }
 
-// The items up to the end of the element that holds them, with the declarations that its children
-// need. These fit some quotas, so that nobody copies what was never counted.
-fn self_standing(alloc: Global, needs: &[Declared<'_>], items: &[Item]) -> Result<Items, Memory>
-    requires { IsTrue (fits greatest_quota
-        (spec.self_standing (map kept needs.now) (Some 0) items.now)) }
-    ensures { IfOk result
-        (λ out. out ≡ spec.self_standing (map kept needs.now) (Some 0) items.now) }
+// Puts the items up to the end of the element that holds them, with the declarations that its
+// children need. These were counted before.
+pub(crate) fn put_standing(
+    alloc: Global,
+    out: &mut Items,
+    needs: &[Declared<'_>],
+    items: &[Item],
+) -> Result<(), Memory>
+    requires { WereCounted (spec.self_standing (map kept needs.now) (Some 0) items.now) }
+    ensures { OnOk result
+        (out.new ≡ out.old ++ spec.self_standing (map kept needs.now) (Some 0) items.now) }
 {
-    let mut out = Items::new(alloc);
     let mut inner = 0;
     for (i, item) in items.iter().enumerate() {
         let Some(open) = open_behind(inner, item) else {
-            return Ok(out);
+            return Ok(());
         };
-        put_item(alloc, &mut out, needs, inner, item, &items[i + 1..])?;
+        put_item(alloc, out, needs, inner, item, &items[i + 1..])?;
         inner = open;
     }
-    Ok(out)
+    Ok(())
 }
 
 // What stands behind the declarations and attributes at the head of items.
@@ -231,8 +236,31 @@ pub(crate) fn behind_head(items: &[Item]) -> &[Item]
     &[]
 }
 
-// The content of the Body that begins at a place, so that it means the same in any other place,
-// where it fits the quotas.
+// Puts the content of the Body that begins at a place, so that it means the same in any other
+// place, where it may fit the quotas, and says whether it may.
+pub(crate) fn put_body(
+    alloc: Global,
+    quotas: &Quotas,
+    out: &mut Items,
+    items: &[Item],
+    at: usize,
+) -> Result<bool, Memory>
+    ensures said { IfOk result (λ put. put
+        ≡ may_fit (limits_of quotas.now) (spec.body_items items.now (root_scope items.now) at)) }
+    ensures put { IfOk result (IsPut (limits_of quotas.now)
+        (spec.body_items items.now (root_scope items.now) at) out.old out.new) }
+{
+    let needs = needed_at(alloc, items, at)?;
+    let content = behind_head(behind(items, at));
+    if !body_may_fit(alloc, quotas, needs.as_slice(), content)? {
+        return Ok(false);
+    }
+    out.reserve(items.len())?;
+    put_standing(alloc, out, needs.as_slice(), content)?;
+    Ok(true)
+}
+
+// The same content, where it may fit the quotas.
 pub(crate) fn body_items(
     alloc: Global,
     quotas: &Quotas,
@@ -240,13 +268,12 @@ pub(crate) fn body_items(
     at: usize,
 ) -> Result<Option<Items>, Memory>
     ensures { IfOk result (λ body. body
-        ≡ fitting quotas.now.content (spec.body_items items.now (root_scope items.now) at)) }
+        ≡ fitting (limits_of quotas.now) (spec.body_items items.now (root_scope items.now) at)) }
 {
-    let needs = needed_at(alloc, items, at)?;
-    let content = behind_head(behind(items, at));
-    if !content_fits(alloc, quotas, needs.as_slice(), content)? {
-        return Ok(None);
+    let mut body = Items::new(alloc);
+    if put_body(alloc, quotas, &mut body, items, at)? {
+        Ok(Some(body))
+    } else {
+        Ok(None)
     }
-    let body = self_standing(alloc, needs.as_slice(), content)?;
-    Ok(Some(body))
 }

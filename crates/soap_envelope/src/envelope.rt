@@ -5,6 +5,7 @@ ghost use Rattle.std.specs.List.{list_all};
 ghost use Rattle.std.specs.Option.{option_copied, option_map, option_or};
 ghost use Rattle.nbfx_values.specs.Documents.{IsDocument};
 ghost use Rattle.nbfx_values.specs.Items.{is_valid_item};
+ghost use Rattle.nbfx_values.specs.QuotasOf.{limits_of};
 ghost use Rattle.soap_envelope.specs.Characters as characters;
 ghost use Rattle.soap_envelope.specs.declared.refusals.SoapFault.TheVariants.{BadHeader, RepeatedHeader};
 ghost use Rattle.soap_envelope.specs.Fitting.{fitting};
@@ -300,9 +301,10 @@ impl<'d> Envelope<'d> {
 
     /// The content of Body, so that it means the same in a reply: each child element declares what
     /// was in scope at Body and it doesn't declare itself. None where that counts more content than
-    /// the quotas admit: its declarations may be many more than the document's.
+    /// the quotas admit, or has more bytes in any payload: its declarations may be many more than
+    /// the document's.
     pub fn body(&self, alloc: Global, quotas: &Quotas) -> Result<Option<Items>, Memory>
-        ensures same { IfOk result (λ body. body ≡ fitting quotas.now.content self.now.body) }
+        ensures same { IfOk result (λ body. body ≡ fitting (limits_of quotas.now) self.now.body) }
         ensures content { IfOk result (λ body. IfSome body IsContent) }
     {
         body_items(alloc, quotas, self.items, self.body)

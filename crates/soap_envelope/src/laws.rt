@@ -3,6 +3,7 @@
 
 ghost use Rattle.std.specs.Prelude.{◌≡◌};
 ghost use Rattle.soap_envelope.specs.Laws.{BodiesAreNamed, BodiesStand, FaultsAreViewed, NamesAreAll, PrefixesAreFree, RelatesAreKept, RepliesAreViewed, UnfitNamesAreUnfit};
+ghost use Rattle.soap_envelope.specs.Sizes.{UnfitBodiesAreUnfit};
 ghost use Rattle.soap_envelope.specs.Names.{addressing, anonymous_address, no_address};
 
 use crate::namespaces::{ADDRESSING, ANONYMOUS_ADDRESS, NO_ADDRESS};
@@ -25,9 +26,11 @@ pub fn replies()
 
 /// The content of a document's Body, which a view has, may be put into any reply: its names are
 /// good there and those that it has in its document, and the reply's view has the same content.
+/// Where a content doesn't fit, a reply with it doesn't either.
 pub fn bodies()
     ensures stand { BodiesStand }
     ensures named { BodiesAreNamed }
+    ensures unfit { UnfitBodiesAreUnfit }
 {}
 
 /// A fault is an envelope whose Body has one Fault alone, and whose Action is that of its subcode.

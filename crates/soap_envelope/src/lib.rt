@@ -46,4 +46,4 @@ pub use making::{reply_doc, reply_doc_with};
 pub use naming::names_fit;
 pub use refusals::SoapFault;
 pub use report::{Code, FaultReport, Sub};
-pub use taking::take_body;
+pub use taking::{return_body, take_body};

@@ -4,6 +4,7 @@ ghost use Rattle.std.specs.Prelude.{◌≡◌, ◌++◌, [], IfOk, IsTrue, OnOk}
 ghost use Rattle.std.specs.Str.{is_utf8};
 ghost use Rattle.nbfx_values.specs.Documents.{IsDocument};
 ghost use Rattle.soap_envelope.specs.Making as spec;
+ghost use Rattle.soap_envelope.specs.Sizes.{head_items};
 ghost use Rattle.soap_envelope.specs.Making.{AreTexts, IsContent, action_block, ending, envelope_items, middle, opening, relates_block, reply_items};
 
 use crate::moving::put_moved;
@@ -80,7 +81,7 @@ pub(crate) fn document(items: Items) -> Doc
 }
 
 // The action of the reply to a request.
-fn response_action(alloc: Global, action: &str) -> Result<Txt, Memory>
+pub(crate) fn response_action(alloc: Global, action: &str) -> Result<Txt, Memory>
     ensures same { IfOk result (λ text. text ≡ spec.response_action action.now) }
     ensures utf8 { IfOk result (λ text. IsTrue (is_utf8 text)) }
 {
@@ -94,6 +95,22 @@ fn response_action(alloc: Global, action: &str) -> Result<Txt, Memory>
     Ok(text)
 }
 
+// A reply with this action, up to the content of Body.
+pub(crate) fn put_head(
+    alloc: Global,
+    items: &mut Items,
+    action: Txt,
+    relates: &[Item],
+) -> Result<(), Memory>
+    ensures { OnOk result (items.new ≡ items.old ++ head_items action relates.now) }
+{
+    put_opening(alloc, items)?;
+    put_action(alloc, items, action)?;
+    put_relates(alloc, items, relates)?;
+    put_middle(alloc, items)?;
+    Ok(())
+}
+
 // A reply with this action.
 fn put_reply(
     alloc: Global,
@@ -105,10 +122,7 @@ fn put_reply(
     ensures { OnOk result
         (items.new ≡ items.old ++ envelope_items action relates.now [] body) }
 {
-    put_opening(alloc, items)?;
-    put_action(alloc, items, action)?;
-    put_relates(alloc, items, relates)?;
-    put_middle(alloc, items)?;
+    put_head(alloc, items, action, relates)?;
     put_moved(items, body)?;
     put_ending(items)?;
     Ok(())

@@ -1,8 +1,7 @@
 // Items that change place, and aren't copied.
-ghost use Rattle.std.specs.Prelude.{◌≡◌, ◌++◌, IfOk, OnOk, drop, take};
+ghost use Rattle.std.specs.Prelude.{◌≡◌, ◌++◌, OnOk, drop, take};
 
 use nbfx_values::{Item, Items};
-use std::alloc::Global;
 use unit_streams::Memory;
 
 // Puts items behind others. Want of memory leaves what was put before.
@@ -15,15 +14,19 @@ pub(crate) fn put_moved(out: &mut Items, more: Items) -> Result<(), Memory>
     Ok(())
 }
 
-// The items from a place on, up to another.
-pub(crate) fn moved(alloc: Global, items: Items, first: usize, end: usize) -> Result<Items, Memory>
-    ensures { IfOk result (λ found. found ≡ drop first (take end items)) }
+// Puts the items from a place on, up to another, behind others.
+pub(crate) fn put_part(
+    out: &mut Items,
+    items: Items,
+    first: usize,
+    end: usize,
+) -> Result<(), Memory>
+    ensures { OnOk result (out.new ≡ out.old ++ drop first (take end items)) }
 {
     let mut items = items.into_vec();
     items.truncate(end);
-    let mut found = Items::new(alloc);
     for item in items.into_iter().skip(first) {
-        found.push(item)?;
+        out.push(item)?;
     }
-    Ok(found)
+    Ok(())
 }

@@ -1,20 +1,21 @@
 //! The content of Body, taken out of its document.
 
-ghost use Rattle.std.specs.Prelude.{◌≡◌, ◌+◌, ◌≤◌, [], IfOk, IfSome, IsTrue, Some, drop, length, slice_get, take, true};
+ghost use Rattle.std.specs.Prelude.{◌≡◌, ◌+◌, ◌++◌, ◌≤◌, [], IfOk, IfSome, IsTrue, OnOk, Some, drop, length, slice_get, take, true};
 ghost use Rattle.std.specs.List.{list_all};
+ghost use Rattle.nbfx_values.specs.QuotasOf.{limits_of};
 ghost use Rattle.soap_envelope.specs.Body as spec;
 ghost use Rattle.soap_envelope.specs.Body.{behind_head, is_usual, needed, self_standing};
 ghost use Rattle.soap_envelope.specs.Children.{is_start};
-ghost use Rattle.soap_envelope.specs.Fitting.{fits, fitting};
-ghost use Rattle.soap_envelope.specs.Making.{IsContent};
+ghost use Rattle.soap_envelope.specs.Fitting.{IsPut, IsTaken};
+ghost use Rattle.soap_envelope.specs.Making.{AreTexts, IsContent, reply_items};
 ghost use Rattle.soap_envelope.specs.Parts.{root_scope};
 ghost use Rattle.soap_envelope.specs.Scopes.{declared, within};
 
-use crate::body::{behind_head, body_items, is_usual, needed_at};
+use crate::body::{behind_head, is_usual, needed_at, put_body};
 use crate::children::{behind, open_behind};
-use crate::fitting::content_fits;
 use crate::layers::Declared;
-use crate::moving::moved;
+use crate::making::{document, put_ending, put_head, response_action};
+use crate::moving::put_part;
 use nbfx_values::{Doc, Item, Items, Quotas};
 use std::alloc::Global;
 use unit_streams::Memory;
@@ -79,38 +80,42 @@ fn content_places(items: &[Item], at: usize) -> (usize, usize)
     (first, first + content_len(content))
 }
 
-// Whether the content of the Body that begins at a place fits the quotas, where its children need
-// no declaration. It is a part of its document, and most documents fit.
-fn moved_fits(alloc: Global, quotas: &Quotas, doc: &Doc, at: usize) -> Result<bool, Memory>
-    ensures { IfOk result (λ fit. fit ≡ fits quotas.now.content
-        (self_standing [] (Some 0) (behind_head (drop (at + 1) doc.now)))) }
+// Puts the content of the Body that begins at a place, whose children need no declaration. Its
+// items are moved.
+fn put_moved_body(out: &mut Items, doc: Doc, at: usize) -> Result<(), Memory>
+    requires { needed (within doc at (root_scope doc)) ≡ [] }
+    ensures { OnOk result (out.new ≡ out.old ++ spec.body_items doc (root_scope doc) at) }
 {
-    if doc.content() <= quotas.content as u64 {
-        return Ok(true);
-    }
-    let content = behind_head(behind(doc.items().as_slice(), at));
-    content_fits(alloc, quotas, &[], content)
+    let (first, end) = content_places(doc.items().as_slice(), at);
+    out.reserve(doc.items().len())?;
+    put_part(out, doc.into_items(), first, end)
 }
 
-// The content of the Body that begins at a place, where its children need no declaration and it
-// fits the quotas.
-fn moved_body(alloc: Global, quotas: &Quotas, doc: Doc, at: usize) -> Result<Option<Items>, Memory>
-    requires { needed (within doc at (root_scope doc)) ≡ [] }
-    ensures { IfOk result (λ body. body
-        ≡ fitting quotas.now.content (spec.body_items doc (root_scope doc) at)) }
+// Puts the content of the Body that begins at a place, and says whether it may fit the quotas. What
+// is moved may be put in any case.
+fn put_taken(
+    alloc: Global,
+    quotas: &Quotas,
+    out: &mut Items,
+    doc: Doc,
+    at: usize,
+) -> Result<bool, Memory>
+    requires { IsTrue (is_start (slice_get doc at)) }
+    ensures put { IfOk result (IsPut (limits_of quotas.now)
+        (spec.body_items doc (root_scope doc) at) out.old out.new) }
+    ensures content { OnOk result (IsContent (spec.body_items doc (root_scope doc) at)) }
 {
-    if !moved_fits(alloc, quotas, &doc, at)? {
-        return Ok(None);
+    if needs_nothing(alloc, doc.items().as_slice(), at)? {
+        put_moved_body(out, doc, at)?;
+        return Ok(true);
     }
-    let (first, end) = content_places(doc.items().as_slice(), at);
-    let body = moved(alloc, doc.into_items(), first, end)?;
-    Ok(Some(body))
+    put_body(alloc, quotas, out, doc.items().as_slice(), at)
 }
 
 /// The content of the Body that begins at a place of a document, as `Envelope::body` gives it,
-/// taken out of the document: None where it counts more content than the quotas admit. The items
-/// are moved. They are copied only where the root or Body declares other prefixes than those that
-/// every reply declares.
+/// taken out of the document. The items are moved. They are copied only where the root or Body
+/// declares other prefixes than those that every reply declares: None then, where the content with
+/// its declarations counts more than the quotas admit, or has more bytes in any payload.
 pub fn take_body(
     alloc: Global,
     quotas: &Quotas,
@@ -118,12 +123,41 @@ pub fn take_body(
     at: usize,
 ) -> Result<Option<Items>, Memory>
     requires { IsTrue (is_start (slice_get doc at)) }
-    ensures same { IfOk result (λ body. body
-        ≡ fitting quotas.now.content (spec.body_items doc (root_scope doc) at)) }
+    ensures same { let body = spec.body_items doc (root_scope doc) at in
+        IfOk result (IsTaken (limits_of quotas.now) body body) }
     ensures content { IfOk result (λ body. IfSome body IsContent) }
 {
-    if needs_nothing(alloc, doc.items().as_slice(), at)? {
-        return moved_body(alloc, quotas, doc, at);
+    let mut body = Items::new(alloc);
+    if put_taken(alloc, quotas, &mut body, doc, at)? {
+        Ok(Some(body))
+    } else {
+        Ok(None)
     }
-    body_items(alloc, quotas, doc.items().as_slice(), at)
+}
+
+/// The reply to a request with this action, as `reply_doc` makes it, whose Body has the content of
+/// the Body that begins at a place of the request. That is taken out of the request as by
+/// `take_body`: None where it, and so the reply, doesn't fit the quotas.
+pub fn return_body(
+    alloc: Global,
+    quotas: &Quotas,
+    action: &str,
+    relates: &Items,
+    doc: Doc,
+    at: usize,
+) -> Result<Option<Doc>, Memory>
+    requires texts { AreTexts relates.now }
+    requires starts { IsTrue (is_start (slice_get doc at)) }
+    ensures { let body = spec.body_items doc (root_scope doc) at in
+        IfOk result (IsTaken (limits_of quotas.now) body
+        (reply_items action.now relates.now body)) }
+{
+    let action = response_action(alloc, action)?;
+    let mut items = Items::new(alloc);
+    put_head(alloc, &mut items, action, relates.as_slice())?;
+    if !put_taken(alloc, quotas, &mut items, doc, at)? {
+        return Ok(None);
+    }
+    put_ending(&mut items)?;
+    Ok(Some(document(items)))
 }

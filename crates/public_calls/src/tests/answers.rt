@@ -1,5 +1,5 @@
 // A request that is kept, and services that are asked through their trait.
-use action_dispatch::{Answer, EchoService, Served, Service, answer};
+use action_dispatch::{Answer, EchoService, Measured, Served, Service, answer};
 use document_lines::read_documents;
 use duplex_server::Responder;
 use nbfx_values::{Docs, Items, Quotas};
@@ -27,7 +27,7 @@ pub(crate) fn requests(alloc: Global) -> Result<Docs, Fail> {
     }
 }
 
-fn answered(alloc: Global, docs: &Docs) -> Result<Answer, Fail> {
+fn answered(alloc: Global, docs: &Docs) -> Result<Measured, Fail> {
     let doc = docs.get(0).ok_or("no document")?;
     Ok(answer(alloc, &Quotas::usual(), &EchoService, doc)?)
 }
@@ -37,8 +37,8 @@ fn answered(alloc: Global, docs: &Docs) -> Result<Answer, Fail> {
 fn a_request_that_is_kept_is_answered(rt: HostRuntime) -> Result<(), Fail> {
     let docs = requests(rt.alloc())?;
     match answered(rt.alloc(), &docs)? {
-        Answer::Reply { doc, .. } => assert_eq!(rt; doc.items().len(), 20),
-        Answer::Nothing => return Err("no answer".into()),
+        Measured::Made(Answer::Reply { doc, .. }) => assert_eq!(rt; doc.items().len(), 20),
+        _ => return Err("no answer".into()),
     }
     Ok(())
 }

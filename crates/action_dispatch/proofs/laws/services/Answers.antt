@@ -1,9 +1,5 @@
-use Rattle.std.proofs.Common.{◌≡◌, ◌∙◌, ap, refl}
-use Rattle.action_dispatch.proofs.AskedFacts.{asks-fitting, asks-none}
+use Rattle.action_dispatch.proofs.AskedFacts.{asks_the_service}
 use Rattle.action_dispatch.proofs.laws.services.Goals as goal
 
-pub returns-clause-asked : goal.returns-clause-asked
-returns-clause-asked c = asks-fitting
-
-pub returns-clause-unasked : goal.returns-clause-unasked
-returns-clause-unasked c = asks-none
+pub returns : goal.returns
+returns c = asks_the_service

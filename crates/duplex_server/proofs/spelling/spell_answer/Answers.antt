@@ -1,38 +1,19 @@
-use Rattle.std.proofs.Common.{◌≡◌, ℕ, List, OnErr, Result, subst, rules}
-use Rattle.nbfx_encoder.specs.{declared.sender.SendState.TheVariants.Ready, Placing.Placed}
+use Rattle.std.proofs.Common.{◌≡◌, List, subst}
+use Rattle.{nbfx_values.specs.declared.content.Item.Item, nbfx_encoder.specs.Spelling.encoded}
 use Rattle.nbfx_encoder.specs.Sending.{kind_in, limits_in, mode_in, names_in, state_in}
-use Rattle.nbfx_encoder.specs.Spelling.{encoded, Unfit}
-use Rattle.{action_dispatch.specs.Refusals.unfit_fault, duplex_server.proofs.Spelled.second_try}
+use Rattle.action_dispatch.specs.Refusals.{unfit_fault}
+use Rattle.duplex_server.specs.{Owed.first_fitting, Owed.when_ready, Spelling.Spells}
 use Rattle.duplex_server.proofs.spelling.spell_answer.Goals as goal
 
-pub returns-clause-spells : goal.returns-clause-spells
-returns-clause-spells c =
+pub returns-in-Some-clause-spells : goal.returns-in-Some-clause-spells
+returns-in-Some-clause-spells c = λ document said.
     let s = c.args.sender.now in
-    let s1 = c.spell_if_fits.new.sender in
-    let s2 = c.spell_if_fits-2.new.sender in
-    let kept = c.spell_if_fits.ensures.kept in
-    let first = rw c.if-branch.false at c.in_ok-spell_if_fits.ensures.tries in
-    let ready : state_in s ≡ Ready = search rules in
-    let fault = unfit_fault c.args.relates.now in
-    let other : Result (Placed (List ℕ)) Unfit =
-    encoded (limits_in s) (kind_in s) (names_in s) fault in
-    let again : Result (Placed (List ℕ)) Unfit =
-    encoded (limits_in s1) (kind_in s1) (names_in s1) c.in_ok-fault.fault in
-    let limits = kept.limits in
-    let kind = kept.kind in
-    let names = first.2.table in
-    let is = c.in_ok-fault.ensures in
-    let same : again ≡ other = cc in
-    second_try (mode_in s) (mode_in s1) c.args.out.now.items c.spell_if_fits.new.out.items
-    c.spell_if_fits-2.new.out.items (names_in s) (names_in s1) (names_in s2) (state_in s)
-    (state_in s1) (state_in s2) (encoded (limits_in s) (kind_in s) (names_in s) c.args.doc.now)
-    other again kept.mode same ready first c.spell_if_fits-2.result
-    c.spell_if_fits-2.ensures.tries
+    let s' = c.spell_made.new.sender in
+    subst (λ (d : List Item). Spells (mode_in s) c.args.out.now.items c.spell_made.new.out.items
+    (names_in s) (names_in s') (state_in s) (state_in s')
+    (when_ready (state_in s) (first_fitting (encoded (limits_in s) (kind_in s) (names_in s) d)
+    (encoded (limits_in s) (kind_in s) (names_in s) (unfit_fault c.args.relates.now))))
+    c.spell_made.result) (rw c.in-Some.is at said) c.spell_made.ensures.spells
 
--- where the first try appended nothing, nor did the second
-pub returns-clause-unchanged : goal.returns-clause-unchanged
-returns-clause-unchanged c =
-    let first = rw c.if-branch.false at c.in_ok-spell_if_fits.ensures.tries in
-    let second = c.spell_if_fits-2 in
-    subst (λ (l : List ℕ). OnErr second.result (second.new.out.items ≡ l)) first.2.written
-    second.ensures.unchanged
+pub returns-in-None-clause-spells : goal.returns-in-None-clause-spells
+returns-in-None-clause-spells c = λ document said. c.spell_unmade.ensures.spells document (rw c.in-None.is at said)

@@ -3,12 +3,5 @@ use Rattle.soap_envelope.proofs.making.put_reply.Goals as goal
 
 pub returns : goal.returns
 returns c =
-    rw (
-      c.in_ok-put_ending.ensures,
-      c.in_ok-put_moved.ensures,
-      c.in_ok-put_middle.ensures,
-      c.in_ok-put_relates.ensures,
-      c.in_ok-put_action.ensures,
-      c.in_ok-put_opening.ensures,
-    )
+    rw (c.in_ok-put_ending.ensures, c.in_ok-put_moved.ensures, c.in_ok-put_head.ensures)
     (simp append_assoc)

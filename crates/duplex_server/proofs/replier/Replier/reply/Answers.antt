@@ -1,4 +1,4 @@
-use Rattle.std.proofs.Common.{ℕ, length, sym, ap, ◌∙◌}
+use Rattle.std.proofs.Common.{ℕ, length, sym, refl, ap, ◌∙◌}
 use Rattle.nbfx_values.specs.QuotasOf.{limits_of}
 use Rattle.duplex_server.specs.declared.requests.Request.TheVariants.{Received}
 use Rattle.duplex_server.specs.Owed.{behind_reply, payload_of, Replying, told_reply}
@@ -20,4 +20,4 @@ returns-in_default-clause-answered g c = λ first requests document is h.
 
 pub returns-clause-answered : goal.returns-clause-answered
 returns-clause-answered g c = λ first requests document is h.
-    c.send.ensures.answered first requests document (is ∙ c.in-Reply.is) h
+    c.send.ensures.answered first requests document c.in-Reply.doc refl (is ∙ c.in-Reply.is) h

@@ -18,8 +18,7 @@ returns-then-not-is_going-clause-heard g c = λ first events heard.
             written_is = e.written;
             held_is = e.held;
             faults_are = e.counted;
-            settled =
-                e.settled;
+            settled = e.settled;
           })
           heard.answered;
     }
@@ -48,8 +47,7 @@ returns-then-not-is_going-2-clause-heard g c = λ first events heard.
             written_is = e.written;
             held_is = e.held;
             faults_are = e.counted;
-            settled =
-                e.settled;
+            settled = e.settled;
           })
           (rw w.sender (w.answered first events c.args.self.now.sender heard.answered));
     })

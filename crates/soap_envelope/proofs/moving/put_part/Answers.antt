@@ -1,7 +1,7 @@
-use Rattle.std.proofs.Common.{◌≡◌, length, take, sym, ap, ◌∙◌, map-id}
+use Rattle.std.proofs.Common.{◌≡◌, ◌++◌, length, take, sym, ap, ◌∙◌, map-id}
 use Rattle.std.proofs.lemmas.Iterator.Adapters.{YieldsList-from_skip, YieldsList-from_vec}
 use Rattle.std.proofs.lemmas.Iterator.Consumers.{YieldsList-at, YieldsList-end}
-use Rattle.soap_envelope.proofs.moving.moved.Goals as goal
+use Rattle.soap_envelope.proofs.moving.put_part.Goals as goal
 
 pub returns : goal.returns
 returns c =
@@ -18,4 +18,5 @@ returns c =
     let all =
     YieldsList-end behind c.loop-item.yielded c.loop-item.item-iterator c.loop-item.yielded_by
     c.next.result c.next.new.self c.in-None.is c.next.ensures.steps in
-    c.loop-item.invariant ∙ sym (map-id c.loop-item.yielded) ∙ all.0
+    c.loop-item.invariant
+    ∙ ap (λ l. c.args.out.now ++ l) (sym (map-id c.loop-item.yielded) ∙ all.0)

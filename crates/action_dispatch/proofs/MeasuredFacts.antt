@@ -1,0 +1,64 @@
+-- What a service says decides the answer, however the content of Body comes to it.
+use Rattle.std.proofs.Common.{◌≡◌, ℕ, false, List, [], IfOk, Result, sym, refl, ap, ◌∙◌, subst}
+use Rattle.{unit_streams.specs.declared.memory.Memory.Memory, least_payloads.specs.Least.may_fit}
+use Rattle.nbfx_values.specs.{declared.content.Item.Item, Limits.Limits}
+use Rattle.soap_envelope.proofs.ReplySizes.{unfit_bodies_are_unfit}
+use Rattle.soap_envelope.specs.{Body.body_items, Making.reply_items, Parts.root_scope}
+use Rattle.action_dispatch.specs.declared.answers.Answer.{Answer, TheVariants.Reply}
+use Rattle.action_dispatch.specs.declared.answers.Measured.{Measured, TheVariants.TooLarge}
+use Rattle.action_dispatch.specs.declared.{planning.Plan.TheVariants.Asks, service.Served.Served}
+use Rattle.action_dispatch.specs.Answers.{answer_by, answered, IsMeasured, Serves}
+use Rattle.action_dispatch.specs.Planning.{Leads}
+use Rattle.action_dispatch.specs.Services.{Ignores, IsTooLarge, RepliesTooMuch, Returns}
+use Rattle.action_dispatch.specs.declared.service.Served.TheVariants as said
+
+-- a reply whose content doesn't fit isn't made
+pub too_large : (limits : Limits) (action : List ℕ) (relates body : List Item)
+    → may_fit limits body ≡ false
+    → IsMeasured limits (Reply (reply_items action relates body) relates) (TooLarge relates)
+too_large limits action relates body unfit = (
+  reply_items action relates body,
+  refl,
+  unfit_bodies_are_unfit limits action relates body unfit,
+)
+
+-- a service that doesn't use the content says what it says to none
+pub answered_unread : (serves : Serves) (action : List ℕ) (relates body : List Item)
+    (answer : Answer) → Ignores serves
+    → answer ≡ answer_by action relates (serves action [])
+    → answer ≡ answer_by action relates (serves action body)
+answered_unread serves action relates body answer ignores is =
+    is ∙ ap (answer_by action relates) (sym (ignores action body))
+
+-- a service that gives the content back is answered by a reply with it
+pub measured_returned : (serves : Serves) (limits : Limits) (action : List ℕ)
+    (relates body : List Item) (measured : Result Measured Memory) → Returns serves
+    → IfOk measured (IsMeasured limits (Reply (reply_items action relates body) relates))
+    → IfOk measured (IsMeasured limits (answer_by action relates (serves action body)))
+measured_returned serves limits action relates body measured returns h =
+    subst (λ (said : Served). IfOk measured (IsMeasured limits (answer_by action relates said)))
+    (sym (returns action body)) h
+
+-- nor is one that is too large whatever the content
+pub measured_unasked : (serves : Serves) (limits : Limits) (action : List ℕ)
+    (relates body : List Item) → RepliesTooMuch limits serves action
+    → IsMeasured limits (answer_by action relates (serves action body)) (TooLarge relates)
+measured_unasked serves limits action relates body unfit =
+    by (serves action body) (unfit body)
+  where
+    by : (what : Served) → IsTooLarge limits what
+        → IsMeasured limits (answer_by action relates what) (TooLarge relates)
+    by (said.Reply content) h = too_large limits action relates content h
+    by said.Nothing h = absurd h
+    by said.Unknown h = absurd h
+    by (said.Refuse reason) h = absurd h
+
+-- an answer that is measured is the one that the plan leads to
+pub measured_asked : (serves : Serves) (limits : Limits) (doc : List Item) (action : List ℕ)
+    (relates : List Item) (at : ℕ) (measured : Result Measured Memory)
+    → Leads limits doc (Asks action relates at) serves
+    → IfOk measured (IsMeasured limits
+    (answer_by action relates (serves action (body_items doc (root_scope doc) at))))
+    → IfOk measured (IsMeasured limits (answered serves doc))
+measured_asked serves limits doc action relates at measured leads h =
+    subst (λ (answer : Answer). IfOk measured (IsMeasured limits answer)) (sym leads) h

@@ -1,0 +1,2 @@
+-- literal items
+mod Worked

@@ -1,0 +1,56 @@
+-- A reply counts at least what the content of its Body does.
+use Rattle.std.proofs.Common.{◌≡◌, ℕ, ◌≤◌, true, false, List, [], ◌++◌, nat_le, sum_by, inl, inr}
+use Rattle.std.proofs.Common.{append_assoc, le_trans, arith, le-leb, leb-true}
+use Rattle.std.proofs.lemmas.{Bool.and_parts, Bool.cases_Bool, List.Sums.sum_by-append}
+use Rattle.nbfx_values.specs.declared.content.Item.{Item}
+use Rattle.nbfx_values.specs.Measures.{content_of, item_content}
+use Rattle.least_payloads.specs.Least.{least_of_item, least_payload, may_fit}
+use Rattle.soap_envelope.specs.Making.{action_block, ending, envelope_items, middle, opening}
+use Rattle.soap_envelope.specs.Making.{relates_block, reply_items, response_action}
+use Rattle.soap_envelope.specs.Sizes.{head_items, UnfitBodiesAreUnfit}
+
+-- what stands between others counts no more than all
+pub within-least : (f : Item → ℕ) (before items behind : List Item)
+    → sum_by f items ≤ sum_by f (before ++ (items ++ behind))
+within-least f before items behind =
+    rw (sum_by-append f before (items ++ behind))
+    (rw (sum_by-append f items behind) (omega arith))
+
+pub behind-least : (f : Item → ℕ) (before items : List Item)
+    → sum_by f items ≤ sum_by f (before ++ items)
+behind-least f before items = rw (sum_by-append f before items) (omega arith)
+
+reply-least : (f : Item → ℕ) (action : List ℕ) (relates body : List Item)
+    → sum_by f body ≤ sum_by f (reply_items action relates body)
+reply-least f action relates body =
+    let block = action_block (response_action action) in
+    let behind = middle ++ (body ++ ending) in
+    let inner = within-least f middle body ending in
+    let related = behind-least f (relates_block relates) behind in
+    let around = behind-least f block (relates_block relates ++ behind) in
+    let all = behind-least f opening (block ++ (relates_block relates ++ behind)) in
+    le_trans inner (le_trans related (le_trans around all))
+
+-- a reply that is put in parts
+pub whole_reply : (action : List ℕ) (relates body none head mid made : List Item) → none ≡ []
+    → head ≡ none ++ head_items action relates → mid ≡ head ++ body → made ≡ mid ++ ending
+    → made ≡ envelope_items action relates [] body
+whole_reply action relates body none head mid made n h m e =
+    rw (e, m, h, n) (simp append_assoc)
+
+pub unfit_bodies_are_unfit : UnfitBodiesAreUnfit
+unfit_bodies_are_unfit limits action relates body unfit =
+    let reply = reply_items action relates body in
+    elim (cases_Bool (may_fit limits reply)) [
+      | inl fit ↦
+          let parts = and_parts (nat_le (content_of reply) limits.content)
+          (nat_le (least_payload reply) limits.payload) fit in
+          let content = leb-true (content_of reply) limits.content parts.0 in
+          let payload = leb-true (least_payload reply) limits.payload parts.1 in
+          let least = reply-least least_of_item action relates body in
+          let counts = reply-least item_content action relates body in
+          let small = le-leb (least_payload body) limits.payload (omega (arith, payload, least)) in
+          let few = le-leb (content_of body) limits.content (omega (arith, content, counts)) in
+          cc (rw (small, few) at unfit)
+      | inr other ↦ other
+    ]
