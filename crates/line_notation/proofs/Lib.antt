@@ -3,10 +3,10 @@ pub mod OnLiterals
 pub mod Worked
 pub mod WorkedLines
 pub mod WorkedRefusals
--- putting: several puts as one (PutsFacts), numbers (DecimalFacts), quoted texts (QuotedFacts),
--- items' texts
--- (PrintFacts)
+-- putting: several puts as one (PutsFacts), numbers (DecimalFacts), quoted texts (EscapeFacts,
+-- QuotedFacts), items' texts (PrintFacts)
 pub mod DecimalFacts
+pub mod EscapeFacts
 pub mod PrintFacts
 pub mod PutsFacts
 pub mod QuotedFacts

@@ -19,6 +19,7 @@
 mod arrays;
 mod decimals;
 mod digits;
+mod escapes;
 mod judged;
 pub mod laws;
 mod line;

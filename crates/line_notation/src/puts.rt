@@ -1,6 +1,5 @@
 // Words that go out.
 ghost use Rattle.std.specs.Prelude.{◌≡◌, ◌≤◌, ◌<◌, ◌^◌, ◌∷◌, ◌++◌, ◌+◌, ◌*◌, [], false, true, length, take, take_while, All};
-ghost use Rattle.std.specs.Fmt.{digit_glyph};
 ghost use Rattle.std.specs.List.{flat_map, list_all};
 ghost use Rattle.hex.specs.Hex.{encode_lower};
 ghost use Rattle.io_edges.specs.Puts.{Puts};
@@ -10,6 +9,7 @@ ghost use Rattle.line_notation.specs.Quoted.{is_plain, quoted, quoted_byte};
 ghost use Rattle.line_notation.specs.Scalars.{digits_in_quotes, identifier_word, letter_word};
 
 use crate::decimals::{put_integer, put_natural};
+use crate::escapes::shown;
 use io_edges::{Sink, SinkFault};
 use uuid::Uuid;
 
@@ -54,18 +54,6 @@ pub fn is_plain(byte: u8) -> bool
     ensures { result ≡ is_plain byte }
 {
     32 <= byte && byte < 127 && byte != b'"' && byte != b'\\'
-}
-
-// The digit of four bits.
-fn digit(bits: u8) -> u8
-    requires { bits < 16 }
-    ensures { result ≡ digit_glyph false bits }
-{
-    if bits < 10 {
-        b'0' + bits
-    } else {
-        b'a' + (bits - 10)
-    }
 }
 
 // Whether a quoted text shows each byte as it is. No byte ends the loop, so that it goes over many
@@ -147,23 +135,21 @@ fn are_plain(bytes: &[u8]) -> bool
 // So many bytes of a text are spelled on the stack and then put at once.
 const PIECE: usize = 64;
 
-// Spells a few bytes as a quoted text shows them, at the front of a piece, and answers how far.
+// Spells a few bytes as a quoted text shows them, at the front of a piece, and answers how far. A
+// piece has one byte more, since all four bytes are written that show a byte.
 fn spell(bytes: &[u8], piece: &mut [u8]) -> usize
-    requires { 3 * length bytes.now ≤ length piece.old }
+    requires { 3 * length bytes.now + 1 ≤ length piece.old }
     ensures within { result ≤ length piece.new }
     ensures spelled { take result piece.new ≡ flat_map quoted_byte bytes.now }
 {
     let mut end = 0;
     for byte in bytes {
-        if is_plain(*byte) {
-            piece[end] = *byte;
-            end += 1;
-        } else {
-            piece[end] = b'\\';
-            piece[end + 1] = digit(*byte / 16);
-            piece[end + 2] = digit(*byte % 16);
-            end += 3;
-        }
+        let shown = shown(*byte);
+        piece[end] = shown[0];
+        piece[end + 1] = shown[1];
+        piece[end + 2] = shown[2];
+        piece[end + 3] = shown[3];
+        end += shown[3] as usize;
     }
     end
 }
@@ -174,7 +160,7 @@ fn put_piece<K: Sink>(bytes: &[u8], sink: &mut K) -> Result<(), SinkFault>
     ensures { Puts K.written K.held K.faults K.may_want sink.old sink.new
         (flat_map quoted_byte bytes.now) result }
 {
-    let mut piece = [0; 3 * PIECE];
+    let mut piece = [0; 3 * PIECE + 1];
     let end = spell(bytes, &mut piece);
     put_bytes(&piece[..end], sink)
 }

@@ -1,5 +1,5 @@
 // The content of Body, so that it means the same in any other place.
-ghost use Rattle.std.specs.Prelude.{◌≡◌, ◌++◌, IfOk, OnOk, Some, map};
+ghost use Rattle.std.specs.Prelude.{◌≡◌, ◌++◌, [], IfOk, List, OnOk, Some, map, true};
 ghost use Rattle.nbfx_values.specs.QuotasOf.{limits_of};
 ghost use Rattle.least_payloads.specs.Least.{may_fit};
 ghost use Rattle.soap_envelope.specs.Body as spec;
@@ -7,7 +7,7 @@ ghost use Rattle.soap_envelope.specs.Body.{attribute_of, missing, xmlns_of};
 ghost use Rattle.soap_envelope.specs.Fitting.{IsPut, WereCounted, fitting};
 ghost use Rattle.soap_envelope.specs.Layers.{kept, layer_of, shown};
 ghost use Rattle.soap_envelope.specs.Parts.{root_scope};
-ghost use Rattle.soap_envelope.specs.Scopes.{within};
+ghost use Rattle.soap_envelope.specs.Scopes.{Declaration, within};
 
 use crate::children::{behind, open_behind};
 use crate::fitting::body_may_fit;
@@ -67,11 +67,7 @@ fn unusual<'d>(
 }
 
 // The declarations that an element in the Body that begins at a place may rest on.
-pub(crate) fn needed_at<'d>(
-    alloc: Global,
-    items: &'d [Item],
-    at: usize,
-) -> Result<Vec<Declared<'d>>, Memory>
+fn needed_at<'d>(alloc: Global, items: &'d [Item], at: usize) -> Result<Vec<Declared<'d>>, Memory>
     ensures { IfOk result
         (λ needs. layer_of needs ≡ spec.needed (within items.now at (root_scope items.now))) }
 {
@@ -236,6 +232,15 @@ pub(crate) fn behind_head(items: &[Item]) -> &[Item]
     &[]
 }
 
+// Whether an element ends where these items begin, which are behind its head.
+#[inline(always)]
+fn is_empty(content: &[Item]) -> bool
+    ensures { result ≡ true → (needs : List Declaration)
+        → spec.self_standing needs (Some 0) content.now ≡ [] }
+{
+    matches!(content.first(), None | Some(Item::Close))
+}
+
 // Puts the content of the Body that begins at a place, so that it means the same in any other
 // place, where it may fit the quotas, and says whether it may.
 pub(crate) fn put_body(
@@ -250,8 +255,11 @@ pub(crate) fn put_body(
     ensures put { IfOk result (IsPut (limits_of quotas.now)
         (spec.body_items items.now (root_scope items.now) at) out.old out.new) }
 {
-    let needs = needed_at(alloc, items, at)?;
     let content = behind_head(behind(items, at));
+    if is_empty(content) {
+        return Ok(true);
+    }
+    let needs = needed_at(alloc, items, at)?;
     if !body_may_fit(alloc, quotas, needs.as_slice(), content)? {
         return Ok(false);
     }

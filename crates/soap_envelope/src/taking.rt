@@ -11,7 +11,7 @@ ghost use Rattle.soap_envelope.specs.Making.{AreTexts, IsContent, reply_items};
 ghost use Rattle.soap_envelope.specs.Parts.{root_scope};
 ghost use Rattle.soap_envelope.specs.Scopes.{declared, within};
 
-use crate::body::{behind_head, is_usual, needed_at, put_body};
+use crate::body::{behind_head, is_usual, put_body};
 use crate::children::{behind, open_behind};
 use crate::layers::Declared;
 use crate::making::{document, put_ending, put_head, response_action};
@@ -40,18 +40,13 @@ fn declares_the_usual(behind: &[Item]) -> bool
     true
 }
 
-// Whether children of the Body that begins at a place need no declaration. Most don't, which is
-// seen without memory.
+// Whether children of the Body that begins at a place need no declaration, since the root and Body
+// declare only what every reply does.
 #[tactic(auto, using(crate::proofs::Usual::needs_none))]
-fn needs_nothing(alloc: Global, items: &[Item], at: usize) -> Result<bool, Memory>
-    ensures { IfOk result (λ nothing. nothing ≡ true
-        → needed (within items.now at (root_scope items.now)) ≡ []) }
+fn needs_nothing(items: &[Item], at: usize) -> bool
+    ensures { result ≡ true → needed (within items.now at (root_scope items.now)) ≡ [] }
 {
-    if declares_the_usual(behind(items, 0)) && declares_the_usual(behind(items, at)) {
-        return Ok(true);
-    }
-    let needs = needed_at(alloc, items, at)?;
-    Ok(needs.is_empty())
+    declares_the_usual(behind(items, 0)) && declares_the_usual(behind(items, at))
 }
 
 // How many items stand before the end of the element that holds them.
@@ -105,7 +100,7 @@ fn put_taken(
         (spec.body_items doc (root_scope doc) at) out.old out.new) }
     ensures content { OnOk result (IsContent (spec.body_items doc (root_scope doc) at)) }
 {
-    if needs_nothing(alloc, doc.items().as_slice(), at)? {
+    if needs_nothing(doc.items().as_slice(), at) {
         put_moved_body(out, doc, at)?;
         return Ok(true);
     }

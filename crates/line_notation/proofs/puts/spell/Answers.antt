@@ -1,84 +1,97 @@
-use Rattle.std.proofs.Common.{◌≡◌, ◌<◌, ◌≤◌, ◌+◌, ◌*◌, ◌/◌, ◌%◌, ◌++◌, ◌∷◌, [], ◌∙◌, ℕ, List, true}
-use Rattle.std.proofs.Common.{false, length, take, get_or, refl, set, sym, ap, arith, flat_map}
-use Rattle.std.specs.Fmt.{digit_glyph}
-use Rattle.std.proofs.lemmas.List.{append_assoc, flat_map_more, length-set, take_all, take_more}
-use Rattle.std.proofs.lemmas.List.{take_more_set}
-use Rattle.line_notation.specs.Quoted.{is_plain, quoted_byte}
-use Rattle.line_notation.proofs.QuotedFacts.{quoted_byte-other, quoted_byte-plain}
+use Rattle.std.proofs.Common.{◌≡◌, ◌<◌, ◌≤◌, ◌+◌, ◌*◌, ◌++◌, ◌∷◌, [], ◌∙◌, ℕ, List, zero, suc}
+use Rattle.std.proofs.Common.{length, take, get_or, slice_index, refl, set, sym, ap, arith, flat_map}
+use Rattle.std.proofs.lemmas.List.{append_assoc, flat_map_more, length-set, take-take, take_all}
+use Rattle.std.proofs.lemmas.List.{take_more, take_more_set}
+use Rattle.line_notation.specs.Quoted.{quoted_byte}
 use Rattle.line_notation.proofs.puts.spell.Goals as goal
-use Rattle.line_notation.proofs.puts.spell.Goals.{else-is_plain, then-is_plain}
 
-module _ (bytes piece : List ℕ) (i end b : ℕ) (there : i < length bytes)
-    (is : b ≡ get_or bytes i 0) (room : 3 * length bytes ≤ length piece) (within : end ≤ 3 * i)
-    (so_far : take end piece ≡ flat_map quoted_byte (take i bytes)) where
-  more : flat_map quoted_byte (take i bytes) ++ quoted_byte b
-      ≡ flat_map quoted_byte (take (i + 1) bytes)
-  more = flat_map_more quoted_byte [] (take i bytes) b
-      ∙ ap (λ x. flat_map quoted_byte (take i bytes ++ x ∷ [])) is
-      ∙ ap (flat_map quoted_byte) (sym (take_more bytes i 0 there))
+-- the first bytes of a list's front and of what is behind it
+take_behind : (end n : ℕ) (xs ys : List ℕ) → end ≤ length xs
+    → take (end + n) (take end xs ++ ys) ≡ take end xs ++ take n ys
+take_behind zero n xs ys within = let e : 0 + n ≡ n = omega arith in rw e refl
+take_behind (suc end) n [] ys within = absurd (omega arith)
+take_behind (suc end) n (x ∷ xs) ys within =
+    let e : suc end + n ≡ suc (end + n) = omega arith in
+    rw e (ap (λ l. x ∷ l) (take_behind end n xs ys (omega arith)))
 
-  -- a byte as it is
-  one : is_plain b ≡ true
-      → take (end + 1) (set piece end b) ≡ flat_map quoted_byte (take (i + 1) bytes)
-  one plain = take_more_set piece end b (omega arith) ∙ ap (λ xs. xs ++ b ∷ []) so_far
-      ∙ ap (λ xs. flat_map quoted_byte (take i bytes) ++ xs) (sym (quoted_byte-plain b plain))
-      ∙ more
+of_four : (s : List ℕ) → length s ≡ 4
+    → get_or s 0 0 ∷ get_or s 1 0 ∷ get_or s 2 0 ∷ get_or s 3 0 ∷ [] ≡ s
+of_four [] len = absurd (omega arith)
+of_four (a ∷ []) len = absurd (omega arith)
+of_four (a ∷ b ∷ []) len = absurd (omega arith)
+of_four (a ∷ b ∷ c ∷ []) len = absurd (omega arith)
+of_four (a ∷ b ∷ c ∷ d ∷ []) len = refl
+of_four (a ∷ b ∷ c ∷ d ∷ e ∷ s) len = absurd (omega arith)
 
-  -- a backslash and two digits
-  three : (high low : ℕ) → is_plain b ≡ false → high ≡ digit_glyph false (b / 16)
-      → low ≡ digit_glyph false (b % 16)
-      → take (end + 3) (set (set (set piece end 92) (end + 1) high) (end + 2) low)
-      ≡ flat_map quoted_byte (take (i + 1) bytes)
-  three high low other high_is low_is =
-      let first = set piece end 92 in
-      let second = set first (end + 1) high in
-      let front = flat_map quoted_byte (take i bytes) in
-      let long_first : length first ≡ length piece = length-set piece end 92 in
-      let long_second : length second ≡ length first = length-set first (end + 1) high in
-      let at_first = take_more_set piece end 92 (omega arith) in
-      let at_second : take (end + 1 + 1) second ≡ take (end + 1) first ++ high ∷ [] =
-      take_more_set first (end + 1) high (omega arith) in
-      let third = set second (end + 2) low in
-      let at_third : take (end + 2 + 1) third ≡ take (end + 2) second ++ low ∷ [] =
-      take_more_set second (end + 2) low (omega arith) in
-      let two : end + 1 + 1 ≡ end + 2 = omega arith in
-      let all : end + 2 + 1 ≡ end + 3 = omega arith in
-      sym (ap (λ n. take n third) all) ∙ at_third
-      ∙ ap (λ xs. xs ++ low ∷ []) (sym (ap (λ n. take n second) two) ∙ at_second
-      ∙ ap (λ xs. xs ++ high ∷ []) (at_first ∙ ap (λ xs. xs ++ 92 ∷ []) so_far))
-      ∙ joined front high low ∙ ap (λ xs. front ++ xs) spelled ∙ more
-    where
-      joined : (front : List ℕ) (high low : ℕ)
-          → ((front ++ 92 ∷ []) ++ high ∷ []) ++ low ∷ [] ≡ front ++ (92 ∷ high ∷ low ∷ [])
-      joined front high low = simp append_assoc
+-- four bytes that are written one after the other
+four : (piece : List ℕ) (end a b c d : ℕ) → end + 4 ≤ length piece
+    → take (end + 4) (set (set (set (set piece end a) (end + 1) b) (end + 2) c) (end + 3) d)
+    ≡ take end piece ++ (a ∷ b ∷ c ∷ d ∷ [])
+four piece end a b c d room =
+    let first = set piece end a in
+    let second = set first (end + 1) b in
+    let third = set second (end + 2) c in
+    let fourth = set third (end + 3) d in
+    let long_first : length first ≡ length piece = length-set piece end a in
+    let long_second : length second ≡ length first = length-set first (end + 1) b in
+    let long_third : length third ≡ length second = length-set second (end + 2) c in
+    let at_first = take_more_set piece end a (omega arith) in
+    let at_second : take (end + 1 + 1) second ≡ take (end + 1) first ++ b ∷ [] =
+    take_more_set first (end + 1) b (omega arith) in
+    let at_third : take (end + 2 + 1) third ≡ take (end + 2) second ++ c ∷ [] =
+    take_more_set second (end + 2) c (omega arith) in
+    let at_fourth : take (end + 3 + 1) fourth ≡ take (end + 3) third ++ d ∷ [] =
+    take_more_set third (end + 3) d (omega arith) in
+    let two : end + 1 + 1 ≡ end + 2 = omega arith in
+    let three : end + 2 + 1 ≡ end + 3 = omega arith in
+    let all : end + 3 + 1 ≡ end + 4 = omega arith in
+    sym (ap (λ n. take n fourth) all) ∙ at_fourth
+    ∙ ap (λ xs. xs ++ d ∷ []) (sym (ap (λ n. take n third) three) ∙ at_third
+    ∙ ap (λ xs. xs ++ c ∷ []) (sym (ap (λ n. take n second) two) ∙ at_second
+    ∙ ap (λ xs. xs ++ b ∷ []) at_first))
+    ∙ joined (take end piece) a b c d
+  where
+    joined : (front : List ℕ) (a b c d : ℕ)
+        → (((front ++ a ∷ []) ++ b ∷ []) ++ c ∷ []) ++ d ∷ [] ≡ front ++ (a ∷ b ∷ c ∷ d ∷ [])
+    joined front a b c d = simp append_assoc
 
-      spelled : 92 ∷ high ∷ low ∷ [] ≡ quoted_byte b
-      spelled = rw (high_is, low_is) (sym (quoted_byte-other b other))
+-- a byte more is spelled
+more_spelled : (bytes piece shown : List ℕ) (i end b : ℕ) → i < length bytes → b ≡ get_or bytes i 0
+    → end + 4 ≤ length piece → take end piece ≡ flat_map quoted_byte (take i bytes)
+    → length shown ≡ 4 → slice_index shown 3 ≤ 3 → take (slice_index shown 3) shown ≡ quoted_byte b
+    → take (end + slice_index shown 3) (set (set (set (set piece end (get_or shown 0 0)) (end + 1)
+    (get_or shown 1 0)) (end + 2) (get_or shown 2 0)) (end + 3) (get_or shown 3 0))
+    ≡ flat_map quoted_byte (take (i + 1) bytes)
+more_spelled bytes piece shown i end b there is room so_far len few shows =
+    let n = slice_index shown 3 in
+    let front = flat_map quoted_byte (take i bytes) in
+    let a = get_or shown 0 0 in
+    let last = set (set (set (set piece end a) (end + 1) (get_or shown 1 0)) (end + 2)
+    (get_or shown 2 0)) (end + 3) (get_or shown 3 0) in
+    sym (take-take (end + n) (end + 4) last (omega (arith, few)))
+    ∙ ap (λ xs. take (end + n) xs) (four piece end a (get_or shown 1 0) (get_or shown 2 0)
+    (get_or shown 3 0) room ∙ ap (λ xs. take end piece ++ xs) (of_four shown len))
+    ∙ take_behind end n piece shown (omega arith)
+    ∙ ap (λ xs. xs ++ take n shown) so_far ∙ ap (λ xs. front ++ xs) shows
+    ∙ flat_map_more quoted_byte [] (take i bytes) b
+    ∙ ap (λ x. flat_map quoted_byte (take i bytes ++ x ∷ [])) is
+    ∙ ap (flat_map quoted_byte) (sym (take_more bytes i 0 there))
 
 pub loop-byte-preserved : goal.loop-byte-preserved
 loop-byte-preserved c =
     let l = c.loop-byte in
     let bytes = c.args.bytes.now in
-    let room : 3 * length bytes ≤ length l.piece = omega (arith, c.requires, l.auto.piece) in
-    let b = get_or bytes l.byte-index 0 in
+    let room : 3 * length bytes + 1 ≤ length l.piece = omega (arith, c.requires, l.auto.piece) in
+    let shown = c.shown-shown.ensures in
     let within = l.invariant.within in
-    elim c.if-is_plain.branch [
-      | then-is_plain w ↦
-          rw (w.piece-is, w.end-is) (record {
-            within = omega (arith, within);
-            spelled = one bytes l.piece l.byte-index l.end b c.loop-byte-test.true refl room within
-                l.invariant.spelled (sym c.is_plain.ensures ∙ w.if-is_plain.true);
-          })
-      | else-is_plain w ↦
-          rw (w.piece-is, w.end-is) (record {
-            within = omega (arith, within);
-            spelled = three bytes l.piece l.byte-index l.end b c.loop-byte-test.true refl room
-                within
-                l.invariant.spelled w.digit.result w.digit-else-is_plain.result
-                (sym c.is_plain.ensures ∙ w.if-is_plain.false) w.digit.ensures
-                w.digit-else-is_plain.ensures;
-          })
-    ]
+    let there = c.loop-byte-test.true in
+    let few = shown.few in
+    record {
+      within = omega (arith, within, few);
+      spelled = more_spelled bytes l.piece c.shown-shown.result l.byte-index l.end
+          (get_or bytes l.byte-index 0) there refl (omega (arith, within, there, room))
+          l.invariant.spelled shown.len few shown.shown;
+    }
 
 pub returns-clause-spelled : goal.returns-clause-spelled
 returns-clause-spelled c =

@@ -6,8 +6,8 @@ where_ok : {A E : Type 0} (result : Result A E) (P : Type 0) → P → OnOk resu
 where_ok (Ok a) P h = h
 where_ok (Err e) P h = tt
 
-pub returns-then-branch-clause-content : goal.returns-then-branch-clause-content
-returns-then-branch-clause-content c =
+pub returns-then-needs_nothing-clause-content : goal.returns-then-needs_nothing-clause-content
+returns-then-needs_nothing-clause-content c =
     body-content c.args.doc c.args.at c.items.ensures.document c.requires
 
 pub returns-clause-content : goal.returns-clause-content
