@@ -1,6 +1,6 @@
 -- Input of a few lines: what is written of it, and why it is refused, by computation alone.
 use Rattle.std.proofs.Common.{◌≡◌, ℕ, List, [], ◌∷◌, ◌++◌, map, Some, None, codes, Option, refl}
-use Rattle.std.specs.{Prelude.⊤, Char.encode_utf8}
+use Rattle.std.{proofs.Common.inl, proofs.Common.inr, specs.Prelude.⊤, specs.Char.encode_utf8}
 use Rattle.unit_streams.specs.{Grammar.peel, Grammar.peeled, Grammar.standing, Judging.refusal_at}
 use Rattle.unit_streams.specs.Judging.{ending_at, event_at, history, history_from, offence}
 use Rattle.unit_streams.specs.Tellers.{report, state_behind, told_along}
@@ -13,7 +13,7 @@ use Rattle.nbfx_encoder.specs.declared.faults.EncodeFault.TheVariants.{TooDeep}
 use Rattle.line_notation.proofs.OnLiterals.{lines_on_literals}
 use Rattle.line_notation.specs.declared.reader.LineKind.TheVariants.{Cut, NotALine, OutOfPlace}
 use Rattle.line_notation.specs.declared.reader.LineKind.TheVariants.{WrongCount}
-use Rattle.document_lines.specs.declared.InputFault.{InputFault}
+use Rattle.document_lines.specs.{declared.InputFault.InputFault, Refused.RefusesLine}
 use Rattle.document_lines.specs.declared.InputFault.TheVariants.{Line, TooLong, Unfit}
 use Rattle.document_lines.specs.Input.{envelopes_and_end, lines_of_documents, Settings}
 
@@ -116,3 +116,61 @@ too_long : AreWritten (limits 65536 4 2048 262144 2048 19) Session Duplex (
     [])
 unfolding input_on_literals
 too_long = refl
+
+-- ---- why a line is refused
+
+abbrev first_line : List ℕ
+first_line = codes "start \"\" \"x\""
+
+abbrev lines_of_one : List (List ℕ)
+lines_of_one = first_line ∷ codes "close" ∷ []
+
+-- it has no form, or may not stand there
+no_line : RefusesLine Duplex (codes "start \"\" x\n") [] (codes "start \"\" x" ∷ []) NotALine
+unfolding input_on_literals
+no_line = record { line = codes "start \"\" x"; rest = []; next = refl; bad = refl }
+
+out_of_place : RefusesLine Duplex (one ++ codes "close\n") lines_of_one (codes "close" ∷ [])
+    OutOfPlace
+unfolding input_on_literals
+out_of_place = record { line = codes "close"; rest = []; next = refl; bad = refl }
+
+-- it begins a second document in singleton mode, or would begin the only one
+another : RefusesLine Singleton (one ++ one) lines_of_one lines_of_one WrongCount
+unfolding input_on_literals
+another = inl (record {
+  line = first_line;
+  rest = codes "close" ∷ [];
+  next = refl;
+  alone = refl;
+  one = refl;
+  between = refl;
+  good = refl;
+  begins = refl;
+})
+
+without_any : RefusesLine Singleton (codes "\n") ([] ∷ []) [] WrongCount
+unfolding input_on_literals
+without_any = inr (record {
+  none_left = refl;
+  no_bytes = refl;
+  alone = refl;
+  none = refl;
+  between = refl;
+})
+
+-- the input ends within a document, or within a line; not behind the last line of a document
+within_document : RefusesLine Duplex (first_line ++ codes "\n") (first_line ∷ []) [] Cut
+unfolding input_on_literals
+within_document = record { none_left = refl; within = inl refl }
+
+within_line : RefusesLine Duplex (codes "start") [] [] Cut
+unfolding input_on_literals
+within_line = record { none_left = refl; within = inr (λ e. cc) }
+
+not_within : RefusesLine Duplex one lines_of_one [] Cut → ⊥
+unfolding input_on_literals
+not_within h = elim h.within [
+  | inl begun ↦ cc
+  | inr more ↦ more refl
+]

@@ -1,9 +1,10 @@
 -- What is written of any input, and why it is refused.
-use Rattle.std.proofs.Common.{◌≡◌, ℕ, ◌+◌, ◌≤◌, Bool, true, false, not, ◌&&◌, ◌||◌, List, [], ◌∷◌}
-use Rattle.std.proofs.Common.{◌++◌, length, take, drop, if◌then◌else◌, nat_lt, ◌==◌, Some, None, Ok}
-use Rattle.std.proofs.Common.{Err, Option, Result, sym, refl, ap, ◌∙◌, subst, inl, inr, append-nil}
-use Rattle.std.proofs.Common.{arith, length-append, ltb-false, eqb-true}
-use Rattle.std.proofs.lemmas.{Bool.cases_Bool, Bool.eqb-false, List.nil_from_length}
+use Rattle.std.proofs.Common.{◌≡◌, ℕ, ◌+◌, ◌≤◌, Bool, true, false, not, ◌&&◌, ◌||◌, ◌⊎◌, List, []}
+use Rattle.std.proofs.Common.{◌∷◌, ◌++◌, length, take, drop, if◌then◌else◌, nat_lt, ◌==◌, Some}
+use Rattle.std.proofs.Common.{None, Ok, Err, Option, Result, sym, refl, ap, ◌∙◌, subst, inl, inr}
+use Rattle.std.proofs.Common.{append-nil, arith, length-append, ltb-false, ltb-true, eqb-true}
+use Rattle.std.proofs.{Math.Seq.take-add, lemmas.List.drop-take, lemmas.List.nil_from_length}
+use Rattle.std.proofs.lemmas.Bool.{and_parts, cases_Bool, eqb-false, not-true, or_cases}
 use Rattle.unit_streams.proofs.{Accepted.leads_length, Pieces.told_flat}
 use Rattle.unit_streams.proofs.Units.{between_first, Brings, short_below, units_bring}
 use Rattle.unit_streams.specs.{Front.begun, Front.whole, Grammar.Grammar}
@@ -11,28 +12,35 @@ use Rattle.unit_streams.specs.Judging.{History, history, history_from, led_by, o
 use Rattle.unit_streams.specs.Tellers.{report, told_along}
 use Rattle.unit_streams.specs.Units.{Counted, events_along, size_of, UnitsLead}
 use Rattle.nbfx_values.specs.declared.content.Item.{Item}
-use Rattle.nbfx_encoder.specs.{Placing.Placed, Spelling.encoded, Spelling.Unfit}
-use Rattle.line_notation.proofs.LinesAre.{read-documents}
-use Rattle.line_notation.specs.declared.reader.{LineFault.LineFault, LineKind.LineKind}
-use Rattle.line_notation.specs.declared.reader.LineKind.TheVariants.{Cut, WrongCount}
-use Rattle.line_notation.specs.{declared.reader.LineStep.LineStep, Lines.AreLinesOf, Lines.cut}
+use Rattle.nbfx_encoder.specs.{Placing.Placed, Refusals.told}
+use Rattle.nbfx_encoder.specs.Spelling.{encoded, too_deep, too_large, too_much, Unfit, unnamed}
+use Rattle.line_notation.proofs.{LinesAre.read-documents, RefusalFacts.nothing-else}
+use Rattle.line_notation.specs.declared.reader.LineFault.{LineFault, TheVariants.Bad}
+use Rattle.line_notation.specs.declared.reader.LineKind.{LineKind, TheVariants.WrongCount}
+use Rattle.line_notation.specs.declared.reader.LineKind.TheVariants.{BadText, Cut, NotALine}
+use Rattle.line_notation.specs.declared.reader.LineKind.TheVariants.{OutOfPlace, OutOfRange}
+use Rattle.line_notation.specs.declared.reader.LineStep.{LineStep}
 use Rattle.line_notation.specs.declared.reader.LineStep.TheVariants.{Done, More}
 use Rattle.line_notation.specs.Between.{is_between, IsUnrefused, next_line}
 use Rattle.line_notation.specs.LineReaderState.{after, answer, answer_of, at_start, document_of}
 use Rattle.line_notation.specs.LineReaderState.{documents_from, documents_of, ending, standing_of}
 use Rattle.line_notation.specs.LineReaderState.{ends as ends_document, failed, going}
 use Rattle.line_notation.specs.LineReaderState.{on as leads_on, outcome, Placed as PlacedLine}
-use Rattle.line_notation.specs.LineReaderState.{Standing as LineStanding, standing_from}
+use Rattle.line_notation.specs.LineReaderState.{Standing as LineStanding, standing, standing_from}
+use Rattle.line_notation.specs.Lines.{AreLinesOf, cut, has_no_feed}
 use Rattle.document_lines.{specs.declared.InputFault.InputFault, proofs.Standings.no_lone}
-use Rattle.document_lines.specs.declared.InputFault.TheVariants.{Line, TooLong}
+use Rattle.document_lines.specs.declared.InputFault.TheVariants.{Line, TooLong, Unfit as DoesNotFit}
 use Rattle.document_lines.specs.Input.{behind_line, ending_fault, envelopes_and_end, fault_of}
 use Rattle.document_lines.specs.Input.{is_full, is_singleton, line_at, lines_of_documents}
 use Rattle.document_lines.specs.Input.{refused_line, Settings, Situation, start_of}
-use Rattle.document_lines.specs.Laws.{Explains, InputIsWritten, IsWritten}
+use Rattle.document_lines.specs.Laws.{Explains, InputIsWritten, IsWritten, RefusesNoMemory}
+use Rattle.document_lines.specs.Refused.{HasNoDocument, IsBadLine, RefusesLine}
 use Rattle.document_lines.proofs.Built.{cuts, joined, lines_of, walk as envelopes_of}
-use Rattle.document_lines.proofs.Lines.{cut_line, readable, short_enough}
+use Rattle.document_lines.proofs.Cutting.{behind_lines as behind_all, cut_append, free_cut}
+use Rattle.document_lines.proofs.Lines.{begun_no_feed, cut_line, readable, short_enough}
 use Rattle.document_lines.proofs.Walking.{at_quota, at_refusal, at_the_end, fills, goes_out}
 use Rattle.document_lines.proofs.Walking.{refuses, Stop, Walk, walk}
+use Rattle.nbfx_encoder.specs.declared.faults.EncodeFault.TheVariants as encode
 
 -- lines may end between documents
 between_ends : (s : LineStanding) → is_between s ≡ true → ending s ≡ Ok tt
@@ -176,6 +184,37 @@ module _ (x : Settings) where
       (subst IsUnrefused (sym is) (next_of z z.lines one.unit on l.1).0)
       (most_of z one.unit most z.lines refl on l.1)
 
+  -- ---- the lines of first bytes, of which the last have no line feed
+
+  line_alone : (z : Situation) (from : ℕ) (bytes line : List ℕ) (n : ℕ)
+      → line_at bytes ≡ whole line n → cut (take n bytes) ≡ (line ∷ [], [])
+  line_alone z from bytes line n is =
+      let all : n ≡ n + 0 = omega arith in
+      cut_line (take n bytes) line n (((readable x).reads z from).whole_alone bytes line n is)
+      ∙ ap (λ (r : List ℕ). (line ∷ (cut r).0, (cut r).1))
+      (ap (λ (j : ℕ). drop n (take j bytes)) all ∙ drop-take n 0 bytes)
+
+  led_cut : (units : List (Counted (List ℕ))) (z : Situation) (from : ℕ) (bytes : List ℕ)
+      (z' : Situation) (rest : List ℕ) → UnitsLead g z from units bytes z' rest → (k : ℕ)
+      → has_no_feed (take k rest) ≡ true
+      → cut (take (size_of units + k) bytes) ≡ (lines_of x units, take k rest)
+  unfolding UnitsLead size_of
+  led_cut [] z from bytes z' rest l k free =
+      let none : 0 + k ≡ k = omega arith in
+      ap (λ (j : ℕ). cut (take j bytes)) none ∙ ap (λ (b : List ℕ). cut (take k b)) l.1
+      ∙ free_cut (take k rest) free
+  led_cut (one ∷ units) z from bytes z' rest l k free =
+      let n : ℕ = one.size in
+      let m : ℕ = size_of units + k in
+      let sum : n + size_of units + k ≡ n + m = omega arith in
+      let tail : List ℕ = take m (drop n bytes) in
+      ap (λ (j : ℕ). cut (take j bytes)) sum ∙ ap cut (take-add n m bytes)
+      ∙ cut_append (take n bytes) tail
+      ∙ ap (λ (c : List (List ℕ) × List ℕ). behind_all c.0 (cut (c.1 ++ tail)))
+      (line_alone z from bytes one.unit n l.0)
+      ∙ ap (behind_all (one.unit ∷ []))
+      (led_cut units (g.after z from one.unit) (from + n) (drop n bytes) z' rest l.2 k free)
+
   -- ---- all of it
 
   module _ (bytes : List ℕ) where
@@ -220,11 +259,27 @@ module _ (x : Settings) where
     most = led_most w.units (start_of x) 0 bytes z w.rest w.lead tt
         (λ full. refl, λ single. omega arith)
 
+    abbrev more_lines : List (List ℕ)
+    more_lines = (cut w.rest).0
+
     abbrev Why : Option InputFault → Type 0
-    Why o = Explains x bytes written_lines (cut w.rest).0 z.table o
+    Why o = Explains x bytes written_lines more_lines z.table o
+
+    abbrev WhyLine : LineKind → Type 0
+    WhyLine kind = RefusesLine x.mode bytes written_lines more_lines kind
+
+    stands_between : {b : Bool} → is_between z.lines ≡ b → is_between (standing written_lines) ≡ b
+    stands_between e = ap is_between (sym leads_to) ∙ e
+
+    answers_so : {a : Result LineStep LineFault} (line : List ℕ) → answer z.lines line ≡ a
+        → answer (standing written_lines) line ≡ a
+    answers_so line e = ap (λ (s : LineStanding). answer s line) (sym leads_to) ∙ e
 
     -- a line that is refused
     module _ (line : List ℕ) (n : ℕ) (is : line_at w.rest ≡ whole line n) where
+      next_is : more_lines ≡ line ∷ (cut (drop n w.rest)).0
+      next_is = ap (λ (c : List (List ℕ) × List ℕ). c.0) (cut_line w.rest line n is)
+
       unfit_by : (doc : List Item) → answer z.lines line ≡ Ok (Done doc)
           → (v : Result (Placed (List ℕ)) Unfit) → encoded x.limits x.kind z.table doc ≡ v
           → (fault : InputFault) → fault_of x z.documents v ≡ Some fault → Why (Some fault)
@@ -234,36 +289,93 @@ module _ (x : Settings) where
         record {
           line = line;
           rest = (cut (drop n w.rest)).0;
-          next = ap (λ (c : List (List ℕ) × List ℕ). c.0) (cut_line w.rest line n is);
+          next = next_is;
           doc = doc;
-          ends = ap (λ (s : LineStanding). answer s line) (sym leads_to) ∙ ends;
+          ends = answers_so line ends;
           unfit = why;
           not_fitting = e;
           why_is = refl;
         },
       )
 
+      -- by what it says, or its place
+      bad_line : (kind : LineKind) → (kind ≡ Cut → ⊥) → (kind ≡ WrongCount → ⊥)
+          → answer z.lines line ≡ Err (Bad (next_line z.lines) kind) → WhyLine kind
+      bad_line kind uncut counted a = by_kind kind uncut counted (record {
+        line = line;
+        rest = (cut (drop n w.rest)).0;
+        next = next_is;
+        bad = answers_so line a ∙ ap (λ (m : ℕ). Err (Bad m kind)) count;
+      }) where
+        by_kind : (kind : LineKind) → (kind ≡ Cut → ⊥) → (kind ≡ WrongCount → ⊥)
+            → IsBadLine written_lines more_lines kind → WhyLine kind
+        by_kind NotALine uncut counted bad = bad
+        by_kind BadText uncut counted bad = bad
+        by_kind OutOfRange uncut counted bad = bad
+        by_kind OutOfPlace uncut counted bad = bad
+        by_kind Cut uncut counted bad = absurd (uncut refl)
+        by_kind WrongCount uncut counted bad = absurd (counted refl)
+
+      -- the first of a second document
+      second : is_full x z ≡ true → is_between z.lines ≡ true
+          → answer z.lines line ≡ Ok More → is_between (after z.lines line) ≡ false
+          → WhyLine WrongCount
+      second full between good begins =
+          let parts = and_parts (is_singleton x.mode) (not (z.documents == 0)) full in
+          let few = most.1 parts.0 in
+          let some = eqb-false z.documents 0 (not-true (z.documents == 0) parts.1) in
+          let same = documents in
+          inl (record {
+            line = line;
+            rest = (cut (drop n w.rest)).0;
+            next = next_is;
+            alone = parts.0;
+            one = omega (arith, few, some, same);
+            between = stands_between between;
+            good = answers_so line good;
+            begins = ap (λ (s : LineStanding). is_between (after s line)) (sym leads_to) ∙ begins;
+          })
+
       refused_by : (m : ℕ) (o : Result PlacedLine LineKind) → m ≡ next_line z.lines
-          → answer z.lines line ≡ answer_of m o → (fault : InputFault)
+          → answer z.lines line ≡ answer_of m o → after z.lines line ≡ standing_of m o
+          → (o ≡ Err Cut → ⊥) → (o ≡ Err WrongCount → ⊥) → (fault : InputFault)
           → refused_line x z (standing_of m o) (answer_of m o) ≡ Some fault → Why (Some fault)
-      refused_by m (Ok (leads_on items array)) number a fault refused =
+      refused_by m (Ok (leads_on items array)) number a leads uncut counted fault refused =
           by_count (is_full x z && (is_between z.lines && not (is_between (going m items array))))
           refl
         where
           by_count : (v : Bool) → (is_full x z && (is_between z.lines
               && not (is_between (going m items array)))) ≡ v → Why (Some fault)
-          by_count true e = subst Why (rw e at refused) count
+          by_count true e =
+              let parts = and_parts (is_full x z)
+              (is_between z.lines && not (is_between (going m items array))) e in
+              let begins = and_parts (is_between z.lines)
+              (not (is_between (going m items array))) parts.1 in
+              subst Why (rw e at refused) (
+                count,
+                second parts.0 begins.0 a
+                    (ap is_between leads
+                    ∙ not-true (is_between (going m items array)) begins.1),
+              )
           by_count false e = let none = rw e at refused in cc
-      refused_by m (Ok (ends_document doc)) number a fault refused =
+      refused_by m (Ok (ends_document doc)) number a leads uncut counted fault refused =
           unfit_by doc a (encoded x.limits x.kind z.table doc) refl fault refused
-      refused_by m (Err kind) number a fault refused = subst Why refused (number ∙ count)
+      refused_by m (Err kind) number a leads uncut counted fault refused =
+          subst Why refused (
+            number ∙ count,
+            bad_line kind (λ e. uncut (ap (λ (k : LineKind). Err k) e))
+                (λ e. counted (ap (λ (k : LineKind). Err k) e))
+                (a ∙ ap (λ (m : ℕ). Err (Bad m kind)) number),
+          )
 
       why_refused : (s : LineStanding) → z.lines ≡ s → IsUnrefused s → (fault : InputFault)
           → refused_line x z (after s line) (answer s line) ≡ Some fault → Why (Some fault)
       why_refused (failed other) e on fault refused = absurd on
       why_refused (going m items array) e on fault refused =
+          let other = nothing-else items array line in
           refused_by (m + 1) (outcome items array line) (sym (ap next_line e))
-          (ap (λ (s : LineStanding). answer s line) e) fault refused
+          (ap (λ (s : LineStanding). answer s line) e)
+          (ap (λ (s : LineStanding). after s line) e) other.cut other.count fault refused
 
     -- the end of the input
     module _ (is : line_at w.rest ≡ begun) where
@@ -272,6 +384,17 @@ module _ (x : Settings) where
 
       abbrev within_line : Bool
       within_line = nat_lt from (from + length w.rest)
+
+      rest_cut : cut w.rest ≡ ([], w.rest)
+      rest_cut = free_cut w.rest (begun_no_feed w.rest is)
+
+      no_line_left : more_lines ≡ []
+      no_line_left = ap (λ (c : List (List ℕ) × List ℕ). c.0) rest_cut
+
+      bytes_left : (cut bytes).1 ≡ w.rest
+      bytes_left =
+          ap (λ (c : List (List ℕ) × List ℕ). c.1) all_cut
+          ∙ ap (λ (c : List (List ℕ) × List ℕ). c.1) rest_cut
 
       nothing_left : within_line ≡ false → w.rest ≡ []
       nothing_left e =
@@ -297,6 +420,37 @@ module _ (x : Settings) where
               (ap ending (sym leads_to)
               ∙ between_ends z.lines (or_not within_line (is_between z.lines) e))
 
+          no_bytes : (within_line || not (is_between z.lines)) ≡ false → (cut bytes).1 ≡ []
+          no_bytes e =
+              bytes_left ∙ nothing_left (or_left within_line (not (is_between z.lines)) e)
+
+          some_bytes : within_line ≡ true → (cut bytes).1 ≡ [] → ⊥
+          some_bytes e none =
+              let less = ltb-true from (from + length w.rest) e in
+              let nothing : length w.rest ≡ 0 = ap length (sym bytes_left ∙ none) in
+              omega (arith, less, nothing)
+
+          ends_within : (within_line || not (is_between z.lines)) ≡ true
+              → (is_between (standing written_lines) ≡ false) ⊎ ((cut bytes).1 ≡ [] → ⊥)
+          ends_within e =
+              elim (or_cases within_line (not (is_between z.lines)) e) [
+                | inl t ↦ inr (some_bytes t)
+                | inr f ↦ inl (stands_between (not-true (is_between z.lines) f))
+              ]
+
+          without : (within_line || not (is_between z.lines)) ≡ false
+              → (is_singleton x.mode && (z.documents == 0)) ≡ true
+              → HasNoDocument x.mode bytes written_lines more_lines
+          without e none =
+              let parts = and_parts (is_singleton x.mode) (z.documents == 0) none in
+              let zero = eqb-true z.documents 0 parts.1 in record {
+                none_left = no_line_left;
+                no_bytes = no_bytes e;
+                alone = parts.0;
+                none = sym documents ∙ zero;
+                between = stands_between (or_not within_line (is_between z.lines) e);
+              }
+
           one : (is_singleton x.mode && (z.documents == 0)) ≡ false → is_singleton x.mode ≡ true
               → length (documents_of written_lines) ≡ 1
           one some single =
@@ -310,16 +464,11 @@ module _ (x : Settings) where
               → (is_singleton x.mode && (z.documents == 0)) ≡ b
               → Why (if a then Some (Line (next_line z.lines) Cut)
               else if b then Some (Line (next_line z.lines) WrongCount) else None)
-          by_cut true at_cut b at_count = count
-          by_cut false at_cut true at_count = count
+          by_cut true at_cut b at_count =
+              (count, record { none_left = no_line_left; within = ends_within at_cut })
+          by_cut false at_cut true at_count = (count, inr (without at_cut at_count))
           by_cut false at_cut false at_count =
-              let none = nothing_left (or_left within_line (not (is_between z.lines)) at_cut) in (
-                ap (λ (r : List ℕ). (cut r).0) none,
-                ap (λ (c : List (List ℕ) × List ℕ). c.1) all_cut ∙ ap (λ (r : List ℕ). (cut r).1)
-                    none,
-                ends_between at_cut,
-                one at_count,
-              )
+              (no_line_left, no_bytes at_cut, ends_between at_cut, one at_count)
 
     -- what comes of the rest, and why
     record Rest : Type 0 where
@@ -336,7 +485,13 @@ module _ (x : Settings) where
     of_rest (fills k within free full) = record {
       fault = Some TooLong;
       brings = at_quota x _ z _ brought.between w.rest k within free full;
-      why = let n = total in omega (arith, n, within, full);
+      why = (
+        let n = total in omega (arith, n, within, full),
+        let sum : x.limits.session ≡ size_of w.units + k = omega (arith, full) in
+            ap (λ (j : ℕ). (cut (take j bytes)).0) sum
+            ∙ ap (λ (c : List (List ℕ) × List ℕ). c.0)
+            (led_cut w.units (start_of x) 0 bytes z w.rest w.lead k free),
+      );
     }
     of_rest (goes_out is less) = record {
       fault = ending_fault x (nat_lt (0 + size_of w.units) (0 + size_of w.units + length w.rest)) z;
@@ -368,3 +523,19 @@ module _ (x : Settings) where
 
 pub written : InputIsWritten
 written x bytes = all_of x bytes (of_rest x bytes (w x bytes).stop)
+
+-- ---- want of memory
+
+-- a document is refused for what it has too much of
+fits_or_says : (why : Unfit) → encode.Memory ≡ told why → ⊥
+fits_or_says (too_deep depth) e = cc
+fits_or_says (too_much size) e = cc
+fits_or_says (unnamed item) e = cc
+fits_or_says (too_large size) e = cc
+
+pub no_memory : RefusesNoMemory
+no_memory x bytes number is =
+    let w = written x bytes in
+    let why : Explains x bytes w.lines w.more w.envelopes.1 (Some (DoesNotFit number encode.Memory))
+    = subst (Explains x bytes w.lines w.more w.envelopes.1) is w.why in
+    fits_or_says why.1.unfit why.1.why_is

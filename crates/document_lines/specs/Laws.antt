@@ -1,9 +1,9 @@
 -- What holds of lines of documents by the definitions alone.
-use Rattle.std.specs.Prelude.{◌≡◌, ℕ, ◌+◌, ◌<◌, ◌≤◌, true, false, List, [], ◌∷◌, ◌++◌, length, Some}
-use Rattle.std.specs.Prelude.{None, Ok, Err, Option}
+use Rattle.std.specs.Prelude.{◌≡◌, ℕ, ◌+◌, ◌<◌, ◌≤◌, true, false, List, [], ◌∷◌, ◌++◌, length, take}
+use Rattle.std.specs.Prelude.{Some, None, Ok, Err, Option}
 use Rattle.unit_streams.specs.{Going.IsPending, Judging.offence, Judging.refusal_at}
 use Rattle.unit_streams.specs.Tellers.{Closes, report}
-use Rattle.string_tables.specs.StringTable.{StringTable}
+use Rattle.{string_tables.specs.StringTable.StringTable, document_lines.specs.Refused.RefusesLine}
 use Rattle.nbfx_values.specs.declared.content.Item.{Item}
 use Rattle.nbfx_encoder.specs.{declared.faults.EncodeFault.EncodeFault, Refusals.told}
 use Rattle.nbfx_encoder.specs.{Envelopes.envelopes_from, Placing.Placed}
@@ -14,6 +14,7 @@ use Rattle.line_notation.specs.Lines.{AreLinesOf, cut}
 use Rattle.document_lines.specs.{declared.InputFault.InputFault, Input.Settings}
 use Rattle.document_lines.specs.declared.InputFault.TheVariants.{Line, TooLong, Unfit as DoesNotFit}
 use Rattle.document_lines.specs.Input.{envelopes_and_end, is_singleton, lines_of_documents}
+use Rattle.nbfx_encoder.specs.declared.faults.EncodeFault.TheVariants as encode
 
 -- no event ends the input, and each line is known by its own bytes
 abbrev pub InputIsClosed : Type 0
@@ -61,14 +62,17 @@ abbrev pub Explains : Settings → (bytes : List ℕ) → (lines more : List (Li
 Explains x bytes lines more table None = (more ≡ []) × ((cut bytes).1 ≡ [])
     × AreLinesOf (documents_of lines) lines
     × (is_singleton x.mode ≡ true → length (documents_of lines) ≡ 1)
-Explains x bytes lines more table (Some (Line n kind)) = n ≡ length lines + 1
+Explains x bytes lines more table (Some (Line n kind)) =
+    (n ≡ length lines + 1) × RefusesLine x.mode bytes lines more kind
 Explains x bytes lines more table (Some (DoesNotFit number why)) =
     (number ≡ length (documents_of lines)) × EndsUnfit x lines more table why
-Explains x bytes lines more table (Some TooLong) = x.limits.session ≤ length bytes
+Explains x bytes lines more table (Some TooLong) = (x.limits.session ≤ length bytes)
+    × ((cut (take x.limits.session bytes)).0 ≡ lines)
 
 -- What is written of any input: the envelopes of the documents of its first lines, and where
--- nothing is refused an End record. A refusal names the line after them, or the document that it
--- ends, or says that there are as many bytes as the session quota.
+-- nothing is refused an End record. A refusal names the line after them and says why that is
+-- refused, or the document that it ends and why that doesn't fit; or it says that there are as many
+-- bytes as the session quota, and then no line that ends within so many is refused.
 pub record IsWritten (x : Settings) (bytes : List ℕ) : Type 0 where
   pub lines : List (List ℕ)
   pub more : List (List ℕ)
@@ -79,6 +83,11 @@ pub record IsWritten (x : Settings) (bytes : List ℕ) : Type 0 where
   pub written : report (lines_of_documents x) envelopes_and_end bytes
       ≡ envelopes.0 ++ envelopes_and_end.ends tt (offence (lines_of_documents x) bytes)
   pub why : Explains x bytes lines more envelopes.1 (offence (lines_of_documents x) bytes)
+
+-- no document is refused for want of memory
+abbrev pub RefusesNoMemory : Type 0
+RefusesNoMemory = (x : Settings) (bytes : List ℕ) (number : ℕ)
+    → offence (lines_of_documents x) bytes ≡ Some (DoesNotFit number encode.Memory) → ⊥
 
 -- any input is written so
 abbrev pub InputIsWritten : Type 0

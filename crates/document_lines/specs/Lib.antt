@@ -1,7 +1,9 @@
 -- Cited by whoever reads documents in lines to write them: the grammar (Input), where a reader
--- stands (DocumentReaderState), and what holds by the definitions alone (Laws).
+-- stands (DocumentReaderState), why a line is refused (Refused), and what holds by the definitions
+-- alone (Laws).
 pub mod Input
 pub mod DocumentReaderState
+pub mod Refused
 pub mod Laws
 -- Cited by whoever reads a list of documents: what bytes are read as (Documents), what a file says
 -- (Files), and what was read of a source (Taking).

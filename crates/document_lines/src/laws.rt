@@ -1,7 +1,7 @@
 //! What holds of lines of documents by the definitions alone. Each function does nothing: its
 //! contract is a law, which a caller has where it calls the function.
 
-ghost use Rattle.document_lines.specs.Laws.{InputIsClosed, InputMayBegin, InputIsBounded, AcceptedIsBuilt, FittingIsAccepted, InputIsWritten};
+ghost use Rattle.document_lines.specs.Laws.{InputIsClosed, InputMayBegin, InputIsBounded, AcceptedIsBuilt, FittingIsAccepted, InputIsWritten, RefusesNoMemory};
 
 /// Input is read by its bytes alone, line by line, and nothing but its end ends it.
 pub fn input_is_closed()
@@ -24,11 +24,14 @@ pub fn accepted_is_built()
 
 /// What is written of any input is the envelopes of the documents of its first lines, in their
 /// order, and an End record where nothing is refused: in singleton mode there is one document then.
-/// A refused line is the next one, by its number from 1; a document that doesn't fit is the next
-/// one too, by its number from 0; and input is too long where it has as many bytes as the session
-/// quota.
+/// A refused line is the next one, by its number from 1, and its kind says why: it is refused for
+/// what it says or for its place, it begins a second document in singleton mode, or there is none
+/// and the input ends, too early or without a document. A document that doesn't fit is the next one
+/// too, by its number from 0, and the refusal says what it has too much of; want of memory is none.
+/// And input is too long where it has as many bytes as the session quota.
 pub fn input_is_written()
-    ensures { InputIsWritten }
+    ensures written { InputIsWritten }
+    ensures no_memory { RefusesNoMemory }
 {}
 
 /// Lines of documents that can be written, of which there is one in singleton mode, aren't refused

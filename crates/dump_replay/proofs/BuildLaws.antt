@@ -14,16 +14,19 @@ use Rattle.initiator_machine.proofs.Openings.{openings_are_preambles}
 use Rattle.{session_report.proofs.Sessions.reports_sessions, command_words.specs.Tasks.Opening}
 use Rattle.session_report.specs.Report.{report, told_of}
 use Rattle.line_notation.specs.{LineReaderState.documents_of, Lines.AreLinesOf, Lines.cut}
-use Rattle.document_lines.{proofs.Written.written, specs.Input.Settings as LineSettings}
-use Rattle.document_lines.specs.{declared.InputFault.InputFault, Laws.Explains, Laws.IsWritten}
+use Rattle.document_lines.proofs.Written.{no_memory, written}
+use Rattle.document_lines.specs.declared.InputFault.{InputFault, TheVariants.Unfit}
 use Rattle.document_lines.specs.Input.{envelopes_and_end, is_singleton, lines_of_documents}
+use Rattle.document_lines.specs.{Input.Settings as LineSettings, Laws.Explains, Laws.IsWritten}
 use Rattle.session_ends.proofs.Sent.{sent_are_sessions}
 use Rattle.session_ends.specs.Sent.{AreDocuments, AreSent, MayBeSent, session_bytes}
 use Rattle.dump_replay.specs.Building.{Builds, preamble_of, settings_for_building}
-use Rattle.dump_replay.specs.{Building.status_of_building, Laws.status_of_input}
+use Rattle.dump_replay.specs.Building.{status_of_building}
 use Rattle.dump_replay.specs.Laws.{BuildsAreComplete, BuiltAreSessions, input_offence, IsBuiltOf}
 use Rattle.dump_replay.specs.Laws.{IsBuiltWell, IsSessionOf, ReadsAsMuch, session_of}
+use Rattle.dump_replay.specs.Laws.{status_of_input, UnfitHasACause}
 use Rattle.stream_loop.specs.declared.reporting.Ending.TheVariants as endings
+use Rattle.nbfx_encoder.specs.declared.faults.EncodeFault.TheVariants as encode
 
 -- ---- sessions
 
@@ -165,3 +168,11 @@ module _ (opening : Opening) (statics : List Entry) (limits : Limits) (i i' : In
 pub builds_are_complete : BuildsAreComplete
 builds_are_complete opening statics limits i i' o o' ending b bytes left read_well written_well =
     ends_well opening statics limits i i' o o' bytes left read_well written_well ending b
+
+-- ---- want of memory
+
+pub unfit_has_a_cause : UnfitHasACause
+unfit_has_a_cause opening statics limits i i' o o' number b =
+    let judged : Option InputFault = Some (Unfit number encode.Memory) in
+    let d = b.decides judged refl in
+    no_memory (settings_for_building opening statics limits) d.bytes number d.judged_so.0

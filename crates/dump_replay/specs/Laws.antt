@@ -7,14 +7,16 @@ use Rattle.string_tables.specs.StaticStrings.{Entry, IsStaticMap}
 use Rattle.nbfx_values.specs.{declared.content.Item.Item, Limits.IsGood, Limits.Limits}
 use Rattle.stream_reader.specs.Sessions.{Carried, conversation, IsSession, session_events}
 use Rattle.stream_reader.specs.Stream.{initiators, serves, Settings}
-use Rattle.stream_loop.specs.{declared.reporting.Ending.Ending, Edges.Input, Edges.Output}
+use Rattle.stream_loop.specs.declared.reporting.Ending.{Ending, TheVariants.Judged}
+use Rattle.stream_loop.specs.Edges.{Input, Output}
 use Rattle.session_report.specs.Report.{report, told_of}
 use Rattle.line_notation.specs.Lines.{AreLinesOf, cut}
-use Rattle.document_lines.specs.declared.InputFault.{InputFault}
+use Rattle.document_lines.specs.declared.InputFault.{InputFault, TheVariants.Unfit}
 use Rattle.document_lines.specs.Input.{envelopes_and_end, lines_of_documents}
 use Rattle.command_words.specs.{declared.task.Detail.Detail, Tasks.Opening}
 use Rattle.dump_replay.specs.Building.{Builds, preamble_of, settings_for_building}
 use Rattle.dump_replay.specs.Building.{status_of_building, status_of_input_fault}
+use Rattle.nbfx_encoder.specs.declared.faults.EncodeFault.TheVariants as encode
 
 module _ (opening : Opening) (statics : List Entry) (limits : Limits) where
   -- why the input is refused, if it is
@@ -89,3 +91,10 @@ BuildsAreComplete = (opening : Opening) (statics : List Entry) (limits : Limits)
     → (Rose i.faults i'.faults → ⊥) → (Rose o.faults o'.faults → ⊥)
     → IsBuiltWell opening statics limits bytes o o' (status_of_building ending)
     ⊎ (status_of_building ending ≡ 5)
+
+-- No document is refused for want of memory, of which the status is 5: where 7 is the status, a
+-- document has too much of something.
+abbrev pub UnfitHasACause : Type 0
+UnfitHasACause = (opening : Opening) (statics : List Entry) (limits : Limits) (i i' : Input)
+    (o o' : Output) (number : ℕ)
+    → Builds opening statics limits i i' o o' (Judged (Some (Unfit number encode.Memory))) → ⊥

@@ -2,7 +2,7 @@
 //! does nothing: its contract is a law, which a caller has where it calls the function. What holds
 //! of streams stands in `stream_reader::laws`, and what holds of reports in `session_report::laws`.
 
-ghost use Rattle.dump_replay.specs.Laws.{BuildsAreComplete, BuiltAreSessions};
+ghost use Rattle.dump_replay.specs.Laws.{BuildsAreComplete, BuiltAreSessions, UnfitHasACause};
 ghost use Rattle.dump_replay.specs.Order.{ZeroInOrder};
 
 /// What is written of lines of documents that aren't refused is a session of just these documents,
@@ -17,6 +17,12 @@ pub fn built_sessions()
 /// whether it is refused or not.
 pub fn complete_builds()
     ensures { BuildsAreComplete }
+{}
+
+/// The writing of documents never ends with a document refused for want of memory: then it is out
+/// of memory. So the status is 7 only for a document that has too much of something.
+pub fn unfit_documents()
+    ensures { UnfitHasACause }
 {}
 
 /// The status that [`crate::run::run`] ends with where nothing of the outside fails and memory

@@ -4,14 +4,14 @@ use Rattle.std.proofs.Common.{length, take, Ok, Err, Option, Result, sym, refl, 
 use Rattle.std.proofs.Common.{inr, append-nil, arith, length-append, le-leb}
 use Rattle.std.{specs.Prelude.⊤, proofs.Math.Seq.take-append_seam, proofs.lemmas.Bool.lt-leb}
 use Rattle.io_edges.specs.{declared.SinkFault.SinkFault, Faults.one_more}
-use Rattle.{unit_streams.specs.Tellers.Teller, nbfx_encoder.specs.declared.sender.Sender.Sender}
+use Rattle.{nbfx_encoder.specs.declared.sender.Sender.Sender}
 use Rattle.stream_loop.proofs.{Ended.gathers_still, Gathered.none_gathered}
 use Rattle.stream_loop.proofs.Gathered.{gathered_cut, gathered_put, gathers_more, gathers_none}
 use Rattle.stream_loop.proofs.Written.{begins, closes, goes_by, pauses, stays, stays_closed, stops}
 use Rattle.stream_loop.proofs.Written.{stops_last, wanted_by}
 use Rattle.stream_loop.specs.declared.outbound.Outbound.{Outbound}
 use Rattle.stream_loop.specs.declared.outbound.Outbound.TheVariants.{Done, Memory, WriteFault}
-use Rattle.stream_loop.specs.Gathering.{Gathers, IsGathering}
+use Rattle.stream_loop.specs.Gathering.{Gathers}
 use Rattle.stream_loop.specs.Writing.{Goes, IsCut, IsWriting, outbound_by, PutsParts, PutsTo}
 use Rattle.stream_loop.specs.Writing.{TellsAlike, Writes, Wrote}
 use Rattle.duplex_server.specs.declared.{replier.Replier.Replier, requests.Request.Request}

@@ -1,5 +1,5 @@
 -- What is known of a session that was answered, by what is seen of the input and of the output.
-use Rattle.std.proofs.Common.{◌≡◌, ℕ, Bool, List, [], ◌++◌, map, Option, sym, refl, append-nil}
+use Rattle.std.proofs.Common.{◌≡◌, ℕ, Bool, List, [], map, Option, sym, refl, append-nil}
 use Rattle.{io_edges.specs.Flow.Told, nbfx_values.specs.Limits.IsGood}
 use Rattle.unit_streams.specs.Judging.{events_in, events_of}
 use Rattle.stream_reader.specs.Stream.{ends, stream, StreamEvent}

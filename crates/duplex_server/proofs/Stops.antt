@@ -1,6 +1,6 @@
 -- What is known of connections that were served, by why no more are.
-use Rattle.std.proofs.Common.{◌≡◌, ℕ, ◌+◌, ◌<◌, Bool, List, [], ◌∷◌, ◌++◌, map, length, Some, None}
-use Rattle.std.proofs.Common.{Ok, Err, Option, Result, sym, refl, ap, ◌∙◌, subst, inl, inr}
+use Rattle.std.proofs.Common.{◌≡◌, ℕ, ◌+◌, ◌<◌, Bool, true, List, [], ◌∷◌, ◌++◌, map, length}
+use Rattle.std.proofs.Common.{Some, None, Ok, Err, Option, Result, sym, refl, ap, ◌∙◌, subst, inl, inr}
 use Rattle.std.proofs.Common.{append-nil, arith, length-append}
 use Rattle.std.proofs.lemmas.List.{length-map, map-append}
 use Rattle.io_edges.specs.{declared.SinkFault.SinkFault, Flow.Told, Wires.Network}
@@ -42,6 +42,16 @@ told_cut : (held : List ℕ) (outcomes : List Outcome) (u v : Option (List ℕ))
 told_cut held outcomes None v cut = tt
 told_cut held outcomes (Some u) None cut = absurd cut
 told_cut held outcomes (Some u) (Some v) cut = inr cut
+
+-- a server that stops for want of memory behind a line has an output that may want it
+pub output_wants : {O : Type 0} (written : O → Option (List ℕ)) (held : O → List ℕ)
+    (faults : O → ℕ) (may_want : O → Bool) (first now new : O) (line : List ℕ) (fault : SinkFault)
+    → may_want now ≡ may_want first → PutsTo written held faults may_want now new line (Err fault)
+    → ◌≡◌ {A = Result (Unit {0}) ServeFault} (Err (stop_by fault)) (Err stops.Memory)
+    → may_want first ≡ true
+output_wants written held faults may_want first now new line sinks.Failed same puts e = cc
+output_wants written held faults may_want first now new line sinks.Memory same puts e =
+    sym same ∙ puts.wanted refl
 
 module _ (x : Answering) (endpoint : Option (List ℕ)) {R K O : Type 0} (seen : R × K → Ends)
     (written : O → Option (List ℕ)) (held : O → List ℕ) (faults : O → ℕ) (may_want : O → Bool)

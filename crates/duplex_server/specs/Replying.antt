@@ -1,11 +1,11 @@
 -- What a replier keeps, and what it has written and gathered of the requests so far.
-use Rattle.std.specs.Prelude.{◌≡◌, ℕ, ◌≤◌, Bool, leb, List, [], ◌∷◌, ◌++◌, length, if◌then◌else◌}
-use Rattle.{std.specs.Prelude.Option, io_edges.specs.Faults.one_more}
-use Rattle.{nbfx_values.specs.QuotasOf.limits_of, nbfx_encoder.specs.declared.sender.Sender.Sender}
+use Rattle.std.specs.Prelude.{◌≡◌, ℕ, ◌<◌, ◌≤◌, Bool, leb, List, [], ◌∷◌, ◌++◌, length}
+use Rattle.std.specs.Prelude.{if◌then◌else◌, Option}
+use Rattle.{io_edges.specs.Faults.one_more, nbfx_values.specs.QuotasOf.limits_of}
+use Rattle.{nbfx_encoder.specs.declared.sender.Sender.Sender, action_dispatch.specs.Answers.Serves}
 use Rattle.nbfx_encoder.specs.Sending.{kind_in, mode_in, names_in, state_in}
 use Rattle.stream_loop.specs.{declared.outbound.Outbound.Outbound, Gathering.Gathers}
 use Rattle.stream_loop.specs.declared.outbound.Outbound.TheVariants.{Done, Memory, WriteFault}
-use Rattle.action_dispatch.specs.Answers.{Serves}
 use Rattle.duplex_server.specs.declared.{replier.Replier.Replier, requests.Request.Request}
 use Rattle.duplex_server.specs.Owed.{Answering, answering, behind, messages_along, owed_for}
 use Rattle.duplex_server.specs.Owed.{replies, Replying}
@@ -31,6 +31,11 @@ abbrev pub answering_of : {V : Type 0} → (V → Serves) → Replier V → Answ
 answering_of served replier =
     answering (served replier.service.now) replier.statics.now (limits_of replier.quotas)
 
+-- Less is gathered than is written at once: between two requests no more, and while one is answered
+-- its answer at most is gathered behind so much.
+abbrev pub IsLittle : {V : Type 0} → Replier V → Type 0
+IsLittle replier = length replier.gathered.items < 65536
+
 module _ {K : Type 0} (written : K → Option (List ℕ)) (held : K → List ℕ) (faults : K → ℕ)
     (may_want : K → Bool) (x : Answering) where
   -- These requests were answered since a sink was like the first, and it is like this now. What is
@@ -49,11 +54,12 @@ module _ {K : Type 0} (written : K → Option (List ℕ)) (held : K → List ℕ
   Answered first requests sender replier now = HasAnswered first requests replier.outbound sender
       replier.answers replier.gathered.items replier.ends.items now
 
-  -- these requests were heard, and answered
+  -- these requests were heard, and answered, and little is gathered
   pub record HasHeard {V : Type 0} (first : K) (requests : List Request) (replier : Replier V)
       (now : K) : Type 0 where
     pub counted : replier.messages ≡ messages_along 0 requests
     pub answered : Answered first requests replier.sender replier now
+    pub little : IsLittle replier
 
   -- The bytes that are due for one request more were gathered behind so many others: an answer,
   -- whose end isn't marked yet. What was so before, with another sending half, and what is left.

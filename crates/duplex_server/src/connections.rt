@@ -1,6 +1,6 @@
 //! Connections that are served one after the other.
 
-ghost use Rattle.std.specs.Prelude.{◌≡◌, ◌<◌, ◌^◌};
+ghost use Rattle.std.specs.Prelude.{◌≡◌, ◌<◌, ◌^◌, ◌⊎◌, Err, true};
 ghost use Rattle.io_edges.specs.Faults.{CountsFaults};
 ghost use Rattle.nbfx_values.specs.QuotasOf.{limits_of};
 ghost use Rattle.stream_loop.specs.Edges.{output_at};
@@ -26,7 +26,7 @@ fn serve_each<W: Wire, O: Sink, V: Service>(
     output: &mut O,
 ) -> Result<(), ServeFault>
     requires { W.out wire.old < 2 ^ 63 }
-    ensures { ServesAll (answering (V.served server.now.service.now) server.now.statics.now
+    ensures served { ServesAll (answering (V.served server.now.service.now) server.now.statics.now
         (limits_of server.now.quotas.now)) (endpoint_of server.now.endpoint.now)
         (ends_at W.Reader.left W.Reader.taken W.Reader.faults W.Reader.empty_takes
         W.Writer.written W.Writer.held W.Writer.faults) connections
@@ -34,6 +34,7 @@ fn serve_each<W: Wire, O: Sink, V: Service>(
         (network_at W.waiting W.closed W.out W.faults W.end_faults wire.new)
         (output_at O.written O.held O.faults output.old)
         (output_at O.written O.held O.faults output.new) (output.new ≡ output.old) result }
+    ensures memory { result ≡ Err ServeFault.Memory → O.may_want output.old ≡ true }
 {
     for number in 0..connections {
         let Some(outcome) = serve_next(alloc, server, wire, place)? else {
@@ -67,6 +68,11 @@ pub fn serve_connections<W: Wire, O: Sink, V: Service>(
         (result.0 ≡ Err ServeFault.Wire) }
     ensures output_fault { CountsFaults (O.faults output) (O.faults result.1)
         (result.0 ≡ Err ServeFault.Output) }
+
+    // No connection's want of memory stops the server: it has asked for none and put nothing, or
+    // the output may run out of memory.
+    ensures memory { result.0 ≡ Err ServeFault.Memory
+        → ((wire.new ≡ wire.old) × (result.1 ≡ output)) ⊎ (O.may_want output ≡ true) }
 
     // What was read and written on each connection, and what its line says.
     ensures served { ServesAll (answering (V.served server.now.service.now) server.now.statics.now

@@ -1,6 +1,6 @@
 //! What answers the requests of a connection.
 
-ghost use Rattle.std.specs.Prelude.{◌≡◌, ◌≤◌, [], ◌∷◌, ◌++◌, ℕ, List, length, true, OnErr, OnOk};
+ghost use Rattle.std.specs.Prelude.{◌≡◌, [], ◌∷◌, ◌++◌, ℕ, List, true, OnErr, OnOk};
 ghost use Rattle.std.specs.Option.{option_copied};
 ghost use Rattle.nbfx_values.specs.QuotasOf.{limits_of};
 ghost use Rattle.nbfx_values.specs.declared.content.Item.{Item as Part};
@@ -66,7 +66,7 @@ fn put_last<K: Sink>(ending: Ending<Offence>, sink: &mut K) -> Outbound
 }
 
 impl<'s, 'v, V: Service> Replier<'s, 'v, V> {
-    ghost use Rattle.duplex_server.specs.Replying.{Answered, GathersOne, HasHeard};
+    ghost use Rattle.duplex_server.specs.Replying.{Answered, GathersOne, HasHeard, IsLittle};
     ghost use Rattle.duplex_server.specs.Replying.{answering_of, replying};
 
     /// Before the first request.
@@ -116,6 +116,25 @@ impl<'s, 'v, V: Service> Replier<'s, 'v, V> {
         self.outbound = outbound;
     }
 
+    // Writes what is gathered once it is much.
+    fn relieve<K: Sink>(&mut self, sink: &mut K)
+        requires going { self.old.outbound ≡ Outbound.Done }
+        ensures answered { (first : K) (requests : List Heard) (sender : Sending)
+            → Answered K.written K.held K.faults K.may_want
+            (answering_of V.served self.old) first requests sender self.old sink.old
+            → Answered K.written K.held K.faults K.may_want
+            (answering_of V.served self.old) first requests sender self.new sink.new }
+        ensures little { IsLittle self.new }
+        ensures sender { self.new.sender ≡ self.old.sender }
+        ensures messages { self.new.messages ≡ self.old.messages }
+        ensures settings { answering_of V.served self.new ≡ answering_of V.served self.old }
+    {
+        let size = self.gathered.len();
+        if size >= MOST_GATHERED {
+            self.write(sink);
+        }
+    }
+
     // Writes what is gathered and what the sink holds.
     fn write_out<K: Sink>(&mut self, sink: &mut K)
         requires going { self.old.outbound ≡ Outbound.Done }
@@ -147,6 +166,7 @@ impl<'s, 'v, V: Service> Replier<'s, 'v, V> {
             → Answered K.written K.held K.faults K.may_want
             (answering_of V.served self.old) first (requests ++ request ∷ []) after
             self.new sink.new }
+        ensures emptied { self.new.gathered.items ≡ [] }
         ensures sender { self.new.sender ≡ self.old.sender }
         ensures messages { self.new.messages ≡ self.old.messages }
         ensures settings { answering_of V.served self.new ≡ answering_of V.served self.old }
@@ -166,6 +186,7 @@ impl<'s, 'v, V: Service> Replier<'s, 'v, V> {
             → Answered K.written K.held K.faults K.may_want
             (answering_of V.served self.old) first (requests ++ Request.Opened mode kind ∷ [])
             self.new.sender self.new sink.new }
+        ensures little { IsLittle self.old → IsLittle self.new }
         ensures messages { self.new.messages ≡ self.old.messages }
         ensures settings { answering_of V.served self.new ≡ answering_of V.served self.old }
     {
@@ -184,13 +205,13 @@ impl<'s, 'v, V: Service> Replier<'s, 'v, V> {
             mode,
             Side::Receiver,
         );
+        self.relieve(sink);
     }
 
     // Marks the end of an answer that was gathered behind so many bytes. What is gathered is
     // written once it is much. Where there is no memory for the mark, the answer isn't sent.
     fn mark<K: Sink>(&mut self, before: usize, sink: &mut K)
         requires going { self.old.outbound ≡ Outbound.Done }
-        requires behind { before ≤ length self.old.gathered.items }
         ensures answered { (first : K) (requests : List Heard) (request : Heard)
             (sender : Sending)
             → GathersOne K.written K.held K.faults K.may_want
@@ -198,6 +219,7 @@ impl<'s, 'v, V: Service> Replier<'s, 'v, V> {
             → Answered K.written K.held K.faults K.may_want
             (answering_of V.served self.old) first (requests ++ request ∷ []) self.new.sender
             self.new sink.new }
+        ensures little { IsLittle self.new }
         ensures messages { self.new.messages ≡ self.old.messages }
         ensures settings { answering_of V.served self.new ≡ answering_of V.served self.old }
     {
@@ -207,9 +229,7 @@ impl<'s, 'v, V: Service> Replier<'s, 'v, V> {
             self.starve(sink);
             return;
         }
-        if end >= MOST_GATHERED {
-            self.write(sink);
-        }
+        self.relieve(sink);
     }
 
     // Gathers an answer, or the fault in its place, where either fits and the mode admits one.
@@ -225,6 +245,9 @@ impl<'s, 'v, V: Service> Replier<'s, 'v, V> {
             → Answered K.written K.held K.faults K.may_want
             (answering_of V.served self.old) first (requests ++ Request.Received document ∷ [])
             self.new.sender self.new sink.new }
+        ensures little { (reply : List Part)
+            → IsSaid (limits_of self.old.quotas) (option_copied doc.entry) reply
+            → IsLittle self.old → IsLittle self.new }
         ensures messages { self.new.messages ≡ self.old.messages }
         ensures settings { answering_of V.served self.new ≡ answering_of V.served self.old }
     {
@@ -277,6 +300,7 @@ impl<'s, 'v, V: Service> Replier<'s, 'v, V> {
             → Answered K.written K.held K.faults K.may_want
             (answering_of V.served self.old) first (requests ++ Request.Received document ∷ [])
             self.new.sender self.new sink.new }
+        ensures little { IsLittle self.old → IsLittle self.new }
         ensures messages { self.new.messages ≡ self.old.messages }
         ensures settings { answering_of V.served self.new ≡ answering_of V.served self.old }
     {
@@ -302,6 +326,7 @@ impl<'s, 'v, V: Service> Replier<'s, 'v, V> {
             → OnErr result (Answered K.written K.held K.faults K.may_want
             (answering_of V.served self.old) first requests self.new.sender self.new sink.new) }
         ensures wanted { OnErr result (self.old.outbound ≡ Outbound.Done) }
+        ensures little { IsLittle self.old → IsLittle self.new }
         ensures messages { self.new.messages ≡ self.old.messages }
         ensures settings { answering_of V.served self.new ≡ answering_of V.served self.old }
     {

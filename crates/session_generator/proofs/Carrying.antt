@@ -129,7 +129,7 @@ module _ (statics : List Entry) (l : Limits) (good : IsGood l) (is_map : IsStati
       end_is_taken = last_taken statics l good is_map done u.sent u.are_documents u.all_fit within
 
       pub ended : (ends : Ends) → state_in ends.sender ≡ Closed
-          → names_in ends.sender ≡ names_in s.sender
+          → names_in ends.sender ≡ names_in s.sender → KeepsSettings s.sender ends.sender
           → settings_of ends.receiver ≡ settings_of s.receiver
           → StandsFor ends.receiver (front ++ 7 ∷ [])
           → ends.documents
@@ -137,7 +137,7 @@ module _ (statics : List Entry) (l : Limits) (good : IsGood l) (is_map : IsStati
           → ends.bytes ≡ length (front ++ 7 ∷ [])
           → length (front ++ 7 ∷ []) ≤ (settings_of ends.receiver).limits.session
           → HaveSession l statics done ends
-      ended ends closed names settings stands documents bytes low =
+      ended ends closed names kept settings stands documents bytes low =
           let same : settings_of ends.receiver ≡ x = settings ∙ u.settings_are in
           let whole = whole_is statics l good is_map done u.sent u.are_documents u.all_fit in
           let few : length (session_bytes opening u.sent.0) ≤ l.session =
@@ -159,6 +159,10 @@ module _ (statics : List Entry) (l : Limits) (good : IsGood l) (is_map : IsStati
               is_session = session.2;
               may_follow = tt;
             });
+            sends_within = kept.limits ∙ u.limits_are;
+            sends_strings = kept.kind ∙ u.kind_is;
+            sends_mode = kept.mode ∙ u.mode_is;
+            sends_side = kept.side ∙ u.side_is;
             closed = closed;
             sent = names ∙ u.names;
             settings = same;

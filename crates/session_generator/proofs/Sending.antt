@@ -124,17 +124,18 @@ module _ (s : Session) (end : ℕ) (is_end : end ≡ 7) (new : Receiver) (few : 
     pub ended_says : ReadSays s.receiver (end ∷ []) new (Ok tt) → (ends : Ends)
         → ends.receiver ≡ new → state_in ends.sender ≡ Closed
         → names_in ends.sender ≡ names_in s.sender
+        → KeepsSettings s.sender ends.sender
         → settings_of new ≡ settings_of s.receiver
         → ((p : List ℕ) → StandsFor new p
         → ends.documents ≡ (standing (stream (settings_of new)) p).situation.messages)
         → ((p : List ℕ) → StandsFor new p → ends.bytes ≡ length p)
         → IsShort new
         → WhereUnderWay s (λ l statics done. HaveSession l statics done ends)
-    ended_says says ends same closed names settings messages bytes low =
+    ended_says says ends same closed names kept settings messages bytes low =
         λ l statics done good is_map u.
         let stands = end_read l statics done good is_map u (Ok tt) says in
         ended statics l good is_map done s u (short statics l good is_map done s u few) ends closed
-        names (ap settings_of same ∙ settings)
+        names kept (ap settings_of same ∙ settings)
         (subst (λ r. StandsFor r (front statics l good is_map done s u ++ 7 ∷ [])) (sym same)
         stands)
         (messages _ stands

@@ -6,7 +6,8 @@ use Rattle.nbfx_values.specs.declared.{content.Item.Item, refusals.Offence.Offen
 use Rattle.nbfx_values.specs.declared.refusals.Reason.TheVariants.{SessionTooLong as IsLong}
 use Rattle.nbfx_values.specs.declared.session.{Kind.TheVariants.Session, Mode.TheVariants.Duplex}
 use Rattle.nbfx_encoder.specs.{declared.sender.SendState.TheVariants.Closed, Placing.Placed}
-use Rattle.nbfx_encoder.specs.Sending.{names_in, state_in}
+use Rattle.nbfx_encoder.specs.declared.sender.Side.TheVariants.{Initiator}
+use Rattle.nbfx_encoder.specs.Sending.{kind_in, limits_in, mode_in, names_in, side_in, state_in}
 use Rattle.stream_reader.specs.Sessions.{Carried, conversation, IsSession}
 use Rattle.stream_reader.specs.Stream.{any_initiators, stream, strings_in}
 use Rattle.receiver_machine.specs.ReceiverState.{settings_of, StandsFor}
@@ -15,7 +16,8 @@ use Rattle.session_generator.specs.declared.ends.GenFault.TheVariants.{Memory, S
 use Rattle.session_generator.specs.Generated.{session_of, via}
 
 -- One end has sent the session and ended it, the other has read all of it, and both have the same
--- strings. It is a session of just these documents.
+-- strings. It is a session of just these documents. The sending end is an initiator's in duplex
+-- mode, with session strings and the given quotas, and so is what the other reads.
 pub record HaveSession (limits : Limits) (statics : List Entry) (documents : List (List Item))
     (ends : Ends) : Type 0 where
   pub session : Placed (List ℕ)
@@ -25,6 +27,10 @@ pub record HaveSession (limits : Limits) (statics : List Entry) (documents : Lis
   pub is_session : IsSession (any_initiators statics limits)
       (conversation Duplex Session via carried) session.0
   pub unrefused : offence (any_initiators statics limits) session.0 ≡ None
+  pub sends_within : limits_in ends.sender ≡ limits
+  pub sends_strings : kind_in ends.sender ≡ Session
+  pub sends_mode : mode_in ends.sender ≡ Duplex
+  pub sends_side : side_in ends.sender ≡ Initiator
   pub closed : state_in ends.sender ≡ Closed
   pub sent : names_in ends.sender ≡ session.1
   pub settings : settings_of ends.receiver ≡ any_initiators statics limits

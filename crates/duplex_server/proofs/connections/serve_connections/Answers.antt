@@ -1,4 +1,4 @@
-use Rattle.std.proofs.Common.{◌≡◌, ap}
+use Rattle.std.proofs.Common.{◌≡◌, sym, refl, ap, ◌∙◌, inl, inr}
 use Rattle.io_edges.specs.{Gathering.Gathering, Wires.Network, Wires.network_at}
 use Rattle.{nbfx_values.specs.QuotasOf.limits_of, stream_reader.specs.Sides.endpoint_of}
 use Rattle.duplex_server.specs.{Owed.answering, Served.Ends, Served.ends_at}
@@ -36,4 +36,12 @@ returns-clause-served g c =
     (seen g run.new.wire) run.result c.args.output first.sink last.sink c.into_sink.result
     first.gathered last.gathered (last ≡ first) c.new-lines.ensures.sink
     c.new-lines.ensures.nothing c.into_sink.ensures
-    (λ same. ap (λ (k : Gathering g.row.O.Denot). k.sink) same) run.ensures
+    (λ same. ap (λ (k : Gathering g.row.O.Denot). k.sink) same) run.ensures.served
+
+pub returns-in_default-clause-memory : goal.returns-in_default-clause-memory
+returns-in_default-clause-memory g c = λ stops. inl (refl, refl)
+
+pub returns-clause-memory : goal.returns-clause-memory
+returns-clause-memory g c = λ stops.
+    inr (ap g.O.Sink.may_want (sym c.new-lines.ensures.sink)
+    ∙ c.serve_each-served.ensures.memory stops)

@@ -1,10 +1,10 @@
-use Rattle.std.proofs.Common.{Ok, Err, sym, subst}
+use Rattle.std.proofs.Common.{Ok, Err, sym, refl, ◌∙◌, subst}
 use Rattle.{std.proofs.lemmas.Result.err_from_is_err_and, stream_loop.specs.Writing.PutsTo}
 use Rattle.io_edges.specs.Wires.{Network, network_at}
 use Rattle.{nbfx_values.specs.QuotasOf.limits_of, stream_reader.specs.Sides.endpoint_of}
 use Rattle.duplex_server.specs.{declared.outcome.Outcome.Outcome, Owed.answering}
 use Rattle.duplex_server.specs.{Lines.connection_line, Served.Ends, Served.ends_at}
-use Rattle.duplex_server.proofs.Stops.{along_more, along_none, output_failed}
+use Rattle.duplex_server.proofs.Stops.{along_more, along_none, output_failed, output_wants}
 use Rattle.duplex_server.proofs.connections.serve_each.Given.{Over}
 use Rattle.duplex_server.proofs.connections.serve_each.Goals as goal
 
@@ -20,13 +20,16 @@ module _ (g : Over) where
 
 pub loop-number-init : goal.loop-number-init
 loop-number-init g c =
-    let s = c.args.server.now in
-    along_none (answering (g.V.Service.served s.service.now) s.statics.now
-    (limits_of s.quotas.now)) (endpoint_of s.endpoint.now) (ends g) g.O.Sink.written
-    g.O.Sink.held g.O.Sink.faults g.O.Sink.may_want (seen g c.args.wire.now) c.args.output.now
+    let s = c.args.server.now in (
+      along_none (answering (g.V.Service.served s.service.now) s.statics.now
+          (limits_of s.quotas.now)) (endpoint_of s.endpoint.now) (ends g) g.O.Sink.written
+          g.O.Sink.held g.O.Sink.faults g.O.Sink.may_want (seen g c.args.wire.now)
+          c.args.output.now,
+      refl,
+    )
 
-pub returns-in_err-put_line : goal.returns-in_err-put_line
-returns-in_err-put_line g c =
+pub returns-in_err-put_line-clause-served : goal.returns-in_err-put_line-clause-served
+returns-in_err-put_line-clause-served g c =
     let s = c.args.server.now in
     let l = c.loop-number in
     let next = rw c.in-Some.is at c.in_ok-outcome.ensures in
@@ -36,24 +39,35 @@ returns-in_err-put_line g c =
     rw (r.1, r.2) (output_failed (answering (g.V.Service.served s.service.now) s.statics.now
     (limits_of s.quotas.now)) (endpoint_of s.endpoint.now) (ends g) g.O.Sink.written
     g.O.Sink.held g.O.Sink.faults g.O.Sink.may_want c.args.connections (seen g c.args.wire.now)
-    (seen g l.wire) c.args.output.now l.output l.number l.invariant
+    (seen g l.wire) c.args.output.now l.output l.number l.invariant.0
     (seen g c.serve_next.new.wire) next.0 next.2 c.put_line.new.output p.ensures.emptied
     c.loop-number-test.true p.field-0.0
     (subst (λ (o : Outcome). PutsTo g.O.Sink.written g.O.Sink.held g.O.Sink.faults
     g.O.Sink.may_want l.output c.put_line.new.output (connection_line l.number o) (Err p.field-0.0))
     (sym next.1) p.ensures.puts))
 
+pub returns-in_err-put_line-clause-memory : goal.returns-in_err-put_line-clause-memory
+returns-in_err-put_line-clause-memory g c =
+    let l = c.loop-number in
+    let p = c.in_err-put_line in
+    let f = c.from_residual-in_err-put_line in
+    let r = err_from_is_err_and f.result f.ensures.1 in
+    rw (r.1, r.2) (output_wants g.O.Sink.written g.O.Sink.held g.O.Sink.faults g.O.Sink.may_want
+    c.args.output.now l.output c.put_line.new.output _ p.field-0.0 l.invariant.1 p.ensures.puts)
+
 pub loop-number-preserved : goal.loop-number-preserved
 loop-number-preserved g c =
     let s = c.args.server.now in
     let l = c.loop-number in
     let next = rw c.in-Some.is at c.in_ok-outcome.ensures in
-    let p = c.in_ok-put_line in
-    along_more (answering (g.V.Service.served s.service.now) s.statics.now
-    (limits_of s.quotas.now)) (endpoint_of s.endpoint.now) (ends g) g.O.Sink.written
-    g.O.Sink.held g.O.Sink.faults g.O.Sink.may_want c.args.connections (seen g c.args.wire.now)
-    (seen g l.wire) c.args.output.now l.output l.number l.invariant
-    (seen g c.serve_next.new.wire) next.0 next.2 c.put_line.new.output p.ensures.emptied
-    (subst (λ (o : Outcome). PutsTo g.O.Sink.written g.O.Sink.held g.O.Sink.faults
-    g.O.Sink.may_want l.output c.put_line.new.output (connection_line l.number o) (Ok tt))
-    (sym next.1) p.ensures.puts)
+    let p = c.in_ok-put_line in (
+      along_more (answering (g.V.Service.served s.service.now) s.statics.now
+          (limits_of s.quotas.now)) (endpoint_of s.endpoint.now) (ends g) g.O.Sink.written
+          g.O.Sink.held g.O.Sink.faults g.O.Sink.may_want c.args.connections
+          (seen g c.args.wire.now) (seen g l.wire) c.args.output.now l.output l.number l.invariant.0
+          (seen g c.serve_next.new.wire) next.0 next.2 c.put_line.new.output p.ensures.emptied
+          (subst (λ (o : Outcome). PutsTo g.O.Sink.written g.O.Sink.held g.O.Sink.faults
+          g.O.Sink.may_want l.output c.put_line.new.output (connection_line l.number o) (Ok tt))
+          (sym next.1) p.ensures.puts),
+      p.ensures.puts.settled ∙ l.invariant.1,
+    )

@@ -1,5 +1,5 @@
-use Rattle.{io_edges.specs.Wires.network_at, nbfx_values.specs.QuotasOf.limits_of}
-use Rattle.stream_reader.specs.Sides.{endpoint_of}
+use Rattle.{std.proofs.Common.◌≡◌, io_edges.specs.Wires.network_at}
+use Rattle.{nbfx_values.specs.QuotasOf.limits_of, stream_reader.specs.Sides.endpoint_of}
 use Rattle.duplex_server.specs.{Along.IsAlong, Owed.answering, Served.ends_at}
 use Rattle.duplex_server.proofs.connections.serve_each.Given as goal
 
@@ -15,3 +15,4 @@ invariant-loop-number g l =
     g.W.Wire.end_faults l.fn.wire)
     (network_at g.W.Wire.waiting g.W.Wire.closed g.W.Wire.out g.W.Wire.faults
     g.W.Wire.end_faults l.wire) l.fn.output l.output l.number
+    × (g.O.Sink.may_want l.output ≡ g.O.Sink.may_want l.fn.output)

@@ -1,4 +1,4 @@
-use Rattle.std.proofs.Common.{◌≡◌, List, map, sym, refl, ap, ◌∙◌}
+use Rattle.std.proofs.Common.{◌≡◌, List, map, sym, refl, ap, ◌∙◌, arith}
 use Rattle.nbfx_values.specs.QuotasOf.{limits_of}
 use Rattle.stream_reader.specs.{Sides.endpoint_of, Stream.StreamEvent}
 use Rattle.stream_loop.specs.Edges.{Input, input_at}
@@ -25,6 +25,7 @@ follow_requests-ending-requires-clause-fresh g c =
           (answered_first g.K.Sink.written g.K.Sink.held g.K.Sink.faults g.K.Sink.may_want
           (answering_of g.V.Service.served r) c.args.sink.now r.sender r.answers
           (e.state ∙ ap start (sym e.statics)));
+      little = rw e.gathered (omega arith);
     }
 
 pub returns : goal.returns

@@ -1,4 +1,4 @@
-use Rattle.std.proofs.Common.{◌≡◌, List, subst}
+use Rattle.std.proofs.Common.{List, subst}
 use Rattle.{nbfx_values.specs.declared.content.Item.Item, nbfx_encoder.specs.Spelling.encoded}
 use Rattle.nbfx_encoder.specs.Sending.{kind_in, limits_in, mode_in, names_in, state_in}
 use Rattle.action_dispatch.specs.Refusals.{unfit_fault}

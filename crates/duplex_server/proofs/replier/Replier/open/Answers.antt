@@ -1,4 +1,4 @@
-use Rattle.std.proofs.Common.{[], ◌∷◌, refl}
+use Rattle.std.proofs.Common.{[], ◌∷◌, ◌++◌, refl, arith}
 use Rattle.duplex_server.specs.{declared.requests.Request.TheVariants.Opened, Replying.answering_of}
 use Rattle.duplex_server.proofs.{Heard.gathers_quietly, Heard.stopped_more, Replies.opened_is}
 use Rattle.duplex_server.proofs.replier.Replier.open.Goals as goal
@@ -23,9 +23,20 @@ returns-clause-answered g c = λ first requests h.
     let e = c.new.ensures in
     let going = c.if-not-is_going.ensures.going refl in
     let pushed = rw c.if-is_err.ensures.negation at c.push.ensures.items in
-    rw (going, pushed) (gathers_quietly g.K.Sink.written g.K.Sink.held g.K.Sink.faults
+    let r = c.relieve.ensures in
+    rw r.sender (r.answered first (requests ++ Opened c.args.mode c.args.kind ∷ []) c.new.result
+    (rw (going, pushed) (gathers_quietly g.K.Sink.written g.K.Sink.held g.K.Sink.faults
     g.K.Sink.may_want (answering_of g.V.Service.served m) first requests m.sender m.answers
     m.gathered.items m.ends.items c.args.sink.now (rw going at h)
     (Opened c.args.mode c.args.kind) (0x0B ∷ []) c.new.result refl
     (opened_is c.args.mode c.args.kind m.statics.now c.new.result m.sender _ e.mode e.kind e.state
-    e.names))
+    e.names))))
+
+pub returns-then-not-is_going-clause-little : goal.returns-then-not-is_going-clause-little
+returns-then-not-is_going-clause-little g c = λ little. little
+
+pub returns-then-is_err-clause-little : goal.returns-then-is_err-clause-little
+returns-then-is_err-clause-little g c = λ little. rw c.starve.ensures.emptied (omega arith)
+
+pub returns-clause-little : goal.returns-clause-little
+returns-clause-little g c = λ little. c.relieve.ensures.little

@@ -1,4 +1,4 @@
-use Rattle.std.proofs.Common.{[], ◌∷◌, ◌++◌, sym, ap, ◌∙◌, subst, inl, inr}
+use Rattle.std.proofs.Common.{[], ◌∷◌, ◌++◌, sym, ap, ◌∙◌, subst}
 use Rattle.io_edges.specs.Faults.{one_more}
 use Rattle.duplex_server.specs.declared.requests.Request.TheVariants.{Opened, Received}
 use Rattle.duplex_server.specs.{Owed.Answering, Replying.answering_of, Replying.HasHeard}
@@ -15,6 +15,7 @@ returns-in-Opened-clause-heard g c = λ first events heard.
       counted = e.messages ∙ heard.counted
           ∙ sym (messages_more 0 events (Opened c.in-Opened.mode c.in-Opened.kind));
       answered = e.answered first events heard.answered;
+      little = e.little heard.little;
     }))
 
 pub returns-in_ok-spent-in-Received-clause-heard :
@@ -26,6 +27,7 @@ returns-in_ok-spent-in-Received-clause-heard g c = λ first events heard.
       counted = c.saturating_add-self.ensures ∙ ap one_more (e.messages ∙ heard.counted)
           ∙ sym (messages_more 0 events (Received c.in-Received.doc));
       answered = k.answered first events heard.answered;
+      little = e.little heard.little;
     })
 
 pub returns-in-Ended-clause-heard : goal.returns-in-Ended-clause-heard
@@ -36,4 +38,5 @@ returns-in-Ended-clause-heard g c = λ first events heard.
       answered = answered_quietly g.K.Sink.written g.K.Sink.held g.K.Sink.faults g.K.Sink.may_want
           (answering_of g.V.Service.served m) first events m.sender m.answers m.gathered.items
           m.ends.items c.args.sink.now c.args.request m.outbound c.in-Ended.is heard.answered;
+      little = heard.little;
     }

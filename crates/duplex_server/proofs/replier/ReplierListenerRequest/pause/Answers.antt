@@ -1,4 +1,4 @@
-use Rattle.std.proofs.Common.{sym, refl, ◌∙◌, subst}
+use Rattle.std.proofs.Common.{sym, refl, ◌∙◌, subst, arith}
 use Rattle.duplex_server.specs.{Owed.Answering, Replying.answering_of, Replying.HasHeard}
 use Rattle.duplex_server.proofs.Heard.{answered_still, waits_ended, waits_going}
 use Rattle.duplex_server.proofs.replier.ReplierListenerRequest.pause.Goals as goal
@@ -21,6 +21,7 @@ returns-then-not-is_going-clause-heard g c = λ first events heard.
             settled = e.settled;
           })
           heard.answered;
+      little = heard.little;
     }
 
 pub returns-then-not-is_going-clause-may_wait : goal.returns-then-not-is_going-clause-may_wait
@@ -50,6 +51,7 @@ returns-then-not-is_going-2-clause-heard g c = λ first events heard.
             settled = e.settled;
           })
           (rw w.sender (w.answered first events c.args.self.now.sender heard.answered));
+      little = rw w.emptied (omega arith);
     })
 
 pub returns-then-not-is_going-2-clause-may_wait : goal.returns-then-not-is_going-2-clause-may_wait
@@ -67,6 +69,7 @@ returns-else-not-is_going-2-clause-heard g c = λ first events heard.
     (sym e.settings) (record {
       counted = e.messages ∙ heard.counted;
       answered = rw e.sender (e.answered first events c.args.self.now.sender heard.answered);
+      little = rw e.emptied (omega arith);
     })
 
 pub returns-else-not-is_going-2-clause-may_wait : goal.returns-else-not-is_going-2-clause-may_wait

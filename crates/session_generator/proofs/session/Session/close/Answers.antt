@@ -32,5 +32,5 @@ returns-clause-ended c =
       documents = c.messages.result;
       bytes = c.taken.result;
     })
-    refl c.in-Ok.ensures.closed c.end.ensures.names c.read.ensures.settings
+    refl c.in-Ok.ensures.closed c.end.ensures.names c.end.ensures.kept c.read.ensures.settings
     c.messages.ensures.stands c.taken.ensures.stands c.taken.ensures.within
