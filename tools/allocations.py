@@ -7,11 +7,12 @@ for, and what wasn't given back.
 import os
 import subprocess
 
-from sockets import PROGRAM, SECONDS
+from sockets import PROGRAM, SAMPLES, SECONDS
 
 # More than any run asks for.
 AMPLE = 1_000_000
 OUT_OF_MEMORY = (5, b"out of memory\n")
+ALL_STRINGS = os.path.join(SAMPLES, "mc-nbfs.csv")
 # Fails the call with a number, from 1, of all that ask for memory, and writes at the end how many
 # did, and how many more gave memory than gave it back. Fails the write of the output, and the send
 # over a socket, with a number, if there is one, and writes how many of each there were; reads at
@@ -98,6 +99,14 @@ void free(void *p) {
     next(p);
 }
 """
+
+
+def few_strings(folder):
+    """A few of the published strings, so that most allocations are those of the stream."""
+    few = os.path.join(folder, "few.csv")
+    with open(ALL_STRINGS) as all_strings, open(few, "w") as some:
+        some.writelines(line for number, line in enumerate(all_strings) if number < 40)
+    return few
 
 
 class Shim:

@@ -18,6 +18,8 @@ OUTPUT_AND_MEMORY = (5, b"", b"out of memory\n")
 BROKEN = re.compile(rb"connection \d+ messages \d+ answers \d+ in ended out write-fault\n")
 LINE = re.compile(rb"connection \d+ messages \d+ answers \d+ in (ended|memory) out (done|memory)\n")
 SENT = re.compile(rb"sent (\d+) tags (a*b*|-)\n\Z")
+# What a peer got that waited too long. Nothing that is due begins so.
+LATE = b"nothing in time"
 
 
 def wait_to_end(started):
@@ -36,13 +38,13 @@ def started_with(environment, words, stdin=subprocess.DEVNULL, output=subprocess
     return subprocess.Popen([PROGRAM] + words, env=environment, **ends)
 
 
-def asked(started, port, stream):
+def asked(started, port, stream, exchange):
     """What the server answers to a client that sends this."""
     connection = connected(started, port)
     if connection is None:
         return b""
     with connection:
-        return exchanged(connection, stream)
+        return exchange(connection, stream)
 
 
 def exchanged(connection, stream):
@@ -55,27 +57,44 @@ def exchanged(connection, stream):
     return read_all(connection)
 
 
-def serve(shim, words, streams, number, more={}):
+def waiting(first, awaited):
+    """How a peer exchanges that waits: it sends so many bytes, then the others once it has so many
+    as it waits for, or is told the end. Where neither comes in time, it got `LATE`."""
+    def exchange(connection, stream):
+        got = b""
+        try:
+            connection.sendall(stream[:first])
+            while len(got) < awaited and (piece := connection.recv(65536)):
+                got += piece
+        except TimeoutError:
+            return LATE
+        except OSError:
+            pass
+        return got + exchanged(connection, stream[first:])
+    return exchange
+
+
+def serve(shim, words, streams, number, more={}, exchange=exchanged):
     """How `serve` of a connection for each stream ends, and what answers each of them."""
     port = free_port()
     words = ["serve", *words, "--listen", place(port), "--connections", str(len(streams))]
     started = started_with(shim.told(number, more), words)
-    answers = [asked(started, port, stream) for stream in streams]
+    answers = [asked(started, port, stream, exchange) for stream in streams]
     return *wait_to_end(started), answers
 
 
-def call(shim, words, lines, replies, number, output=subprocess.PIPE, more={}):
+def call(shim, words, lines, replies, number, output=subprocess.PIPE, more={}, exchange=exchanged):
     """How `call` with these lines ends, and what it sends to a service that replies so."""
     with socket.create_server((HOST, 0)) as server, tempfile.TemporaryFile() as stdin:
         stdin.write(lines)
         stdin.seek(0)
         words = ["call", *words, "--connect", place(server.getsockname()[1])]
         started = started_with(shim.told(number, more), words, stdin, output)
-        received = replied(server, started, replies)
+        received = replied(server, started, replies, exchange)
         return *wait_to_end(started), received
 
 
-def replied(server, started, replies):
+def replied(server, started, replies, exchange):
     """What one client sends, which gets these replies. Without a connection it is nothing."""
     end = os.pidfd_open(started.pid)
     try:
@@ -87,7 +106,7 @@ def replied(server, started, replies):
     connection, _ = server.accept()
     with connection:
         connection.settimeout(SECONDS)
-        return exchanged(connection, replies)
+        return exchange(connection, replies)
 
 
 def may_serve(whole, ended):
@@ -266,6 +285,35 @@ def sending_plans(shim, statics, stream):
     yield "call with a failed send", call_failing, may_call_brokenly(fronts)
 
 
+def waiting_plans(shim, statics, two):
+    """The same of peers that wait for more, by the lines of two documents, with what goes over the
+    runs: over allocations, or over sends. A client has sent all but End, and waits for the answers; a
+    service has sent its Ack, and waits for the session."""
+    words = statics + ["--via=" + VIA]
+    fronts = fronts_of(statics, ["--via=" + VIA], two)
+    session = fronts[-1]
+    replies = run(["replay"] + statics, session)[1]
+    client = waiting(len(session) - 1, len(replies) - 1)
+    service = waiting(1, len(session))
+
+    def serve_so(number, more={}):
+        return serve(shim, statics, [session] * 2, number, more, client)
+
+    def call_so(number, more={}):
+        lines = b"".join(two)
+        return call(shim, words, lines, replies, number, more=more, exchange=service)
+
+    def sends(run_so):
+        return lambda number: run_so(AMPLE, {"FAIL_SEND": str(number)})
+
+    yield "serve whose client waits", serve_so, may_serve, tried
+    yield "serve with a failed send whose client waits", sends(serve_so), may_serve_brokenly, \
+        tried_sending
+    yield "call whose service waits", call_so, may_call(fronts), tried
+    yield "call with a failed send whose service waits", sends(call_so), may_call_brokenly(fronts), \
+        tried_sending
+
+
 def many(shim, statics, stream):
     """The name of a run of many connections, and of one of many documents, how it ends, and how
     many allocations it leaves."""
@@ -294,7 +342,8 @@ def tried_sending(shim, name, run_failing, may_end):
 def each_failing(shim, name, run_failing, may_end, kind, counted):
     """The same of what stands at that place of the counts."""
     whole = run_failing(AMPLE)
-    if whole[0] and whole[:3] != INTO_FULL_DEVICE:
+    received = whole[3] if isinstance(whole[3], list) else [whole[3]]
+    if LATE in received or whole[0] and whole[:3] != INTO_FULL_DEVICE:
         raise SystemExit("%s: with none failing %r" % (name, whole))
     runs = failing = wrong = 0
     failed = True

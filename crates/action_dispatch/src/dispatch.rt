@@ -140,12 +140,12 @@ fn answer_asked<V: Service>(
 
 /// What a server with this service answers to the request that is this document: a fault where the
 /// document is no envelope or the request isn't one to serve, and else what the service says. What
-/// the answer has of the request is measured before it is made: an answer whose content of Body,
-/// with the declarations of its elements, or whose names of blocks that weren't understood count
-/// more than the quotas admit isn't made, since it is never written. Nor is a reply that the service
-/// says is too large. A service that doesn't use Body answers whatever Body has. Where a service gives the content back, its items are moved into
-/// the reply, and copied only where the root or Body declares other prefixes than those of every
-/// reply.
+/// the answer copies of Body is measured before it is copied: an answer whose content of Body, with
+/// the declarations of its elements, or whose names of blocks that weren't understood count more
+/// than the quotas admit isn't made, since it is never written. Nor is a reply that the service says
+/// is too large. A service that doesn't use Body answers whatever Body has. Where a service gives
+/// the content back, its items are moved into the reply, and copied only where the root or Body
+/// declares other prefixes than those of every reply.
 pub fn answer_owned<V: Service>(
     alloc: Global,
     quotas: &Quotas,

@@ -5,7 +5,8 @@
 //! `specs/Answers.antt` has its cases in the order in which a request is judged by SOAP 1.2 and
 //! WS-Addressing 1.0, and `specs/Refusals.antt` has the fault of each reason not to serve one.
 //! `answer` and `answer_owned` are proved to give it, or to say that it is larger than may be sent:
-//! what an answer has of its request, or of a file, is measured before it is made.
+//! what it copies of Body or of a file, and the names in a fault, are measured before they are
+//! copied.
 //!
 //! There are two services: `EchoService` gives the content of Body back, and `TableService` gives
 //! the text that a file has for the action (`specs/Actions.antt`).

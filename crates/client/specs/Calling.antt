@@ -1,5 +1,5 @@
 -- What a caller has heard, reported and sent.
-use Rattle.std.specs.Prelude.{◌≡◌, ℕ, Bool, ◌⊎◌, List, [], map, Ok, Option, ⊤}
+use Rattle.std.specs.Prelude.{◌≡◌, ℕ, Bool, true, ◌⊎◌, List, [], map, Ok, Option, ⊤}
 use Rattle.nbfx_values.specs.declared.{content.Item.Item, refusals.Offence.Offence}
 use Rattle.{stream_reader.specs.Stream.stream, session_report.specs.declared.reading.Event.Event}
 use Rattle.stream_loop.specs.declared.{following.Ending.Ending, outbound.Outbound.Outbound}
@@ -77,10 +77,10 @@ HasEnded opened ack = (opened ≡ outbounds.Done → ⊥) ⊎ (ack ≡ Read)
 
 -- An event may be waited for: the lines of those before have left, unless the writing of the report
 -- has ended; and where nothing is put to the sink any more, its direction was ended.
-pub record MayWait {K O : Type 0} (ended : K → Type 0) (held : O → List ℕ) (caller : Caller)
+pub record MayWait {K O : Type 0} (ended : K → Bool) (held : O → List ℕ) (caller : Caller)
     (now : Outputs K O) : Type 0 where
   pub reported : caller.report ≡ outbounds.Done → held now.report.now ≡ []
-  pub told : HasEnded caller.opened caller.ack → ended now.sink.now
+  pub told : HasEnded caller.opened caller.ack → ended now.sink.now ≡ true
 
 -- a caller before the first event
 pub record IsFresh (caller : Caller) : Type 0 where

@@ -1,7 +1,7 @@
 //! What hears the events of the peer's stream, and answers and reports them.
 
-ghost use Rattle.std.specs.Prelude.{◌≡◌, List, [], ℕ, ⊤, true, Result};
-ghost use Rattle.stream_loop.specs.Writing.{Goes, Writes, Wrote, outbound_by};
+ghost use Rattle.std.specs.Prelude.{◌≡◌, List, [], ℕ, ⊤, true, false, Result};
+ghost use Rattle.stream_loop.specs.Writing.{Goes, TellsAlike, Writes, Wrote, outbound_by};
 ghost use Rattle.io_edges.specs.declared.SinkFault.{SinkFault as Fault};
 ghost use Rattle.command_words.specs.declared.task.Detail.{Detail as Shown};
 ghost use Rattle.session_report.specs.declared.reading.Event.{Event as Heard};
@@ -127,6 +127,8 @@ impl<'s> Caller<'s> {
             → SendsSo K.written K.held K.faults K.may_want self.old.outgoing
             self.old.opened first Ack.Read self.new.outbound self.new.sent sink.new }
         ensures ack { self.new.ack ≡ Ack.Read }
+        ensures same_end { K.ended sink.new ≡ K.ended sink.old }
+        ensures stopped { (self.old.opened ≡ Outbound.Done → ⊥) → sink.new ≡ sink.old }
         ensures outgoing { self.new.outgoing ≡ self.old.outgoing }
         ensures opened { self.new.opened ≡ self.old.opened }
         ensures reached { self.new.reached ≡ self.old.reached }
@@ -150,6 +152,9 @@ impl<'s> Caller<'s> {
             self.old.opened first (ack_after self.old.ack event.now) self.new.outbound
             self.new.sent sink.new }
         ensures ack { self.new.ack ≡ ack_after self.old.ack event.now }
+        ensures same_end { K.ended sink.new ≡ K.ended sink.old }
+        ensures stopped { HasEnded self.old.opened self.old.ack
+            → HasEnded self.new.opened self.new.ack × (sink.new ≡ sink.old) }
         ensures outgoing { self.new.outgoing ≡ self.old.outgoing }
         ensures opened { self.new.opened ≡ self.old.opened }
         ensures reached { self.new.reached ≡ self.old.reached }
@@ -201,6 +206,17 @@ impl<'s> Caller<'s> {
         }
     }
 
+    // Whether nothing is put to the sink any more.
+    fn has_ended(&self) -> bool
+        ensures ended { result ≡ true → HasEnded self.now.opened self.now.ack }
+        ensures going { result ≡ false → HasEnded self.now.opened self.now.ack → ⊥ }
+    {
+        match self.ack {
+            Ack::Read => true,
+            Ack::Awaited => !self.opened.is_going(),
+        }
+    }
+
     // Ends the direction of the sink, where nothing is put to it any more.
     fn end_sending<K: Sink>(&self, sink: &mut K)
         ensures sends { (first : K) → SendsSo K.written K.held K.faults K.may_want
@@ -208,15 +224,12 @@ impl<'s> Caller<'s> {
             self.now.sent sink.old
             → SendsSo K.written K.held K.faults K.may_want self.now.outgoing
             self.now.opened first self.now.ack self.now.outbound self.now.sent sink.new }
-        ensures ended { HasEnded self.now.opened self.now.ack → K.ended sink.new }
+        ensures ended { HasEnded self.now.opened self.now.ack → K.ended sink.new ≡ true }
+        ensures same_end { (HasEnded self.now.opened self.now.ack → ⊥) → sink.new ≡ sink.old }
+        ensures unput { TellsAlike K.written K.held K.faults K.may_want sink.old sink.new }
     {
-        if !self.opened.is_going() {
+        if self.has_ended() {
             sink.end();
-            return;
-        }
-        match self.ack {
-            Ack::Read => sink.end(),
-            Ack::Awaited => {}
         }
     }
 
@@ -244,7 +257,8 @@ impl<'s> Caller<'s> {
 
 impl<'s, 'k, 'o, K: Sink, O: Sink> Listener<Event, Outputs<'k, 'o, K, O>> for Caller<'s> {
     ghost use Rattle.client.specs.declared.outgoing.Outgoing.{Outgoing as Due};
-    ghost use Rattle.client.specs.Calling.{IsAlong, MayWait};
+    ghost use Rattle.client.specs.Calling.{HasEnded, IsAlong, MayWait};
+    ghost use Rattle.stream_loop.specs.Writing.{TellsAlike};
     ghost use Rattle.stream_loop.specs.declared.outbound.Outbound.{Outbound as Stands};
 
     ghost Settings = { Due × Stands };
@@ -257,6 +271,13 @@ impl<'s, 'k, 'o, K: Sink, O: Sink> Listener<Event, Outputs<'k, 'o, K, O>> for Ca
     ghost may_take_memory = { λ caller. ⊥ };
 
     ghost may_wait = { λ caller now. MayWait K.ended O.held caller now };
+
+    ghost ended = { λ outputs. K.ended outputs.sink.now };
+
+    ghost has_stopped = { λ caller. HasEnded caller.opened caller.ack };
+
+    ghost is_unput = { λ old new. TellsAlike K.written K.held K.faults K.may_want old.sink.now
+        new.sink.now };
 
     fn hear(&mut self, event: Event, outputs: &mut Outputs<'k, 'o, K, O>) -> Result<Event, Memory> {
         self.report(&event, outputs.report);

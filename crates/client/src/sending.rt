@@ -72,12 +72,13 @@ fn whole_within(put: usize, ends: &[usize]) -> usize
 
 // Ends the writing when all bytes were put: what the sink holds is written, unless memory ran out.
 fn end_writing<K: Sink>(fault: Option<EncodeFault>, count: u64, sink: &mut K) -> ClientOut
-    ensures { (x : Sending) (bytes ends before : List ℕ) (first : K)
+    ensures sends { (x : Sending) (bytes ends before : List ℕ) (first : K)
         → ((n : ℕ) → CutsAt x bytes (whole_within n ends) n) → HoldsSo x fault bytes ends
         → count ≡ whole_within (length bytes) ends
         → PutsTo K.written K.held K.faults K.may_want first sink.old (before ++ bytes)
         (Result.Ok tt)
         → SendsAll x K.written K.held K.faults K.may_want before first result count sink.new }
+    ensures same_end { K.ended sink.new ≡ K.ended sink.old }
 {
     if fault == Some(EncodeFault::Memory) {
         return client_out(starve(sink));
@@ -97,11 +98,12 @@ fn end_writing<K: Sink>(fault: Option<EncodeFault>, count: u64, sink: &mut K) ->
 
 /// Writes the envelopes, and the End record where there is one.
 pub fn send_envelopes<K: Sink>(outgoing: &Outgoing<'_>, sink: &mut K) -> Sent
-    ensures { (documents : List (List Part)) (first : K) (before : List ℕ)
+    ensures sends { (documents : List (List Part)) (first : K) (before : List ℕ)
         → Carries documents outgoing.now
         → PutsTo K.written K.held K.faults K.may_want first sink.old before (Result.Ok tt)
         → SendsAll (sending_by outgoing.now.settings documents) K.written K.held K.faults
         K.may_want before first result.outbound result.count sink.new }
+    ensures same_end { K.ended sink.new ≡ K.ended sink.old }
 {
     let (put, outbound) = put_parts(&outgoing.bytes, sink);
     let count = whole_within(put, &outgoing.ends) as u64;

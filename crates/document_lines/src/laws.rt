@@ -27,7 +27,8 @@ pub fn accepted_is_built()
 /// A refused line is the next one, by its number from 1, and its kind says why: it is refused for
 /// what it says or for its place, it begins a second document in singleton mode, or there is none
 /// and the input ends, too early or without a document. A document that doesn't fit is the next one
-/// too, by its number from 0, and the refusal says what it has too much of; want of memory is none.
+/// too, by its number from 0, and the refusal says which quota it is above, or that a QName of it
+/// gets no identifier; want of memory is none.
 /// And input is too long where it has as many bytes as the session quota.
 pub fn input_is_written()
     ensures written { InputIsWritten }

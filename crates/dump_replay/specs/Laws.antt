@@ -93,7 +93,7 @@ BuildsAreComplete = (opening : Opening) (statics : List Entry) (limits : Limits)
     ⊎ (status_of_building ending ≡ 5)
 
 -- No document is refused for want of memory, of which the status is 5: where 7 is the status, a
--- document has too much of something.
+-- document is above a quota, or a QName of it gets no identifier.
 abbrev pub UnfitHasACause : Type 0
 UnfitHasACause = (opening : Opening) (statics : List Entry) (limits : Limits) (i i' : Input)
     (o o' : Output) (number : ℕ)

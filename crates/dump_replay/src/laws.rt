@@ -20,7 +20,8 @@ pub fn complete_builds()
 {}
 
 /// The writing of documents never ends with a document refused for want of memory: then it is out
-/// of memory. So the status is 7 only for a document that has too much of something.
+/// of memory. So the status is 7 only for a document that is above a quota, or of which a QName gets
+/// no identifier.
 pub fn unfit_documents()
     ensures { UnfitHasACause }
 {}

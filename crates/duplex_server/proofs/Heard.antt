@@ -346,14 +346,24 @@ answered_still written held faults may_want x first requests o stopped sender an
     }
 
 -- a request may be waited for, by what has become of the writing
-pub waits_ended : {K : Type 0} (held : K → List ℕ) (ended : K → Type 0) (o : Outbound)
-    → (o ≡ Done → ⊥) → (gathered : List ℕ) (now : K) → ended now
+pub waits_ended : {K : Type 0} (held : K → List ℕ) (ended : K → Bool) (o : Outbound)
+    → (o ≡ Done → ⊥) → (gathered : List ℕ) (now : K) → ended now ≡ true
     → MayWait held ended o gathered now
 waits_ended held ended Done stopped gathered now is = absurd (stopped refl)
 waits_ended held ended WriteFault stopped gathered now is = is
 waits_ended held ended Memory stopped gathered now is = is
 
-pub waits_going : {K : Type 0} (held : K → List ℕ) (ended : K → Type 0) (o : Outbound)
+pub waits_going : {K : Type 0} (held : K → List ℕ) (ended : K → Bool) (o : Outbound)
     → o ≡ Done → (gathered : List ℕ) (now : K) → gathered ≡ [] → held now ≡ []
     → MayWait held ended o gathered now
 waits_going held ended o going gathered now none emptied = rw going (none, emptied)
+
+-- a sink that is as it was has been put nothing
+pub unput : {K : Type 0} (written : K → Option (List ℕ)) (held : K → List ℕ) (faults : K → ℕ)
+    (may_want : K → Bool) (old new : K) → new ≡ old → TellsAlike written held faults may_want old new
+unput written held faults may_want old new same = record {
+  written_is = ap written same;
+  held_is = ap held same;
+  faults_are = ap faults same;
+  settled = ap may_want same;
+}

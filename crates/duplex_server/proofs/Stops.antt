@@ -26,6 +26,13 @@ length-outcomes : (connections : List Connection)
     → length (outcomes_of connections) ≡ length connections
 length-outcomes connections = length-map connections (λ (c : Connection). c.outcome)
 
+-- behind connections nothing is held: their lines have left
+pub lines_left : (connections : List Connection) (count : ℕ) (first now : List ℕ)
+    → length connections ≡ count → now ≡ held_behind first (outcomes_of connections) → 0 < count
+    → now ≡ []
+lines_left [] count first now counted is some = absurd (omega (arith, counted, some))
+lines_left (c ∷ connections) count first now counted is some = is
+
 some_served : (connections : List Connection) (c : Connection) → connections ++ c ∷ [] ≡ [] → ⊥
 some_served [] c e = cc
 some_served (d ∷ connections) c e = cc

@@ -1,5 +1,5 @@
 -- What a replier keeps, and what it has written and gathered of the requests so far.
-use Rattle.std.specs.Prelude.{◌≡◌, ℕ, ◌<◌, ◌≤◌, Bool, leb, List, [], ◌∷◌, ◌++◌, length}
+use Rattle.std.specs.Prelude.{◌≡◌, ℕ, ◌<◌, ◌≤◌, Bool, true, leb, List, [], ◌∷◌, ◌++◌, length}
 use Rattle.std.specs.Prelude.{if◌then◌else◌, Option}
 use Rattle.{io_edges.specs.Faults.one_more, nbfx_values.specs.QuotasOf.limits_of}
 use Rattle.{nbfx_encoder.specs.declared.sender.Sender.Sender, action_dispatch.specs.Answers.Serves}
@@ -31,8 +31,8 @@ abbrev pub answering_of : {V : Type 0} → (V → Serves) → Replier V → Answ
 answering_of served replier =
     answering (served replier.service.now) replier.statics.now (limits_of replier.quotas)
 
--- Less is gathered than is written at once: between two requests no more, and while one is answered
--- its answer at most is gathered behind so much.
+-- Fewer bytes are gathered than are written at once. So it is between two requests; while one is
+-- answered, its answer may stand behind them.
 abbrev pub IsLittle : {V : Type 0} → Replier V → Type 0
 IsLittle replier = length replier.gathered.items < 65536
 
@@ -78,8 +78,8 @@ module _ {K : Type 0} (written : K → Option (List ℕ)) (held : K → List ℕ
 
 -- A request may be waited for: all that is due has left, or the writing has stopped, and the
 -- direction was ended.
-abbrev pub MayWait : {K : Type 0} → (held : K → List ℕ) → (ended : K → Type 0) → Outbound
+abbrev pub MayWait : {K : Type 0} → (held : K → List ℕ) → (ended : K → Bool) → Outbound
     → (gathered : List ℕ) → K → Type 0
 MayWait held ended Done gathered now = (gathered ≡ []) × (held now ≡ [])
-MayWait held ended WriteFault gathered now = ended now
-MayWait held ended Memory gathered now = ended now
+MayWait held ended WriteFault gathered now = ended now ≡ true
+MayWait held ended Memory gathered now = ended now ≡ true

@@ -1,6 +1,6 @@
 //! A connection that is served and closed.
 
-ghost use Rattle.std.specs.Prelude.{◌<◌, ◌^◌};
+ghost use Rattle.std.specs.Prelude.{◌≡◌, ◌<◌, ◌^◌, []};
 ghost use Rattle.nbfx_values.specs.QuotasOf.{limits_of};
 ghost use Rattle.stream_reader.specs.Sides.{endpoint_of};
 ghost use Rattle.duplex_server.specs.Owed.{answering};
@@ -11,7 +11,7 @@ ghost use Rattle.duplex_server.specs.Served.{ends_at};
 use crate::outcome::Outcome;
 use crate::serving::serve_one;
 use action_dispatch::Service;
-use io_edges::{Failed, Wire};
+use io_edges::{Failed, Sink, Wire};
 use nbfx_values::Quotas;
 use receiver_machine::Endpoint;
 use static_dictionary::StaticTable;
@@ -27,15 +27,19 @@ pub struct Server<'a, V> {
     pub service: &'a V,
 }
 
-/// Takes the next connection, serves it and closes it. Answers what became of the connection, or
-/// `None` where no other is to come.
-pub fn serve_next<W: Wire, V: Service>(
+/// Takes the next connection, the one with this number, serves it and closes it. Answers what
+/// became of the connection, or `None` where no other is to come. Either may be long in coming, so
+/// the lines of the connections before have left.
+pub fn serve_next<W: Wire, V: Service, O: Sink>(
     alloc: Global,
     server: &Server<'_, V>,
     wire: &mut W,
     place: &str,
+    number: u32,
+    output: &O,
 ) -> Result<Option<Outcome>, Failed>
-    requires { W.out wire.old < 2 ^ 63 }
+    requires out { W.out wire.old < 2 ^ 63 }
+    requires left { 0 < number → O.held output.now ≡ [] }
     ensures { ServesNext (answering (V.served server.now.service.now) server.now.statics.now
         (limits_of server.now.quotas.now)) (endpoint_of server.now.endpoint.now)
         (ends_at W.Reader.left W.Reader.taken W.Reader.faults W.Reader.empty_takes

@@ -16,7 +16,7 @@ use action_dispatch::Service;
 use io_edges::{GatheringSink, Sink, Wire, gathering_room};
 use std::alloc::Global;
 
-// Serves connections, and puts the line of each.
+// Serves connections, and writes the line of each before it takes the next.
 fn serve_each<W: Wire, O: Sink, V: Service>(
     alloc: Global,
     server: &Server<'_, V>,
@@ -37,7 +37,7 @@ fn serve_each<W: Wire, O: Sink, V: Service>(
     ensures memory { result ≡ Err ServeFault.Memory → O.may_want output.old ≡ true }
 {
     for number in 0..connections {
-        let Some(outcome) = serve_next(alloc, server, wire, place)? else {
+        let Some(outcome) = serve_next(alloc, server, wire, place, number, output)? else {
             return Ok(());
         };
         put_line(number, outcome, output)?;
@@ -69,8 +69,8 @@ pub fn serve_connections<W: Wire, O: Sink, V: Service>(
     ensures output_fault { CountsFaults (O.faults output) (O.faults result.1)
         (result.0 ≡ Err ServeFault.Output) }
 
-    // No connection's want of memory stops the server: it has asked for none and put nothing, or
-    // the output may run out of memory.
+    // Where the output can't run out of memory, no connection's want of memory stops the server: it
+    // has asked for none then, and put nothing.
     ensures memory { result.0 ≡ Err ServeFault.Memory
         → ((wire.new ≡ wire.old) × (result.1 ≡ output)) ⊎ (O.may_want output ≡ true) }
 

@@ -58,6 +58,7 @@ fn put_last<K: Sink>(ending: Ending<Offence>, sink: &mut K) -> Outbound
     ensures goes { Goes K.written K.held K.faults K.may_want result (closing_of ending)
         sink.old sink.new }
     ensures wanted { result ≡ Outbound.Memory → K.may_want sink.old ≡ true }
+    ensures same_end { K.ended sink.new ≡ K.ended sink.old }
 {
     match ending {
         Ending::Judged(refusal) => put_bytes(closing_record(refusal), sink),
@@ -108,6 +109,7 @@ impl<'s, 'v, V: Service> Replier<'s, 'v, V> {
         ensures sender { self.new.sender ≡ self.old.sender }
         ensures messages { self.new.messages ≡ self.old.messages }
         ensures settings { answering_of V.served self.new ≡ answering_of V.served self.old }
+        ensures same_end { K.ended sink.new ≡ K.ended sink.old }
     {
         let (put, outbound) = put_parts(&self.gathered, sink);
         self.answers = answers_within(put, &self.ends, self.answers);
@@ -128,6 +130,7 @@ impl<'s, 'v, V: Service> Replier<'s, 'v, V> {
         ensures sender { self.new.sender ≡ self.old.sender }
         ensures messages { self.new.messages ≡ self.old.messages }
         ensures settings { answering_of V.served self.new ≡ answering_of V.served self.old }
+        ensures same_end { K.ended sink.new ≡ K.ended sink.old }
     {
         let size = self.gathered.len();
         if size >= MOST_GATHERED {
@@ -148,6 +151,7 @@ impl<'s, 'v, V: Service> Replier<'s, 'v, V> {
         ensures sender { self.new.sender ≡ self.old.sender }
         ensures messages { self.new.messages ≡ self.old.messages }
         ensures settings { answering_of V.served self.new ≡ answering_of V.served self.old }
+        ensures same_end { K.ended sink.new ≡ K.ended sink.old }
     {
         self.write(sink);
         if self.outbound.is_going() {
@@ -170,6 +174,7 @@ impl<'s, 'v, V: Service> Replier<'s, 'v, V> {
         ensures sender { self.new.sender ≡ self.old.sender }
         ensures messages { self.new.messages ≡ self.old.messages }
         ensures settings { answering_of V.served self.new ≡ answering_of V.served self.old }
+        ensures same_end { K.ended sink.new ≡ K.ended sink.old }
     {
         self.write(sink);
         if self.outbound.is_going() {
@@ -189,6 +194,9 @@ impl<'s, 'v, V: Service> Replier<'s, 'v, V> {
         ensures little { IsLittle self.old → IsLittle self.new }
         ensures messages { self.new.messages ≡ self.old.messages }
         ensures settings { answering_of V.served self.new ≡ answering_of V.served self.old }
+        ensures same_end { K.ended sink.new ≡ K.ended sink.old }
+        ensures stopped { (self.old.outbound ≡ Outbound.Done → ⊥)
+            → (self.new.outbound ≡ self.old.outbound) × (sink.new ≡ sink.old) }
     {
         if !self.outbound.is_going() {
             return;
@@ -222,6 +230,7 @@ impl<'s, 'v, V: Service> Replier<'s, 'v, V> {
         ensures little { IsLittle self.new }
         ensures messages { self.new.messages ≡ self.old.messages }
         ensures settings { answering_of V.served self.new ≡ answering_of V.served self.old }
+        ensures same_end { K.ended sink.new ≡ K.ended sink.old }
     {
         let end = self.gathered.len();
         if self.ends.push(end).is_err() {
@@ -250,6 +259,7 @@ impl<'s, 'v, V: Service> Replier<'s, 'v, V> {
             → IsLittle self.old → IsLittle self.new }
         ensures messages { self.new.messages ≡ self.old.messages }
         ensures settings { answering_of V.served self.new ≡ answering_of V.served self.old }
+        ensures same_end { K.ended sink.new ≡ K.ended sink.old }
     {
         let before = self.gathered.len();
         match spell_answer(
@@ -275,6 +285,9 @@ impl<'s, 'v, V: Service> Replier<'s, 'v, V> {
             self.new.outbound (closing_of ending) first requests
             (λ s. self.new.answers ≡ s.answers) sink.new }
         ensures messages { self.new.messages ≡ self.old.messages }
+        ensures same_end { K.ended sink.new ≡ K.ended sink.old }
+        ensures stopped { (self.old.outbound ≡ Outbound.Done → ⊥)
+            → (self.new.outbound ≡ self.old.outbound) × (sink.new ≡ sink.old) }
     {
         if !self.outbound.is_going() {
             return;
@@ -303,6 +316,7 @@ impl<'s, 'v, V: Service> Replier<'s, 'v, V> {
         ensures little { IsLittle self.old → IsLittle self.new }
         ensures messages { self.new.messages ≡ self.old.messages }
         ensures settings { answering_of V.served self.new ≡ answering_of V.served self.old }
+        ensures same_end { K.ended sink.new ≡ K.ended sink.old }
     {
         let Answer::Reply { doc, relates } = answer else {
             return Request::Ended;
@@ -329,6 +343,9 @@ impl<'s, 'v, V: Service> Replier<'s, 'v, V> {
         ensures little { IsLittle self.old → IsLittle self.new }
         ensures messages { self.new.messages ≡ self.old.messages }
         ensures settings { answering_of V.served self.new ≡ answering_of V.served self.old }
+        ensures same_end { K.ended sink.new ≡ K.ended sink.old }
+        ensures stopped { (self.old.outbound ≡ Outbound.Done → ⊥)
+            → (self.new.outbound ≡ self.old.outbound) × (sink.new ≡ sink.old) }
     {
         if !self.outbound.is_going() {
             return Ok(Request::Received(doc));
@@ -347,6 +364,7 @@ impl<'s, 'v, V: Service> Replier<'s, 'v, V> {
 impl<'s, 'v, V: Service, K: Sink> Listener<Request, K> for Replier<'s, 'v, V> {
     ghost use Rattle.duplex_server.specs.Owed.{Answering};
     ghost use Rattle.duplex_server.specs.Replying.{HasHeard, MayWait, answering_of};
+    ghost use Rattle.stream_loop.specs.Writing.{TellsAlike};
     ghost use Rattle.stream_loop.specs.declared.outbound.Outbound.TheVariants.{Done};
 
     ghost Settings = { Answering };
@@ -360,6 +378,12 @@ impl<'s, 'v, V: Service, K: Sink> Listener<Request, K> for Replier<'s, 'v, V> {
 
     ghost may_wait = { λ replier now. MayWait K.held K.ended replier.outbound
         replier.gathered.items now };
+
+    ghost ended = { λ sink. K.ended sink };
+
+    ghost has_stopped = { λ replier. replier.outbound ≡ Done → ⊥ };
+
+    ghost is_unput = { λ old new. TellsAlike K.written K.held K.faults K.may_want old new };
 
     fn hear(&mut self, request: Request, sink: &mut K) -> Result<Request, Memory> {
         match request {

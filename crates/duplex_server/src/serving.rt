@@ -21,7 +21,7 @@ use nbfx_values::{Copied, Offence, Quotas};
 use receiver_machine::Endpoint;
 use static_dictionary::StaticTable;
 use std::alloc::Global;
-use stream_loop::{FollowEnding as Ending, follow_stream};
+use stream_loop::{FollowEnding as Ending, Outbound, follow_stream};
 use unit_streams::Memory;
 
 fn copy_of(alloc: Global, endpoint: &Endpoint) -> Result<Endpoint, Memory>
@@ -67,6 +67,8 @@ fn follow_requests<S: Source, K: Sink, V: Service>(
         (input_at S.left S.taken S.faults S.empty_takes source.new) result }
     ensures counted { CountsFaults (S.faults source.old) (S.faults source.new)
         (result ≡ Ending.ReadFault) }
+    ensures same_end { ((replier.new.outbound ≡ Outbound.Done → ⊥) → ⊥)
+        → K.ended sink.new ≡ K.ended sink.old }
     ensures settings { answering_of V.served replier.new ≡ answering_of V.served replier.old }
 {
     let Ok(endpoint) = copy_of(alloc, endpoint) else {
@@ -88,11 +90,12 @@ fn serve_connection<S: Source, K: Sink, V: Service>(
     endpoint: &Endpoint,
     service: &V,
 ) -> Outcome
-    ensures { Serves K.written K.held K.faults K.may_want
+    ensures serves { Serves K.written K.held K.faults K.may_want
         (answering (V.served service.now) statics.now (limits_of quotas.now))
         (endpoint_of endpoint.now)
         (input_at S.left S.taken S.faults S.empty_takes source.old)
         (input_at S.left S.taken S.faults S.empty_takes source.new) sink.old sink.new result }
+    ensures same_end { result.outbound ≡ Outbound.Done → K.ended sink.new ≡ K.ended sink.old }
 {
     let mut replier = Replier::new(alloc, statics, *quotas, service);
     let ending = follow_requests(
@@ -145,6 +148,9 @@ pub fn serve_one<S: Source, K: Sink, V: Service>(
         (endpoint_of endpoint.now)
         (input_at S.left S.taken S.faults S.empty_takes source.old)
         (input_at S.left S.taken S.faults S.empty_takes source.new) sink.old sink.new result }
+
+    // The direction is ended only where the writing has stopped.
+    ensures same_end { result.outbound ≡ Outbound.Done → K.ended sink.new ≡ K.ended sink.old }
 {
     serve_connection(alloc, source, sink, statics, quotas, endpoint, service)
 }

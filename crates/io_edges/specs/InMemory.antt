@@ -1,5 +1,5 @@
 -- What a source and a sink in memory do, call by call.
-use Rattle.std.specs.Prelude.{ℕ, min, List, [], ◌++◌, length, take, drop, if◌then◌else◌, ◌==◌}
+use Rattle.std.specs.Prelude.{ℕ, min, Bool, true, false, List, [], ◌++◌, length, take, drop, if◌then◌else◌, ◌==◌}
 use Rattle.io_edges.specs.{Faults.one_more, Plan.after_call, Plan.is_due, Plan.new_plan, Plan.Plan}
 
 -- bytes that are handed out from the front, and how many takes gave none
@@ -52,12 +52,28 @@ after_take source room = record {
   plan = after_call source.plan;
 }
 
--- a sink that fails by plan, and at a failing call keeps so many bytes of the piece
+-- a sink that fails by plan, and at a failing call keeps so many bytes of the piece; and whether
+-- its direction was ended
 pub record PlannedSink : Type 0 where
   pub written : List ℕ
   pub kept : ℕ
   pub plan : Plan
+  pub ended : Bool
 
 -- before the first put
 abbrev pub new_sink : List ℕ → ℕ → PlannedSink
-new_sink failing kept = record { written = []; kept = kept; plan = new_plan failing }
+new_sink failing kept =
+    record { written = []; kept = kept; plan = new_plan failing; ended = false }
+
+-- whether the next put fails: it is to fail, or the direction was ended
+abbrev pub fails_next : PlannedSink → Bool
+fails_next sink = if sink.ended then true else is_due sink.plan
+
+-- how many bytes of its piece that writes: none behind the end
+abbrev pub kept_next : PlannedSink → ℕ
+kept_next sink = if sink.ended then 0 else sink.kept
+
+-- after the end of the direction
+abbrev pub after_end : PlannedSink → PlannedSink
+after_end sink =
+    record { written = sink.written; kept = sink.kept; plan = sink.plan; ended = true }

@@ -1,5 +1,5 @@
 -- What a wire hands out and closes.
-use Rattle.std.specs.Prelude.{◌≡◌, ℕ, ◌+◌, ◌-◌, ◌^◌, min, List, [], IfSome, Some, None, Option}
+use Rattle.std.specs.Prelude.{◌≡◌, ℕ, ◌+◌, ◌-◌, ◌^◌, min, false, List, [], IfSome, Some, None, Option}
 use Rattle.io_edges.specs.{InMemory.PlannedSink, InMemory.PlannedSource, Plan.new_plan, Plan.Plan}
 
 -- two counts and one before, up to their last value
@@ -40,12 +40,13 @@ pub record PlannedWire : Type 0 where
   pub end_faults : ℕ
   pub plan : Plan
 
--- nothing moved through the ends, and they met no fault
+-- nothing moved through the ends, they met no fault, and the writing isn't ended
 pub record Untouched (ends : PlannedSource × PlannedSink) : Type 0 where
   pub taken : ends.0.tape.taken ≡ []
   pub written : ends.1.written ≡ []
   pub reads : ends.0.plan.faults ≡ 0
   pub writes : ends.1.plan.faults ≡ 0
+  pub unended : ends.1.ended ≡ false
 
 -- what an ended connection leaves
 abbrev pub pair_of : PlannedSource × PlannedSink → List ℕ × List ℕ

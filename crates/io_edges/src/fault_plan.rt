@@ -51,7 +51,8 @@ impl FaultPlan {
 
     // Counts a call that failed or didn't.
     pub(crate) fn count(&mut self, failed: bool)
-        ensures { self.new ≡ one_call_more failed self.old }
+        ensures counted { self.new ≡ one_call_more failed self.old }
+        ensures faults { self.old.faults < 2 ^ 64 }
     {
         self.calls = self.calls.saturating_add(1);
         if failed {

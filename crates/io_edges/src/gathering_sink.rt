@@ -1,6 +1,6 @@
 //! A sink that gathers what is put to it, and puts it on by few calls.
 
-ghost use Rattle.std.specs.Prelude.{◌≡◌, ◌≤◌, ◌<◌, ◌+◌, ◌++◌, [], length, take, vec_len, IfOk, IsOk, OnErr};
+ghost use Rattle.std.specs.Prelude.{◌≡◌, ◌≤◌, ◌<◌, ◌+◌, ◌++◌, [], length, take, true, vec_len, IfOk, IsOk, OnErr};
 ghost use Rattle.io_edges.specs.Puts.{Adds, AddsSome};
 
 use crate::{Sink, SinkFault};
@@ -38,6 +38,7 @@ fn put_gathered<K: Sink>(room: &[u8], used: &mut usize, sink: &mut K) -> Result<
     ensures puts { Adds K.written K.held K.faults K.may_want sink.old sink.new
         (take used.old room.now) [] [] result }
     ensures emptied { used.new ≡ 0 }
+    ensures same_end { K.ended sink.new ≡ K.ended sink.old }
 {
     if *used == 0 {
         return Ok(());
@@ -60,6 +61,7 @@ fn gather_anew<K: Sink>(
         (take used.old room.old) (take used.new room.new) bytes.now result }
     ensures within { used.new ≤ length room.new }
     ensures room { length room.new ≡ length room.old }
+    ensures same_end { K.ended sink.new ≡ K.ended sink.old }
 {
     put_gathered(room, used, sink)?;
     if bytes.len() <= room.len() {
@@ -84,6 +86,7 @@ fn gather_some<K: Sink>(
         (take used.old room.old) (take used.new room.new) bytes.now result }
     ensures used { used.new ≤ length room.new }
     ensures room { length room.new ≡ length room.old }
+    ensures same_end { K.ended sink.new ≡ K.ended sink.old }
 {
     put_gathered(room, used, sink)?;
     if bytes.len() <= room.len() {
@@ -167,6 +170,7 @@ impl<K: Sink> Sink for GatheringSink<K> {
             × (self.new.gathered ≡ self.old.gathered ++ bytes.now) }
         ensures within { length self.new.gathered ≤ self.new.room }
         ensures room { self.new.room ≡ self.old.room }
+        ensures same_end { K.ended self.new.sink ≡ K.ended self.old.sink }
     {
         if bytes.len() <= self.room.len() - self.used {
             keep(bytes, &mut self.room, &mut self.used);
@@ -181,6 +185,7 @@ impl<K: Sink> Sink for GatheringSink<K> {
         ensures adds { AddsSome K.written K.held K.faults K.may_want self.old.sink self.new.sink
             self.old.gathered self.new.gathered bytes.now result }
         ensures room { self.new.room ≡ self.old.room }
+        ensures same_end { K.ended self.new.sink ≡ K.ended self.old.sink }
     {
         if bytes.len() <= self.room.len() - self.used {
             keep(bytes, &mut self.room, &mut self.used);
@@ -194,13 +199,14 @@ impl<K: Sink> Sink for GatheringSink<K> {
             self.old.gathered self.new.gathered [] result }
         ensures emptied { K.held self.new.sink ++ self.new.gathered ≡ [] }
         ensures room { self.new.room ≡ self.old.room }
+        ensures same_end { K.ended self.new.sink ≡ K.ended self.old.sink }
     {
         put_gathered(&self.room, &mut self.used, &mut self.sink)?;
         self.sink.flush()
     }
 
     fn end(&mut self)
-        ensures ended { K.ended self.new.sink }
+        ensures ended { K.ended self.new.sink ≡ true }
         ensures written { K.written self.new.sink ≡ K.written self.old.sink }
         ensures held { K.held self.new.sink ≡ K.held self.old.sink }
         ensures counted { K.faults self.new.sink ≡ K.faults self.old.sink }

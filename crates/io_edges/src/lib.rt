@@ -132,8 +132,8 @@ pub trait Sink {
     /// Whether a call may run out of memory.
     ghost may_want: { Self → Bool };
 
-    /// The direction was ended.
-    ghost ended: { Self → Type 0 };
+    /// Whether the direction was ended.
+    ghost ended: { Self → Bool };
 
     /// Takes the whole piece, after what is held. A refusal may have written the first bytes of
     /// both, and drops the others.
@@ -146,7 +146,8 @@ pub trait Sink {
         ensures counted { CountsFaults (faults self.old) (faults self.new)
             (IsErrOf result SinkFault.Failed) }
         ensures wanted { IsErrOf result SinkFault.Memory → may_want self.old ≡ true }
-        ensures settled { may_want self.new ≡ may_want self.old };
+        ensures settled { may_want self.new ≡ may_want self.old }
+        ensures same_end { ended self.new ≡ ended self.old };
 
     /// Takes first bytes of the piece, after what is held: at least one, where there is one. Answers
     /// how many. A refusal takes none of them. It may have written the first bytes of what is held,
@@ -162,7 +163,8 @@ pub trait Sink {
         ensures counted { CountsFaults (faults self.old) (faults self.new)
             (IsErrOf result SinkFault.Failed) }
         ensures wanted { IsErrOf result SinkFault.Memory → may_want self.old ≡ true }
-        ensures settled { may_want self.new ≡ may_want self.old };
+        ensures settled { may_want self.new ≡ may_want self.old }
+        ensures same_end { ended self.new ≡ ended self.old };
 
     /// Writes what is held. A refusal may have written the first bytes of it, and drops the others.
     fn flush(&mut self) -> Result<(), SinkFault>
@@ -174,13 +176,15 @@ pub trait Sink {
         ensures counted { CountsFaults (faults self.old) (faults self.new)
             (IsErrOf result SinkFault.Failed) }
         ensures wanted { IsErrOf result SinkFault.Memory → may_want self.old ≡ true }
-        ensures settled { may_want self.new ≡ may_want self.old };
+        ensures settled { may_want self.new ≡ may_want self.old }
+        ensures same_end { ended self.new ≡ ended self.old };
 
     /// Ends the direction, so that a peer that waits for more learns that no more comes. It is for
     /// when the writing has stopped for good: a caller puts nothing after it, and where there is a
-    /// peer a put would fail. It writes nothing, and what is held stays so.
+    /// peer a put would fail. It writes nothing, and what is held stays so. No other call ends it. A
+    /// sink without a peer has nobody to tell, and is as if it were ended.
     fn end(&mut self)
-        ensures ended { ended self.new }
+        ensures ended { ended self.new ≡ true }
         ensures written { written self.new ≡ written self.old }
         ensures held { held self.new ≡ held self.old }
         ensures counted { faults self.new ≡ faults self.old }

@@ -1,20 +1,22 @@
-//! A sink in memory, whose calls fail as planned.
+//! A sink in memory, whose calls fail as planned, and behind the end of its direction.
 
-ghost use Rattle.std.specs.Prelude.{◌≡◌, ⊤, ◌<◌, ◌≤◌, ◌^◌, ◌++◌, [], length, take, true, false, Some, OnOk, OnErr, IfOk, IsOk, IsErrOf};
-ghost use Rattle.io_edges.specs.Plan.{is_due, one_call_more, after_call};
-ghost use Rattle.io_edges.specs.InMemory.{new_sink};
+ghost use Rattle.std.specs.Prelude.{◌≡◌, ◌<◌, ◌≤◌, ◌^◌, ◌++◌, [], length, take, true, false, Some, OnOk, OnErr, IfOk, IsOk, IsErrOf};
+ghost use Rattle.io_edges.specs.Plan.{one_call_more};
+ghost use Rattle.io_edges.specs.InMemory.{after_end, fails_next, kept_next, new_sink};
 
 use crate::fault_plan::FaultPlan;
 use crate::{Sink, SinkFault};
 use std::alloc::Global;
 use std::marker::Model;
 
-/// A sink that keeps what is written to it, and fails at the calls whose numbers it is given.
+/// A sink that keeps what is written to it, and fails at the calls whose numbers it is given. Puts
+/// behind the end of its direction fail too, and write nothing.
 #[derive(Debug, Drop)]
 pub struct MemorySink {
     bytes: Vec<u8>,
     kept: usize,
     plan: FaultPlan,
+    ended: bool,
 }
 
 impl Model for MemorySink {
@@ -22,7 +24,12 @@ impl Model for MemorySink {
 
     ghost Value = { PlannedSink };
 
-    ghost view = { λ s. record { written = s.bytes.items; kept = s.kept; plan = s.plan } };
+    ghost view = { λ s. record {
+      written = s.bytes.items;
+      kept = s.kept;
+      plan = s.plan;
+      ended = s.ended;
+    } };
 }
 
 impl MemorySink {
@@ -37,6 +44,7 @@ impl MemorySink {
             bytes: Vec::new(alloc),
             kept,
             plan: FaultPlan::new(failing),
+            ended: false,
         }
     }
 
@@ -45,6 +53,18 @@ impl MemorySink {
         ensures { result ≡ self.now.plan.faults }
     {
         self.plan.faults()
+    }
+
+    // The answer of a put behind the end, which is counted.
+    fn refuse<T>(&mut self) -> Result<T, SinkFault>
+        ensures failed { IsErrOf result SinkFault.Failed }
+        ensures counted { self.new.plan ≡ one_call_more true self.old.plan }
+        ensures written { self.new.written ≡ self.old.written }
+        ensures kept { (self.new.kept ≡ self.old.kept) × (self.new.ended ≡ self.old.ended) }
+        ensures faults { self.old.plan.faults < 2 ^ 64 }
+    {
+        self.plan.count(true);
+        Err(SinkFault::Failed)
     }
 
     /// All that was written.
@@ -64,22 +84,26 @@ impl Sink for MemorySink {
 
     ghost may_want = { λ _. true };
 
-    ghost ended = { λ _. ⊤ };
+    ghost ended = { λ s. s.ended };
 
     fn put(&mut self, bytes: &[u8]) -> Result<(), SinkFault>
-        ensures ok { OnOk result (is_due self.old.plan ≡ false) }
+        ensures ok { OnOk result (fails_next self.old ≡ false) }
         ensures written { OnOk result (self.new.written ≡ self.old.written ++ bytes.now) }
-        ensures failed { IsErrOf result SinkFault.Failed → is_due self.old.plan ≡ true }
+        ensures failed { IsErrOf result SinkFault.Failed → fails_next self.old ≡ true }
         ensures front { IsErrOf result SinkFault.Failed
-            → self.new.written ≡ self.old.written ++ take self.old.kept bytes.now }
+            → self.new.written ≡ self.old.written ++ take (kept_next self.old) bytes.now }
         ensures memory { IsErrOf result SinkFault.Memory → self.new.written ≡ self.old.written }
         ensures counted { (IsErrOf result SinkFault.Memory → ⊥)
-            → self.new.plan ≡ after_call self.old.plan }
+            → self.new.plan ≡ one_call_more (fails_next self.old) self.old.plan }
         ensures passed { IsErrOf result SinkFault.Memory
             → self.new.plan ≡ one_call_more false self.old.plan }
         ensures kept { self.new.kept ≡ self.old.kept }
+        ensures same_end { self.new.ended ≡ self.old.ended }
         ensures faults { self.old.plan.faults < 2 ^ 64 }
     {
+        if self.ended {
+            return self.refuse();
+        }
         let is_due = self.plan.is_due();
         let most = if is_due {
             self.kept.min(bytes.len())
@@ -105,11 +129,16 @@ impl Sink for MemorySink {
             (λ n. self.new.written ≡ self.old.written ++ take n bytes.now) }
         ensures refused { OnErr result (self.new.written ≡ self.old.written) }
         ensures failed { IsErrOf result SinkFault.Failed
-            → (is_due self.old.plan ≡ true) × (self.new.plan ≡ after_call self.old.plan) }
+            → (fails_next self.old ≡ true)
+            × (self.new.plan ≡ one_call_more true self.old.plan) }
         ensures passed { (IsErrOf result SinkFault.Failed → ⊥)
             → self.new.plan.faults ≡ self.old.plan.faults }
+        ensures same_end { self.new.ended ≡ self.old.ended }
         ensures faults { self.old.plan.faults < 2 ^ 64 }
     {
+        if self.ended {
+            return self.refuse();
+        }
         let is_due = self.plan.is_due();
         let most = if is_due {
             self.kept.min(bytes.len())
@@ -140,8 +169,9 @@ impl Sink for MemorySink {
         Ok(())
     }
 
-    // There is no peer.
     fn end(&mut self)
-        ensures kept { self.new ≡ self.old }
-    {}
+        ensures { self.new ≡ after_end self.old }
+    {
+        self.ended = true;
+    }
 }

@@ -1,6 +1,6 @@
 //! A sink in memory that never fails by the outside.
 
-ghost use Rattle.std.specs.Prelude.{◌≡◌, ⊤, [], ◌++◌, true, length, Some, OnOk, IfOk, IsOk, IsOkUnless, OnErr};
+ghost use Rattle.std.specs.Prelude.{◌≡◌, [], ◌++◌, true, length, Some, OnOk, IfOk, IsOk, IsOkUnless, OnErr};
 
 use crate::{Sink, SinkFault};
 use std::alloc::Global;
@@ -48,7 +48,7 @@ impl Sink for SureSink {
 
     ghost may_want = { λ _. true };
 
-    ghost ended = { λ _. ⊤ };
+    ghost ended = { λ _. true };
 
     fn put(&mut self, bytes: &[u8]) -> Result<(), SinkFault>
         ensures written { OnOk result (self.new ≡ self.old ++ bytes.now) }

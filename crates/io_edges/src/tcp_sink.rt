@@ -20,6 +20,7 @@ impl<S: Write> TcpSink<S> {
     /// A sink that writes to the stream.
     pub fn new(stream: S) -> TcpSink<S>
         ensures faults { sink_faults result ≡ 0 }
+        ensures unended { has_ended result ≡ false }
     {
         TcpSink {
             sink: WriteSink::new(stream),
@@ -51,11 +52,12 @@ impl<S: Write + OpenStream> Sink for TcpSink<S> {
 
     ghost may_want = { λ _. false };
 
-    ghost ended = { λ s. has_ended s ≡ true };
+    ghost ended = { λ s. has_ended s };
 
     fn put(&mut self, bytes: &[u8]) -> Result<(), SinkFault>
         ensures no_want { IsOkUnless result SinkFault.Failed }
         ensures counted { CountsOne (sink_faults self.old) (sink_faults self.new) (IsErr result) }
+        ensures same_end { has_ended self.new ≡ has_ended self.old }
     {
         self.sink.put(bytes)
     }
@@ -65,6 +67,7 @@ impl<S: Write + OpenStream> Sink for TcpSink<S> {
         ensures some { IfOk result (λ n. 0 < length bytes.now → 0 < n) }
         ensures no_want { IsOkUnless result SinkFault.Failed }
         ensures counted { CountsOne (sink_faults self.old) (sink_faults self.new) (IsErr result) }
+        ensures same_end { has_ended self.new ≡ has_ended self.old }
     {
         self.sink.put_some(bytes)
     }
@@ -72,6 +75,7 @@ impl<S: Write + OpenStream> Sink for TcpSink<S> {
     fn flush(&mut self) -> Result<(), SinkFault>
         ensures no_want { IsOkUnless result SinkFault.Failed }
         ensures counted { CountsOne (sink_faults self.old) (sink_faults self.new) (IsErr result) }
+        ensures same_end { has_ended self.new ≡ has_ended self.old }
     {
         self.sink.flush()
     }

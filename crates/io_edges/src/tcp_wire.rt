@@ -1,10 +1,10 @@
 //! A wire over the system's TCP sockets.
 
-ghost use Rattle.std.specs.Prelude.{◌≡◌, ◌<◌, ◌+◌, ◌^◌, None, IsErr, OnErr, OnOk, IfOk, IfSome, IsSome};
+ghost use Rattle.std.specs.Prelude.{◌≡◌, ◌<◌, ◌+◌, ◌^◌, false, None, IsErr, OnErr, OnOk, IfOk, IfSome, IsSome};
 ghost use Rattle.io_edges.specs.Faults.{CountsOne};
 ghost use Rattle.io_edges.specs.Adapters.{read_faults};
 ghost use Rattle.io_edges.specs.Wires.{added_up};
-ghost use Rattle.io_edges.specs.Tcp.{sink_faults, wire_out, wire_faults, wire_end_faults};
+ghost use Rattle.io_edges.specs.Tcp.{has_ended, sink_faults, wire_out, wire_faults, wire_end_faults};
 
 use crate::wire::Wire;
 use crate::{Failed, ReadSource, TcpSink};
@@ -102,7 +102,8 @@ impl<R: Net> TcpWire<R> {
 fn ends_of<S: io::Read + io::Write + OpenStream + Drop>(
     stream: S,
 ) -> io::Result<(ReadSource<S>, TcpSink<S>)>
-    ensures { IfOk result (λ ends. (read_faults ends.0 ≡ 0) × (sink_faults ends.1 ≡ 0)) }
+    ensures { IfOk result (λ ends. (read_faults ends.0 ≡ 0) × (sink_faults ends.1 ≡ 0)
+        × (has_ended ends.1 ≡ false)) }
 {
     let _ = stream.set_nodelay(true);
     let other = stream.try_clone()?;
@@ -134,7 +135,8 @@ where
         requires { wire_out self.old < 2 ^ 63 }
         ensures handed { IfOk result IsSome }
         ensures fresh { IfOk result (λ found. IfSome found (λ ends.
-            (read_faults ends.0 ≡ 0) × (sink_faults ends.1 ≡ 0))) }
+            (read_faults ends.0 ≡ 0) × (sink_faults ends.1 ≡ 0)
+            × (has_ended ends.1 ≡ false))) }
         ensures out { OnOk result (wire_out self.new ≡ wire_out self.old + 1) }
         ensures failed { OnErr result (wire_out self.new ≡ wire_out self.old) }
         ensures counted { CountsOne (wire_faults self.old) (wire_faults self.new) (IsErr result) }
@@ -153,7 +155,8 @@ where
     ) -> Result<(ReadSource<R::Stream>, TcpSink<R::Stream>), Failed>
         requires { wire_out self.old < 2 ^ 63 }
         ensures fresh { IfOk result (λ ends.
-            (read_faults ends.0 ≡ 0) × (sink_faults ends.1 ≡ 0)) }
+            (read_faults ends.0 ≡ 0) × (sink_faults ends.1 ≡ 0)
+            × (has_ended ends.1 ≡ false)) }
         ensures out { OnOk result (wire_out self.new ≡ wire_out self.old + 1) }
         ensures failed { OnErr result (wire_out self.new ≡ wire_out self.old) }
         ensures counted { CountsOne (wire_faults self.old) (wire_faults self.new) (IsErr result) }

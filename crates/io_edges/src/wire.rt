@@ -1,6 +1,6 @@
 //! Where connections come from.
 
-ghost use Rattle.std.specs.Prelude.{◌≡◌, ◌≢◌, ◌<◌, ◌+◌, ◌-◌, ◌^◌, ◌∷◌, ◌++◌, ◌↔◌, ℕ, List, [], Option, IfSome, IfOk, OnErr, OnOk, IsErr, IsNone};
+ghost use Rattle.std.specs.Prelude.{◌≡◌, ◌≢◌, ◌<◌, ◌+◌, ◌-◌, ◌^◌, ◌∷◌, ◌++◌, ◌↔◌, ℕ, List, [], false, Option, IfSome, IfOk, OnErr, OnOk, IsErr, IsNone};
 ghost use Rattle.io_edges.specs.Faults.{CountsFaults};
 ghost use Rattle.io_edges.specs.Flow.{Told};
 ghost use Rattle.io_edges.specs.Wires.{Fresh, added_up};
@@ -32,7 +32,7 @@ pub trait Wire {
     ghost end_faults: { Self → ℕ };
 
     /// Gives the next connection that a peer makes to that place, or `None` where none is to
-    /// come. Its ends have met no fault, and nothing has moved through them.
+    /// come. Its ends have met no fault, nothing has moved through them, and its writing isn't ended.
     fn accept(&mut self, place: &str) -> Result<Option<(Self::Reader, Self::Writer)>, Failed>
         requires { out self.old < 2 ^ 63 }
         ensures handed { IfOk result (λ found. IfSome found (λ ends.
@@ -49,6 +49,8 @@ pub trait Wire {
         ensures writer { IfOk result (λ found. IfSome found (λ ends.
             (Self.Writer.faults ends.1 ≡ 0) × Fresh (closed self.old) (Self.Writer.written ends.1)
             × (Self.Writer.held ends.1 ≡ []))) }
+        ensures unended { IfOk result (λ found. IfSome found (λ ends.
+            Self.Writer.ended ends.1 ≡ false)) }
         ensures counted { CountsFaults (faults self.old) (faults self.new) (IsErr result) }
         ensures ended { (closed self.new ≡ closed self.old)
             × (end_faults self.new ≡ end_faults self.old) };
@@ -67,6 +69,7 @@ pub trait Wire {
         ensures writer { IfOk result (λ ends.
             (Self.Writer.faults ends.1 ≡ 0) × Fresh (closed self.old) (Self.Writer.written ends.1)
             × (Self.Writer.held ends.1 ≡ [])) }
+        ensures unended { IfOk result (λ ends. Self.Writer.ended ends.1 ≡ false) }
         ensures counted { CountsFaults (faults self.old) (faults self.new) (IsErr result) }
         ensures ended { (closed self.new ≡ closed self.old)
             × (end_faults self.new ≡ end_faults self.old) };

@@ -1,6 +1,6 @@
 //! A sink over a writer of std.
 
-ghost use Rattle.std.specs.Prelude.{◌≡◌, ⊤, ◌↔◌, ◌≤◌, ◌<◌, [], length, take, true, false, None, OnOk, IfOk, IsOk, OnErr, IsErr, IsOkUnless};
+ghost use Rattle.std.specs.Prelude.{◌≡◌, ◌↔◌, ◌≤◌, ◌<◌, [], length, take, true, false, None, OnOk, IfOk, IsOk, OnErr, IsErr, IsOkUnless};
 ghost use Rattle.std.specs.Io.KnownBytes.{Appends, Keeps};
 ghost use Rattle.io_edges.specs.Faults.{CountsOne};
 ghost use Rattle.io_edges.specs.Adapters.{writer_of, write_faults, AppendsPrefix};
@@ -73,7 +73,7 @@ impl<W: Write> Sink for WriteSink<W> {
 
     ghost may_want = { λ _. false };
 
-    ghost ended = { λ _. ⊤ };
+    ghost ended = { λ _. true };
 
     fn put(&mut self, bytes: &[u8]) -> Result<(), SinkFault>
         ensures written { OnOk result (Appends

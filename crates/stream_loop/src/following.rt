@@ -59,6 +59,7 @@ pub fn follow_stream<I: Source, E: ReadingEnd, O, L: Listener<E::Event, O>>(
         (input_at I.left I.taken I.faults I.empty_takes input.new) result }
     ensures counted { CountsFaults (I.faults input.old) (I.faults input.new)
         (result ≡ Ending.ReadFault) }
+    ensures same_end { (L.has_stopped listener.new → ⊥) → L.ended output.new ≡ L.ended output.old }
     ensures grammar { E.grammar end.new ≡ E.grammar end.old }
     ensures settings { L.settings listener.new ≡ L.settings listener.old }
 {

@@ -33,6 +33,8 @@ pub fn hear_piece<E: ReadingEnd, O, L: Listener<E::Event, O>>(
         → HearsOf (E.grammar end.old) (E.stands end.new)
         (λ events. L.heard first (map E.event_for events) listener.new output.new)
         p piece.now result }
+    ensures same_end { L.ended output.new ≡ L.ended output.old }
+    ensures stopped { L.has_stopped listener.old → L.has_stopped listener.new }
     ensures grammar { E.grammar end.new ≡ E.grammar end.old }
     ensures settings { L.settings listener.new ≡ L.settings listener.old }
 {

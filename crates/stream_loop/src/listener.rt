@@ -1,6 +1,6 @@
 //! What hears the events of a stream.
 
-ghost use Rattle.std.specs.Prelude.{◌≡◌, List, [], ◌∷◌, ◌++◌, OnOk, OnErr};
+ghost use Rattle.std.specs.Prelude.{◌≡◌, Bool, List, [], ◌∷◌, ◌++◌, OnOk, OnErr};
 
 use unit_streams::Memory;
 
@@ -26,6 +26,15 @@ pub trait Listener<Event, O> {
     /// More may be waited for: what is due so far has left, or the output's direction was ended.
     ghost may_wait: { Self → O → Type 0 };
 
+    /// Whether the output's direction was ended.
+    ghost ended: { O → Bool };
+
+    /// The writing has stopped for good.
+    ghost has_stopped: { Self → Type 0 };
+
+    /// Nothing was put to the direction in between.
+    ghost is_unput: { O → O → Type 0 };
+
     /// Hears an event, and gives an event back whose memory the reading end may use again. An event
     /// for which there is no memory isn't heard.
     fn hear(&mut self, event: Event, output: &mut O) -> Result<Event, Memory>
@@ -34,13 +43,20 @@ pub trait Listener<Event, O> {
         ensures unheard { (first : O) (events : List Event) → heard first events self.old output.old
             → OnErr result (heard first events self.new output.new) }
         ensures wanted { OnErr result (may_take_memory self.old) }
+        ensures same_end { ended output.new ≡ ended output.old }
+        ensures stopped { has_stopped self.old
+            → has_stopped self.new × is_unput output.old output.new }
         ensures settings { settings self.new ≡ settings self.old };
 
     /// Writes what the output still holds: the next bytes may be long in coming, or not come before
-    /// what is due has left.
+    /// what is due has left. Only here is the direction ended, and only once the writing has
+    /// stopped: nothing is put to it any more then.
     fn pause(&mut self, output: &mut O)
         ensures may_wait { may_wait self.new output.new }
         ensures heard { (first : O) (events : List Event) → heard first events self.old output.old
             → heard first events self.new output.new }
+        ensures same_end { (has_stopped self.new → ⊥) → ended output.new ≡ ended output.old }
+        ensures stopped { has_stopped self.old
+            → has_stopped self.new × is_unput output.old output.new }
         ensures settings { settings self.new ≡ settings self.old };
 }

@@ -41,6 +41,7 @@ fn outbound_of(fault: SinkFault) -> Outbound
 pub fn put_bytes<K: Sink>(bytes: &[u8], sink: &mut K) -> Outbound
     ensures goes { Goes K.written K.held K.faults K.may_want result bytes.now sink.old sink.new }
     ensures wanted { result ≡ Outbound.Memory → K.may_want sink.old ≡ true }
+    ensures same_end { K.ended sink.new ≡ K.ended sink.old }
 {
     if bytes.is_empty() {
         return Outbound::Done;
@@ -54,8 +55,9 @@ pub fn put_bytes<K: Sink>(bytes: &[u8], sink: &mut K) -> Outbound
 /// Puts bytes, a part at a time. Answers how many were put, and how the writing stands: all were,
 /// or a put failed at the others.
 pub fn put_parts<K: Sink>(bytes: &[u8], sink: &mut K) -> (usize, Outbound)
-    ensures { PutsParts K.written K.held K.faults K.may_want bytes.now sink.old sink.new result.0
-        result.1 }
+    ensures puts { PutsParts K.written K.held K.faults K.may_want bytes.now sink.old sink.new
+        result.0 result.1 }
+    ensures same_end { K.ended sink.new ≡ K.ended sink.old }
 {
     let mut at = 0;
     while at < bytes.len() {
@@ -73,6 +75,7 @@ pub fn flush<K: Sink>(sink: &mut K) -> Outbound
         × PutsTo K.written K.held K.faults K.may_want sink.old sink.new [] flush
         × (result ≡ outbound_by flush) }
     ensures emptied { K.held sink.new ≡ [] }
+    ensures same_end { K.ended sink.new ≡ K.ended sink.old }
 {
     match sink.flush() {
         Ok(()) => Outbound::Done,
@@ -82,8 +85,9 @@ pub fn flush<K: Sink>(sink: &mut K) -> Outbound
 
 /// Ends the writing since there was no memory for the next bytes. What the sink holds is written.
 pub fn starve<K: Sink>(sink: &mut K) -> Outbound
-    ensures { (next : List ℕ) → IsCut K.written K.held K.faults K.may_want result next
+    ensures cut { (next : List ℕ) → IsCut K.written K.held K.faults K.may_want result next
         sink.old sink.new }
+    ensures same_end { K.ended sink.new ≡ K.ended sink.old }
 {
     match flush(sink) {
         Outbound::Done => Outbound::Memory,

@@ -1,7 +1,8 @@
-// Sources and sinks over the system's files, and over a reader and a writer that fail once.
+// Sources and sinks over the system's files, over a reader and a writer that fail once, and behind
+// an end.
 use io_edges::{
-    Failed, FileShelf, ReadSource, Shelf, ShelfFault, Sink, SinkFault, Source, SureSink,
-    SureSource, WriteSink,
+    Failed, FileShelf, MemorySink, ReadSource, Shelf, ShelfFault, Sink, SinkFault, Source,
+    SureSink, SureSource, WriteSink,
 };
 use std::fs::{self, OpenOptions};
 use std::io::{self, ErrorKind, Read, Write};
@@ -125,6 +126,17 @@ fn a_flush_reaches_the_writer(rt: HostRuntime) {
     assert_eq!(rt; sink.put(b"ab"), Ok(()));
     assert_eq!(rt; sink.flush(), Err(SinkFault::Failed));
     assert_eq!(rt; sink.flush(), Ok(()));
+}
+
+#[test]
+fn puts_behind_the_end_fail(rt: HostRuntime) {
+    let mut sink = MemorySink::new(rt.alloc(), Vec::new(rt.alloc()), 9);
+    assert_eq!(rt; sink.put(b"ab"), Ok(()));
+    sink.end();
+    assert_eq!(rt; sink.put(b"c"), Err(SinkFault::Failed));
+    assert_eq!(rt; sink.put_some(b"d"), Err(SinkFault::Failed));
+    assert_eq!(rt; sink.flush(), Ok(()));
+    assert_eq!(rt; sink.bytes(), b"ab".as_slice());
 }
 
 #[test]

@@ -4,7 +4,7 @@ use Rattle.io_edges.specs.Wires.{Network, network_at}
 use Rattle.{nbfx_values.specs.QuotasOf.limits_of, stream_reader.specs.Sides.endpoint_of}
 use Rattle.duplex_server.specs.{declared.outcome.Outcome.Outcome, Owed.answering}
 use Rattle.duplex_server.specs.{Lines.connection_line, Served.Ends, Served.ends_at}
-use Rattle.duplex_server.proofs.Stops.{along_more, along_none, output_failed, output_wants}
+use Rattle.duplex_server.proofs.Stops.{along_more, along_none, lines_left, output_failed, output_wants}
 use Rattle.duplex_server.proofs.connections.serve_each.Given.{Over}
 use Rattle.duplex_server.proofs.connections.serve_each.Goals as goal
 
@@ -27,6 +27,12 @@ loop-number-init g c =
           c.args.output.now,
       refl,
     )
+
+pub serve_next-requires-clause-left : goal.serve_next-requires-clause-left
+serve_next-requires-clause-left g c = λ lives outlives some.
+    let i = c.loop-number.invariant.0 in
+    lines_left i.connections c.loop-number.number (g.O.Sink.held c.args.output.now)
+    (g.O.Sink.held c.loop-number.output) i.counted i.lines.held_is some
 
 pub returns-in_err-put_line-clause-served : goal.returns-in_err-put_line-clause-served
 returns-in_err-put_line-clause-served g c =

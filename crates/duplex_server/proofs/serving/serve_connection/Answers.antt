@@ -28,8 +28,8 @@ follow_requests-ending-requires-clause-fresh g c =
       little = rw e.gathered (omega arith);
     }
 
-pub returns : goal.returns
-returns g c =
+pub returns-clause-serves : goal.returns-clause-serves
+returns-clause-serves g c =
     let e = c.new-replier.ensures in
     let r = c.new-replier.result in
     let f = c.follow_requests-ending in
@@ -57,3 +57,10 @@ returns g c =
     c.args.sink.now c.close.new.sink outcome f.result c.inbound_of.ensures xn
     (f.ensures.settings ∙ begun) events (c.close.ensures.messages ∙ h.counted)
     (c.close.ensures.closed c.args.sink.now (map request_for events) h)) f.ensures.counted
+
+-- where the writing is done at last, it had not stopped before
+pub returns-clause-same_end : goal.returns-clause-same_end
+returns-clause-same_end g c = λ done.
+    let k = c.close.ensures in
+    k.same_end ∙ c.follow_requests-ending.ensures.same_end
+    (λ stopped. stopped (sym (k.stopped stopped).0 ∙ done))

@@ -15,7 +15,7 @@ returns-clause-judged g c = λ bytes left.
     (answering (g.V.Service.served c.args.service.now) c.args.statics.now
     (limits_of c.args.quotas.now)) (endpoint_of c.args.endpoint.now)
     (input_of g c.args.source.now) (input_of g c.serve_connection.new.source) c.args.sink.now
-    c.serve_connection.new.sink bytes left c.serve_connection.result c.serve_connection.ensures
+    c.serve_connection.new.sink bytes left c.serve_connection.result c.serve_connection.ensures.serves
 
 pub returns-clause-written : goal.returns-clause-written
 returns-clause-written g c = λ bytes w left told.
@@ -23,5 +23,5 @@ returns-clause-written g c = λ bytes w left told.
     (answering (g.V.Service.served c.args.service.now) c.args.statics.now
     (limits_of c.args.quotas.now)) (endpoint_of c.args.endpoint.now)
     (input_of g c.args.source.now) (input_of g c.serve_connection.new.source) c.args.sink.now
-    c.serve_connection.new.sink bytes left c.serve_connection.result c.serve_connection.ensures w
+    c.serve_connection.new.sink bytes left c.serve_connection.result c.serve_connection.ensures.serves w
     told

@@ -28,6 +28,7 @@ loop-n-init g c =
       room = omega (arith, c.in-Ok.ensures.len);
       grammar = refl;
       settings = refl;
+      same_end = λ on. refl;
       input_faults = refl;
       empty_takes = refl;
       reads = (
@@ -65,7 +66,18 @@ pub returns-in_default-take_more-clause-counted : goal.returns-in_default-take_m
 returns-in_default-take_more-clause-counted g c = counted_with _ _ _ _ _
     c.loop-n.invariant.input_faults c.in_default-take_more.ensures.counted (λ e. cc) (λ e. refl)
 
+pub returns-in_default-take_more-clause-same_end :
+    goal.returns-in_default-take_more-clause-same_end
+returns-in_default-take_more-clause-same_end g c = λ on.
+    c.pause.ensures.same_end on
+    ∙ c.loop-n.invariant.same_end (λ s. on (c.pause.ensures.stopped s).0)
+
 -- the input is over
+pub returns-then-n-eq0-clause-same_end : goal.returns-then-n-eq0-clause-same_end
+returns-then-n-eq0-clause-same_end g c = λ on.
+    c.pause.ensures.same_end on
+    ∙ c.loop-n.invariant.same_end (λ s. on (c.pause.ensures.stopped s).0)
+
 pub returns-then-n-eq0-clause-follows : goal.returns-then-n-eq0-clause-follows
 returns-then-n-eq0-clause-follows g c =
     let x = g.E.ReadingEnd.grammar c.args.end.now in
@@ -153,6 +165,15 @@ module _ (g : Over) (f : After-hear_piece g) where
   hears_as r is = subst (HearsOf x (g.E.ReadingEnd.stands f.hear_piece.new.end) HeardNow p y) is
       hears
 
+  -- the direction wasn't ended, unless the writing has stopped
+  still : (g.L.Listener.has_stopped f.hear_piece.new.listener → ⊥)
+      → g.L.Listener.ended f.hear_piece.new.output ≡ g.L.Listener.ended f.args.output.now
+  still on =
+      f.hear_piece.ensures.same_end
+      ∙ f.pause.ensures.same_end (λ s. on (f.hear_piece.ensures.stopped s))
+      ∙ f.loop-n.invariant.same_end
+      (λ s. on (f.hear_piece.ensures.stopped (f.pause.ensures.stopped s).0))
+
 -- a piece that decides nothing
 pub loop-n-smaller : goal.loop-n-smaller
 loop-n-smaller g c =
@@ -176,6 +197,7 @@ loop-n-preserved g c =
       grammar = c.hear_piece.ensures.grammar ∙ c.loop-n.invariant.grammar;
       settings = c.hear_piece.ensures.settings ∙ c.pause.ensures.settings
           ∙ c.loop-n.invariant.settings;
+      same_end = still g f;
       input_faults = c.in-Ok-take_more.ensures.counted.same (λ e. cc)
           ∙ c.loop-n.invariant.input_faults;
       empty_takes = unasked g f;
@@ -202,6 +224,11 @@ pub returns-in-Judged-clause-counted : goal.returns-in-Judged-clause-counted
 returns-in-Judged-clause-counted g c = counted_none _ _ _ (c.in-Ok-take_more.ensures.counted.same
     (λ e. cc) ∙ c.loop-n.invariant.input_faults) (λ e. cc)
 
+pub returns-in-Judged-clause-same_end : goal.returns-in-Judged-clause-same_end
+returns-in-Judged-clause-same_end g c =
+    let f : After-hear_piece g = (goal.at-returns-in-Judged-clause-same_end g c).After-hear_piece in
+    still g f
+
 -- there was no memory to read on, or to hear an event
 pub returns-in-Starved-clause-follows : goal.returns-in-Starved-clause-follows
 returns-in-Starved-clause-follows g c =
@@ -214,3 +241,8 @@ returns-in-Starved-clause-follows g c =
 pub returns-in-Starved-clause-counted : goal.returns-in-Starved-clause-counted
 returns-in-Starved-clause-counted g c = counted_none _ _ _ (c.in-Ok-take_more.ensures.counted.same
     (λ e. cc) ∙ c.loop-n.invariant.input_faults) (λ e. cc)
+
+pub returns-in-Starved-clause-same_end : goal.returns-in-Starved-clause-same_end
+returns-in-Starved-clause-same_end g c =
+    let f : After-hear_piece g = (goal.at-returns-in-Starved-clause-same_end g c).After-hear_piece
+    in still g f

@@ -9,6 +9,8 @@ invariant-loop-n g l = record {
   room : length l.room.items ≡ 65536;
   grammar : g.E.ReadingEnd.grammar l.end ≡ g.E.ReadingEnd.grammar l.initial.end;
   settings : g.L.Listener.settings l.listener ≡ g.L.Listener.settings l.initial.listener;
+  same_end : (g.L.Listener.has_stopped l.listener → ⊥)
+      → g.L.Listener.ended l.output ≡ g.L.Listener.ended l.initial.output;
   input_faults : g.I.Source.faults l.input ≡ g.I.Source.faults l.initial.input;
   empty_takes : g.I.Source.empty_takes l.input ≡ g.I.Source.empty_takes l.initial.input;
   reads : (p : List ℕ) × HasRead (g.E.ReadingEnd.grammar l.initial.end)

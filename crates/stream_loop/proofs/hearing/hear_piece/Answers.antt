@@ -78,6 +78,8 @@ loop-refusal-init g c =
       within = omega arith;
       grammar = refl;
       settings = refl;
+      same_end = refl;
+      stopped = λ s. s;
       reads = λ p read. (rw (append-nil p) read, λ first heard. rw (append-nil p) heard);
     }
 
@@ -197,6 +199,8 @@ loop-refusal-preserved g c =
       grammar = c.hand_back.ensures.grammar ∙ c.feed.ensures.grammar
           ∙ c.loop-refusal.invariant.grammar;
       settings = c.hear.ensures.settings ∙ c.loop-refusal.invariant.settings;
+      same_end = c.hear.ensures.same_end ∙ c.loop-refusal.invariant.same_end;
+      stopped = λ s. (c.hear.ensures.stopped (c.loop-refusal.invariant.stopped s)).0;
       reads = λ p read.
           let b = event g f p read n v is in
           let h = so_far g f p read in

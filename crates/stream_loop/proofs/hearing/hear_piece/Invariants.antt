@@ -7,6 +7,8 @@ invariant-loop-refusal g l = record {
   within : l.used ≤ length l.piece;
   grammar : g.E.ReadingEnd.grammar l.end ≡ g.E.ReadingEnd.grammar l.initial.end;
   settings : g.L.Listener.settings l.listener ≡ g.L.Listener.settings l.initial.listener;
+  same_end : g.L.Listener.ended l.output ≡ g.L.Listener.ended l.initial.output;
+  stopped : g.L.Listener.has_stopped l.initial.listener → g.L.Listener.has_stopped l.listener;
   reads : (p : List ℕ) → HasRead (g.E.ReadingEnd.grammar l.initial.end)
       (g.E.ReadingEnd.stands l.initial.end) p
       → HasRead (g.E.ReadingEnd.grammar l.initial.end) (g.E.ReadingEnd.stands l.end)

@@ -1,11 +1,11 @@
-use Rattle.std.proofs.Common.{◌≡◌, ℕ, ◌-◌, List, [], length, take, drop, Ok, subst, arith}
+use Rattle.std.proofs.Common.{◌≡◌, ℕ, ◌-◌, List, [], length, take, drop, Ok, subst, arith, refl, ◌∙◌}
 use Rattle.{std.proofs.lemmas.Grind.common_steps, stream_loop.specs.Writing.PutsTo}
 use Rattle.io_edges.proofs.Putting.{none_taken, PutsAll-nothing, some_taken}
 use Rattle.stream_loop.proofs.Gathered.{parts_done, parts_failed, parts_more}
 use Rattle.stream_loop.proofs.outbound.put_parts.Goals as goal
 
 pub loop-at-init : goal.loop-at-init
-loop-at-init g c = (omega arith, PutsAll-nothing _ _ _ _)
+loop-at-init g c = (omega arith, PutsAll-nothing _ _ _ _, refl)
 
 pub loop-at-preserved : goal.loop-at-preserved
 loop-at-preserved g c =
@@ -26,10 +26,11 @@ loop-at-preserved g c =
             wanted = c.in-Ok.ensures.wanted;
             settled = c.in-Ok.ensures.settled;
           }))),
+      c.in-Ok.ensures.same_end ∙ c.loop-at.invariant.2,
     )
 
-pub returns-in-Err : goal.returns-in-Err
-returns-in-Err g c =
+pub returns-in-Err-clause-puts : goal.returns-in-Err-clause-puts
+returns-in-Err-clause-puts g c =
     let e = c.in-Err.ensures in
     rw c.outbound_of.ensures (parts_failed g.K.Sink.written g.K.Sink.held g.K.Sink.faults
     g.K.Sink.may_want c.args.bytes.now c.loop-at.at c.args.sink.now c.loop-at.sink
@@ -43,8 +44,8 @@ returns-in-Err g c =
       settled = e.settled;
     })) (omega arith))
 
-pub returns : goal.returns
-returns g c =
+pub returns-clause-puts : goal.returns-clause-puts
+returns-clause-puts g c =
     parts_done g.K.Sink.written g.K.Sink.held g.K.Sink.faults g.K.Sink.may_want c.args.bytes.now
     c.loop-at.at c.args.sink.now c.loop-at.sink c.loop-at.invariant.1 (omega arith)
     c.loop-at.invariant.0

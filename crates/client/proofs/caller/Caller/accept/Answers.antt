@@ -8,4 +8,4 @@ returns-clause-sends g c = λ first h.
     sends_now g.K.Sink.written g.K.Sink.held g.K.Sink.faults g.K.Sink.may_want
     m.outgoing m.opened first m.outbound s.result.outbound m.sent s.result.count
     c.args.sink.now s.new.sink (c.if-not-is_going.ensures.going refl)
-    (λ documents carries start before puts. s.ensures documents start before carries puts) h
+    (λ documents carries start before puts. s.ensures.sends documents start before carries puts) h

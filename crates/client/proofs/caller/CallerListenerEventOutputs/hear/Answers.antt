@@ -1,3 +1,4 @@
+use Rattle.std.proofs.Common.{ap}
 use Rattle.client.proofs.Hearing.{hears}
 use Rattle.client.proofs.caller.CallerListenerEventOutputs.hear.Goals as goal
 
@@ -15,3 +16,17 @@ returns-clause-heard g c = λ first events along.
           r.outgoing r.opened r.ack r.sent r.outbound a.sends a.ack a.outgoing a.opened a.reached
           a.report;
     }
+
+-- once nothing is put any more, nothing is
+pub returns-clause-stopped : goal.returns-clause-stopped
+returns-clause-stopped g c = λ ended.
+    let r = c.report.ensures in
+    let a = c.answer.ensures.stopped (rw (r.opened, r.ack) ended) in (
+      a.0,
+      record {
+        written_is = ap g.K.Sink.written a.1;
+        held_is = ap g.K.Sink.held a.1;
+        faults_are = ap g.K.Sink.faults a.1;
+        settled = ap g.K.Sink.may_want a.1;
+      },
+    )

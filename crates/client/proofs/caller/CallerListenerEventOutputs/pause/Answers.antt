@@ -1,3 +1,4 @@
+use Rattle.std.proofs.Common.{ap}
 use Rattle.client.proofs.Hearing.{heard_on}
 use Rattle.client.proofs.caller.CallerListenerEventOutputs.pause.Goals as goal
 
@@ -17,3 +18,10 @@ returns-clause-heard g c = λ first events along.
 pub returns-clause-may_wait : goal.returns-clause-may_wait
 returns-clause-may_wait g c =
     record { reported = c.write_lines.ensures.written; told = c.end_sending.ensures.ended }
+
+pub returns-clause-same_end : goal.returns-clause-same_end
+returns-clause-same_end g c = λ on. ap g.K.Sink.ended (c.end_sending.ensures.same_end on)
+
+pub returns-clause-stopped : goal.returns-clause-stopped
+returns-clause-stopped g c = λ ended.
+    let w = c.write_lines.ensures in (rw (w.opened, w.ack) ended, c.end_sending.ensures.unput)

@@ -47,3 +47,19 @@ returns-else-is_going-clause-closed g c = λ first requests heard.
     (rw (c.if-not-is_going-2.ensures.going refl, e.emptied, e.unmarked) at
     (e.answered first requests m.sender heard.answered)) (closing_of c.args.ending) p.result
     p.new.sink (c.if-is_going.ensures.stopped refl) p.ensures.goes p.ensures.wanted
+
+-- once the writing has stopped, nothing is put
+pub returns-then-not-is_going-clause-stopped : goal.returns-then-not-is_going-clause-stopped
+returns-then-not-is_going-clause-stopped g c = λ stopped. (refl, refl)
+
+pub returns-then-not-is_going-2-clause-stopped : goal.returns-then-not-is_going-2-clause-stopped
+returns-then-not-is_going-2-clause-stopped g c = λ stopped.
+    absurd (stopped (c.if-not-is_going.ensures.going refl))
+
+pub returns-then-is_going-clause-stopped : goal.returns-then-is_going-clause-stopped
+returns-then-is_going-clause-stopped g c = λ stopped.
+    absurd (stopped (c.if-not-is_going.ensures.going refl))
+
+pub returns-else-is_going-clause-stopped : goal.returns-else-is_going-clause-stopped
+returns-else-is_going-clause-stopped g c = λ stopped.
+    absurd (stopped (c.if-not-is_going.ensures.going refl))

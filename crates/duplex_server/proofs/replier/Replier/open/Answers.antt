@@ -40,3 +40,14 @@ returns-then-is_err-clause-little g c = λ little. rw c.starve.ensures.emptied (
 
 pub returns-clause-little : goal.returns-clause-little
 returns-clause-little g c = λ little. c.relieve.ensures.little
+
+-- once the writing has stopped, nothing is put
+pub returns-then-not-is_going-clause-stopped : goal.returns-then-not-is_going-clause-stopped
+returns-then-not-is_going-clause-stopped g c = λ stopped. (refl, refl)
+
+pub returns-then-is_err-clause-stopped : goal.returns-then-is_err-clause-stopped
+returns-then-is_err-clause-stopped g c = λ stopped.
+    absurd (stopped (c.if-not-is_going.ensures.going refl))
+
+pub returns-clause-stopped : goal.returns-clause-stopped
+returns-clause-stopped g c = λ stopped. absurd (stopped (c.if-not-is_going.ensures.going refl))

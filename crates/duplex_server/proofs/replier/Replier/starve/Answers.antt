@@ -12,7 +12,7 @@ returns-then-is_going-clause-answered g c = λ first requests request before aft
     (answering_of g.V.Service.served m) first requests before w.answers c.write.new.sink
     (rw (c.if-is_going.ensures.going refl, e.emptied, e.unmarked) at
     (e.answered first requests before h)) c.starve-self.result request after
-    c.starve-self.new.sink c.starve-self.ensures)
+    c.starve-self.new.sink c.starve-self.ensures.cut)
 
 pub returns-else-is_going-clause-answered : goal.returns-else-is_going-clause-answered
 returns-else-is_going-clause-answered g c = λ first requests request before after h.

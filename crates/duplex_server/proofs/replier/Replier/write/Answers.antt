@@ -9,5 +9,5 @@ returns-clause-answered g c = λ first requests sender h.
     (answering_of g.V.Service.served m) first requests sender m.answers m.gathered.items
     m.ends.items c.args.sink.now (rw c.requires.going at h) c.put_parts-put.result.0
     c.put_parts-put.result.1 c.answers_within-self.result c.put_parts-put.new.sink
-    (rw c.deref.ensures.value at c.put_parts-put.ensures)
+    (rw c.deref.ensures.value at c.put_parts-put.ensures.puts)
     (rw c.deref-2.ensures.value at c.answers_within-self.ensures))

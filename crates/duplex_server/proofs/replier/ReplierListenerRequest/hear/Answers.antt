@@ -1,8 +1,8 @@
-use Rattle.std.proofs.Common.{[], ◌∷◌, ◌++◌, sym, ap, ◌∙◌, subst}
+use Rattle.std.proofs.Common.{[], ◌∷◌, ◌++◌, sym, refl, ap, ◌∙◌, subst, inl, inr}
 use Rattle.io_edges.specs.Faults.{one_more}
 use Rattle.duplex_server.specs.declared.requests.Request.TheVariants.{Opened, Received}
 use Rattle.duplex_server.specs.{Owed.Answering, Replying.answering_of, Replying.HasHeard}
-use Rattle.duplex_server.proofs.Heard.{answered_quietly, messages_more, messages_quiet}
+use Rattle.duplex_server.proofs.Heard.{answered_quietly, messages_more, messages_quiet, unput}
 use Rattle.duplex_server.proofs.replier.ReplierListenerRequest.hear.Goals as goal
 
 pub returns-in-Opened-clause-heard : goal.returns-in-Opened-clause-heard
@@ -40,3 +40,28 @@ returns-in-Ended-clause-heard g c = λ first events heard.
           m.ends.items c.args.sink.now c.args.request m.outbound c.in-Ended.is heard.answered;
       little = heard.little;
     }
+
+-- once the writing has stopped, nothing is put
+pub returns-in-Opened-clause-stopped : goal.returns-in-Opened-clause-stopped
+returns-in-Opened-clause-stopped g c = λ stopped.
+    let e = c.open.ensures.stopped stopped in (
+      λ done. stopped (sym e.0 ∙ done),
+      unput g.K.Sink.written g.K.Sink.held g.K.Sink.faults g.K.Sink.may_want c.args.sink.now
+          c.open.new.sink e.1,
+    )
+
+pub returns-in_ok-spent-in-Received-clause-stopped :
+    goal.returns-in_ok-spent-in-Received-clause-stopped
+returns-in_ok-spent-in-Received-clause-stopped g c = λ stopped.
+    let e = c.answer.ensures.stopped stopped in (
+      λ done. stopped (sym e.0 ∙ done),
+      unput g.K.Sink.written g.K.Sink.held g.K.Sink.faults g.K.Sink.may_want c.args.sink.now
+          c.answer.new.sink e.1,
+    )
+
+pub returns-in-Ended-clause-stopped : goal.returns-in-Ended-clause-stopped
+returns-in-Ended-clause-stopped g c = λ stopped. (
+  stopped,
+  unput g.K.Sink.written g.K.Sink.held g.K.Sink.faults g.K.Sink.may_want c.args.sink.now
+      c.args.sink.now refl,
+)

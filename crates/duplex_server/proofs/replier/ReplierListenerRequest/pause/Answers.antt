@@ -79,3 +79,33 @@ returns-else-not-is_going-2-clause-may_wait g c =
     let going = c.if-not-is_going-2.ensures.going refl in
     waits_going g.K.Sink.held g.K.Sink.ended n.outbound going n.gathered.items c.write_out.new.sink
     e.emptied (e.written going)
+
+-- what ended the direction
+pub returns-then-not-is_going-clause-same_end : goal.returns-then-not-is_going-clause-same_end
+returns-then-not-is_going-clause-same_end g c = λ on.
+    absurd (on (c.if-not-is_going.ensures.stopped refl))
+
+pub returns-then-not-is_going-2-clause-same_end : goal.returns-then-not-is_going-2-clause-same_end
+returns-then-not-is_going-2-clause-same_end g c = λ on.
+    absurd (on (c.if-not-is_going-2.ensures.stopped refl))
+
+-- once stopped, it was stopped before
+pub returns-then-not-is_going-clause-stopped : goal.returns-then-not-is_going-clause-stopped
+returns-then-not-is_going-clause-stopped g c = λ stopped.
+    let e = c.end.ensures in (
+      stopped,
+      record {
+        written_is = e.written;
+        held_is = e.held;
+        faults_are = e.counted;
+        settled = e.settled;
+      },
+    )
+
+pub returns-then-not-is_going-2-clause-stopped : goal.returns-then-not-is_going-2-clause-stopped
+returns-then-not-is_going-2-clause-stopped g c = λ stopped.
+    absurd (stopped (c.if-not-is_going.ensures.going refl))
+
+pub returns-else-not-is_going-2-clause-stopped : goal.returns-else-not-is_going-2-clause-stopped
+returns-else-not-is_going-2-clause-stopped g c = λ stopped.
+    absurd (stopped (c.if-not-is_going.ensures.going refl))

@@ -9,6 +9,7 @@ flush-tells g c = record {
   counted = c.ensures.adds.counted;
   wanted = c.ensures.adds.wanted;
   settled = c.ensures.adds.settled;
+  same_end = c.ensures.same_end;
 }
 
 pub put_some-tells : goal.put_some-tells
@@ -21,4 +22,5 @@ put_some-tells g c = record {
   counted = c.ensures.adds.counted;
   wanted = c.ensures.adds.wanted;
   settled = c.ensures.adds.settled;
+  same_end = c.ensures.same_end;
 }

@@ -1,11 +1,11 @@
 use Rattle.std.proofs.{Common.refl, Common.arith, Common.rules, lemmas.Grind.common_steps}
-use Rattle.io_edges.proofs.Pieces.{refused_front}
+use Rattle.io_edges.{proofs.Pieces.refused_front, specs.InMemory.kept_next}
 use Rattle.io_edges.proofs.memory_sink.MemorySinkSink.TheImpl.Goals as goal
 
 pub put-tells : goal.put-tells
 put-tells c = record {
   written = search rules;
-  refused = refused_front _ _ _ c.args.self.now.kept c.result c.ensures.front c.ensures.memory;
+  refused = refused_front _ _ _ (kept_next c.args.self.now) c.result c.ensures.front c.ensures.memory;
   dropped = search rules;
   counted = record {
     rose = grind (arith, common_steps);
@@ -14,6 +14,7 @@ put-tells c = record {
   };
   wanted = λ _. refl;
   settled = refl;
+  same_end = c.ensures.same_end;
 }
 
 pub put_some-tells : goal.put_some-tells
@@ -30,4 +31,5 @@ put_some-tells c = record {
   };
   wanted = λ _. refl;
   settled = refl;
+  same_end = c.ensures.same_end;
 }
