@@ -7,19 +7,19 @@ use crate::option_name::OptionName;
 /// A command of the program.
 #[derive(Clone, Copy, Debug, PartialEq, Eq)]
 pub enum Action {
-    /// Reads a stream and reports it.
+    /// `check`: reads a stream and reports it.
     Check,
-    /// Reads a stream, reports it, and prints its documents.
+    /// `dump`: reads a stream, reports it, and prints its documents.
     Dump,
-    /// Writes documents as a session.
+    /// `build`: writes documents as a session.
     Build,
-    /// Answers a stream as a server.
+    /// `replay`: answers a stream as a server.
     Replay,
-    /// Answers connections as a server.
+    /// `serve`: answers connections as a server.
     Serve,
-    /// Calls a server.
+    /// `call`: calls a server.
     Call,
-    /// Makes documents and reads them.
+    /// `gen`: makes documents, and reads them from their session.
     Gen,
 }
 
@@ -50,7 +50,7 @@ static CALLING: [OptionName; 11] = options![Connect, Via, Mode, Encoding, Second
 
 static GENERATING: [OptionName; 8] = options![Seed, Count];
 
-/// The command that a word names.
+/// The command that a word names; None where it names none.
 pub fn action_of(word: &str) -> Option<Action>
     ensures named { IfSome result (λ action. word.now ≡ word_of action) }
     ensures unknown { IfNone result ((action : Action) → word.now ≢ word_of action) }
@@ -67,7 +67,7 @@ pub fn action_of(word: &str) -> Option<Action>
     }
 }
 
-/// The word of a command.
+/// The word that names a command.
 pub fn word_of(action: Action) -> &'static str
     ensures { result.now ≡ word_of action }
 {
@@ -82,7 +82,7 @@ pub fn word_of(action: Action) -> &'static str
     }
 }
 
-/// The options of a command.
+/// The options that a command has.
 pub fn options_of(action: Action) -> &'static [OptionName]
     ensures { result.now ≡ options_of action }
 {

@@ -1,4 +1,4 @@
-// What clap is told of a command.
+// The description of a command for `clap`.
 ghost use Rattle.std.specs.Prelude.{◌≡◌, IfOk};
 ghost use Rattle.clap.specs.Simple.{app_of};
 ghost use Rattle.command_words.specs.Commands.{word_of};
@@ -9,7 +9,7 @@ use crate::option_name::{OptionName, option_text};
 use clap::{Arg, Command};
 use std::alloc::{AllocError, Global};
 
-// A command without options. It is given the words behind the command, and has no flag for help.
+// A command without options. It is given the words after the command, and has no flag for help.
 fn without_options<'w>(alloc: Global, action: Action) -> Command<'w>
     ensures { app_of result ≡ app_without_options (word_of action) }
 {
@@ -31,7 +31,7 @@ fn with_option<'w>(
     command.arg(Arg::new(alloc, name).long(name))
 }
 
-/// The command with its options.
+/// The command with its options, as `clap` takes it. It fails without memory for it.
 pub fn described<'w>(alloc: Global, action: Action) -> Result<Command<'w>, AllocError>
     ensures { IfOk result (λ command. app_of command ≡ app_for action) }
 {

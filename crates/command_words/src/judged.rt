@@ -26,7 +26,7 @@ const MOST_CONNECTIONS: u32 = 1_000_000;
 /// How many documents are made at most.
 const MOST_DOCUMENTS: u32 = 1_000_000;
 
-// The end whose stream the values ask for.
+// The end of a session whose stream is to be read.
 fn origin_in(replies: Option<&str>, kind: Kind) -> Option<Origin>
     ensures said { IfSome result (IsOrigin (text_behind replies.entry) kind) }
     ensures none { IfNone result ((origin : Origin)
@@ -58,7 +58,7 @@ fn is_short(via: &str) -> bool
     via.len() <= Quotas::usual().via as usize
 }
 
-// What the values open a session with.
+// How a session is to be opened.
 fn opening_in<'w>(matches: &ArgMatches<'w>) -> Option<Opening<'w>>
     ensures opens { IfSome result
         (λ opening. IsOpening (found_values matches.now) (opening_of opening)) }
@@ -83,7 +83,7 @@ fn build_in<'w>(matches: &ArgMatches<'w>) -> Option<Task<'w>>
     Some(Task::Build(opening_in(matches)?))
 }
 
-// What the values serve sessions with.
+// How sessions are to be served.
 fn serving_in<'w>(matches: &ArgMatches<'w>) -> Serving<'w>
     ensures { serving_of result ≡ serving_in (found_values matches.now) }
 {
@@ -157,7 +157,7 @@ fn task_in<'w>(action: Action, matches: &ArgMatches<'w>) -> Option<Task<'w>>
     }
 }
 
-/// What the values ask of a command, where they mean anything.
+/// What the values of its options ask of a command; None where one of them isn't valid.
 pub fn judged<'w>(action: Action, matches: &ArgMatches<'w>) -> Option<Request<'w>>
     ensures meant { IfSome result (λ request.
         AskFor action (found_values matches.now) (asked_of request)) }

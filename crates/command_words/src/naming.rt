@@ -4,7 +4,7 @@ ghost use Rattle.command_words.specs.Values.{IsKind, IsMode, kind_text, mode_nam
 
 use nbfx_values::{Kind, Mode};
 
-/// The mode of a name.
+/// The mode that this word names; None where it names none.
 pub fn mode_named(name: &str) -> Option<Mode>
     ensures named { IfSome result (λ mode. name.now ≡ mode_name mode) }
     ensures unknown { IfNone result ((mode : Mode) → name.now ≢ mode_name mode) }
@@ -17,7 +17,7 @@ pub fn mode_named(name: &str) -> Option<Mode>
     }
 }
 
-/// The mode that a value names, or duplex where there is no value.
+/// The mode that a value names, duplex without a value; None where the value names none.
 pub fn mode_in(value: Option<&str>) -> Option<Mode>
     ensures named { IfSome result (IsMode (text_behind value.entry)) }
     ensures none { IfNone result ((mode : Mode) → ¬ IsMode (text_behind value.entry) mode) }
@@ -41,7 +41,7 @@ fn kind_named(name: &str) -> Option<Kind>
     }
 }
 
-/// The encoding that a value names, or the one with a session dictionary where there is no value.
+/// The encoding that a value names, 8 without a value; None where the value names none.
 pub fn kind_in(value: Option<&str>) -> Option<Kind>
     ensures named { IfSome result (IsKind (text_behind value.entry)) }
     ensures none { IfNone result ((kind : Kind) → ¬ IsKind (text_behind value.entry) kind) }

@@ -14,7 +14,8 @@ fn begins_plain(text: &[u8]) -> bool
     }
 }
 
-/// The number that decimal digits without a leading zero write.
+/// The number below 2^64 that decimal digits without a leading zero write; None where the text
+/// isn't such digits.
 pub fn number_in(text: &str) -> Option<u64>
     ensures written { IfSome result (λ n. text.now ≡ decimal n) }
     ensures none { IfNone result ((n : ℕ) → n < 2 ^ 64 → text.now ≢ decimal n) }
@@ -25,7 +26,7 @@ pub fn number_in(text: &str) -> Option<u64>
     text.parse::<u64>().ok()
 }
 
-/// The number that a value writes, or the usual one where there is no value.
+/// The number that a value writes, or `usual` without a value; None where the value isn't a number.
 pub fn number_or(value: Option<&str>, usual: u64) -> Option<u64>
     ensures written { IfSome result (IsNumber (text_behind value.entry) usual) }
     ensures none { IfNone result ((n : ℕ) → n < 2 ^ 64
@@ -37,7 +38,7 @@ pub fn number_or(value: Option<&str>, usual: u64) -> Option<u64>
     }
 }
 
-/// The same, where it is small.
+/// The same, if it is below 2^32.
 pub fn small_or(value: Option<&str>, usual: u64) -> Option<u32>
     ensures written { IfSome result (IsNumber (text_behind value.entry) usual) }
     ensures none { IfNone result ((n : ℕ) → n < 2 ^ 32
@@ -46,7 +47,7 @@ pub fn small_or(value: Option<&str>, usual: u64) -> Option<u32>
     u32::try_from(number_or(value, usual)?).ok()
 }
 
-/// The same, where it is within bounds.
+/// The same, if it is at least `least` and at most `most`.
 pub fn number_within(value: Option<&str>, usual: u32, least: u32, most: u32) -> Option<u32>
     ensures written { IfSome result (λ n.
         IsNumber (text_behind value.entry) usual n × (least ≤ n) × (n ≤ most)) }

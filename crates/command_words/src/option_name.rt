@@ -2,7 +2,7 @@
 ghost use Rattle.std.specs.Prelude.{◌≡◌};
 ghost use Rattle.command_words.specs.Options.{option_text};
 
-/// An option that a command may be given.
+/// An option of a command: `--` and the variant's name in lower case.
 #[derive(Clone, Copy, Debug, PartialEq, Eq)]
 pub enum OptionName {
     /// The file of the static strings.
@@ -15,31 +15,31 @@ pub enum OptionName {
     Mode,
     /// The encoding of a session's envelopes.
     Encoding,
-    /// The place where connections are accepted.
+    /// The place where connections are accepted: a host and a port.
     Listen,
     /// How many connections are accepted.
     Connections,
-    /// The place that is connected to.
+    /// The place that is connected to: a host and a port.
     Connect,
     /// The file of a second list of documents.
     Second,
-    /// Where the made documents start.
+    /// The number that determines the documents that are made.
     Seed,
     /// How many documents are made.
     Count,
-    /// The Via that is served alone.
+    /// The only Via that is served.
     Endpoint,
-    /// The file of texts by action.
+    /// The file that has the reply's text for each action.
     Actions,
-    /// The greatest payload.
+    /// The quota on the bytes of an envelope's payload.
     Payload,
-    /// The greatest depth.
+    /// The quota on open elements.
     Depth,
-    /// The greatest cost of the session strings.
+    /// The quota on the cost of session strings.
     Dictionary,
-    /// The greatest content of a document.
+    /// The quota on a document's content.
     Content,
-    /// The longest session.
+    /// The quota on the bytes of a session.
     Session,
 }
 

@@ -16,7 +16,7 @@ use clap::error::ErrorKind;
 use clap::{ArgMatches, Error};
 use std::alloc::Global;
 
-// Whether a word is a hyphen or two alone, of which clap has a use of its own.
+// Whether a word is one or two hyphens alone, which `clap` treats specially.
 fn is_lone(word: &str) -> bool
     ensures { IsTrue result ↔ IsLoneHyphens word.now }
 {
@@ -46,7 +46,7 @@ fn fault_of(error: &Error) -> WordsFault
     }
 }
 
-/// The value that an option was given.
+/// The value that an option was given; None where it wasn't given.
 pub fn given_for<'w>(matches: &ArgMatches<'w>, option: OptionName) -> Option<&'w str>
     ensures { text_behind result ≡ found_values matches.now option }
 {
@@ -100,7 +100,8 @@ fn have_values(action: Action, matches: &ArgMatches<'_>) -> bool
     true
 }
 
-/// The options of a command, with their values.
+/// The options of a command, with their values, out of the words after the command. It fails where
+/// the words aren't options that the command has, each once and with a value, or without memory.
 pub fn parsed<'w>(
     alloc: Global,
     action: Action,

@@ -12,7 +12,8 @@ use crate::parsed::given_for;
 use clap::ArgMatches;
 use nbfx_values::Quotas;
 
-/// The quotas that the values set, where they are valid.
+/// The quotas that the values set, and the defaults for others; None where they aren't valid
+/// together.
 pub fn quotas_of(matches: &ArgMatches<'_>) -> Option<Quotas>
     ensures set { IfSome result
         (λ quotas. AreLimits (found_values matches.now) (limits_of quotas)) }

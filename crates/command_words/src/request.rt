@@ -3,13 +3,13 @@
 use crate::task::Task;
 use nbfx_values::Quotas;
 
-/// What the words ask for.
+/// What the arguments ask for.
 #[derive(Clone, Copy, Debug, PartialEq, Eq)]
 pub struct Request<'w> {
     /// The name of the file of the static strings.
     pub statics: &'w str,
-    /// The limits that it works within.
+    /// The quotas that it works within.
     pub quotas: Quotas,
-    /// What it is to do.
+    /// What is to be done.
     pub task: Task<'w>,
 }

@@ -2,21 +2,21 @@
 
 use nbfx_values::{Kind, Mode};
 
-/// How much of its documents the report of a stream shows.
+/// What the report of a stream shows of its documents.
 #[derive(Clone, Copy, Debug, PartialEq, Eq)]
 pub enum Detail {
-    /// A line of what each measures.
+    /// A line of numbers for each.
     Summary,
-    /// Its items too.
+    /// Their items too.
     Whole,
 }
 
-/// The end of a session that a stream comes from.
+/// Which end of a session sent a stream.
 #[derive(Clone, Copy, Debug, PartialEq, Eq)]
 pub enum Origin {
     /// The end that connected. Its stream names the mode and the encoding.
     Initiator,
-    /// The end that accepted, in a session of this mode and encoding.
+    /// The end that accepted the connection, in a session of this mode and encoding.
     Receiver { mode: Mode, kind: Kind },
 }
 
@@ -25,16 +25,19 @@ pub enum Origin {
 pub struct Opening<'w> {
     /// The Via, of at most 2,048 bytes.
     pub via: &'w str,
+    /// The mode of the session.
     pub mode: Mode,
+    /// The encoding of its envelopes.
     pub kind: Kind,
 }
 
-/// What sessions are served with.
+/// How sessions are served.
 #[derive(Clone, Copy, Debug, PartialEq, Eq)]
 pub struct Serving<'w> {
-    /// The Via that is served alone, or none where any is.
+    /// The only Via that is served; any is without it.
     pub endpoint: Option<&'w str>,
-    /// The name of the file of texts by action, or none where the service is the echo.
+    /// The name of the file that has the reply's text for each action; without it the service
+    /// echoes.
     pub actions: Option<&'w str>,
 }
 

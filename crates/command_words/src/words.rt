@@ -1,4 +1,4 @@
-// The words as what they ask for.
+// What the arguments ask for.
 ghost use Rattle.std.specs.Prelude.{map, string_bytes, IfOk, IsErrOf};
 ghost use Rattle.command_words.specs.Asking.{asked_of};
 ghost use Rattle.command_words.specs.Requests.{Asked, IsRequest};
@@ -9,7 +9,7 @@ use crate::parsed::parsed;
 use crate::request::Request;
 use std::alloc::Global;
 
-/// Why words ask for nothing.
+/// Why arguments ask for nothing.
 #[derive(Clone, Copy, Debug, PartialEq, Eq)]
 pub enum WordsFault {
     /// They aren't valid.
@@ -18,9 +18,8 @@ pub enum WordsFault {
     Memory,
 }
 
-/// What the words ask for, of which the first is the program's name.
-///
-/// `NotUnderstood` comes where they are no request, `Memory` where memory ran out.
+/// What the arguments ask for, of which the first is the program's name. It fails with
+/// `NotUnderstood` where they aren't valid, or without memory.
 pub fn read<'w>(alloc: Global, words: &'w [String]) -> Result<Request<'w>, WordsFault>
     ensures understood { IfOk result (λ request.
         IsRequest (map string_bytes words.entry.now) (asked_of request)) }

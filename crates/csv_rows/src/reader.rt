@@ -11,7 +11,7 @@ use std::marker::Model;
 use std::str::from_utf8;
 use unit_streams::Memory;
 
-/// A field as text, where it is UTF-8.
+/// The field as text, if it is UTF-8.
 pub fn text_of(field: &[u8]) -> Option<&str>
     ensures { option_map (λ text. text.now) result ≡ text_of field.now }
 {
@@ -69,7 +69,8 @@ impl<'a> RowReader<'a> {
         }
     }
 
-    /// Reads the next row, and says whether there was one. None comes after memory ran out.
+    /// Reads the next row, and says whether there was one. Without memory it fails, and nothing is
+    /// promised of the rows to come.
     pub fn advance(&mut self) -> Result<bool, Memory>
         ensures { IfOk result
             (λ found. Advanced found self.old.coming self.new.row self.new.coming) }
@@ -77,7 +78,7 @@ impl<'a> RowReader<'a> {
         read_row(&mut self.reader, &mut self.row)
     }
 
-    /// The two fields of the row read last, where it has just two.
+    /// The two fields of the row read last, if it has exactly two.
     pub fn two(&self) -> Option<(&[u8], &[u8])>
         ensures { option_map (λ fields. (fields.0.now, fields.1.now)) result ≡ two_of self.now.row }
     {

@@ -1,4 +1,4 @@
-//! The command that writes documents as an initiator's session.
+//! The command `build`, which writes documents as an initiator's session.
 
 ghost use Rattle.std.specs.Prelude.{◌≡◌, ◌≤◌, length, vec_len, IfOk};
 ghost use Rattle.io_edges.specs.Puts.{Puts};
@@ -48,7 +48,7 @@ impl Reporter<Envelope, InputFault> for EnvelopeWriter {
     }
 }
 
-// The preamble of a session, which is shorter than any room that it is gathered in.
+// The preamble of a session, which is shorter than the buffer that it is gathered in.
 fn preamble(alloc: Global, wanted: Opening<'_>) -> Result<Vec<u8>, Memory>
     requires { length wanted.via.now ≤ 2048 }
     ensures bytes { IfOk result (λ bytes. bytes.items ≡ preamble_of (opening_of wanted.entry)) }
@@ -59,7 +59,7 @@ fn preamble(alloc: Global, wanted: Opening<'_>) -> Result<Vec<u8>, Memory>
     Ok(bytes)
 }
 
-// A sink that has gathered these bytes, for which its room has place.
+// A sink that has gathered these bytes, for which its buffer has place.
 fn holding<O: Sink>(bytes: &[u8], room: Vec<u8>, output: O) -> GatheringSink<O>
     requires { length bytes.now ≤ vec_len room }
     ensures sink { result.sink ≡ output }
@@ -70,8 +70,8 @@ fn holding<O: Sink>(bytes: &[u8], room: Vec<u8>, output: O) -> GatheringSink<O>
     gathered
 }
 
-/// Reads the documents that the input gives, and writes an initiator's session of them. Answers how
-/// that ended with the output.
+/// Reads the documents that the input gives in lines, and writes an initiator's session of them.
+/// Answers how that ended, with the output.
 pub fn build_input<I: Source, O: Sink>(
     alloc: Global,
     wanted: Opening<'_>,

@@ -1,4 +1,4 @@
-//! The command that calls a peer with documents.
+//! The command `call`, which sends documents to a peer.
 
 ghost use Rattle.std.specs.Prelude.{◌≡◌, ◌≤◌, ◌<◌, ◌⊎◌, ◌^◌, [], length, IfErr, IfOk, IsErrOf, Err, Some};
 ghost use Rattle.io_edges.specs.Faults.{CountsFaults, Rose};
@@ -24,11 +24,12 @@ use static_dictionary::StaticTable;
 use std::alloc::Global;
 use stream_loop::Ending;
 
-/// A file of documents that isn't read.
+/// A file of documents that isn't read, and why.
 #[derive(Clone, Copy, Debug)]
 pub struct UnreadDocuments<'w> {
-    /// The name that the words give.
+    /// The name that the arguments give.
     pub name: &'w str,
+    /// Why it isn't read.
     pub fault: FileFault,
 }
 
@@ -66,8 +67,8 @@ fn list_ending(fault: ListFault) -> Ending<InputFault>
     }
 }
 
-// Calls the place with the documents that the input gives and these behind them, and writes the
-// note. Where the input's aren't read, no connection is asked for.
+// Calls the place with the documents that the input gives and then these, and writes the note. If
+// the input's aren't read, no connection is asked for.
 fn call_with<I: Source, O: Sink, N: Sink, W: Wire>(
     alloc: Global,
     place: &str,

@@ -1,15 +1,16 @@
-//! What a run says of a file that isn't read.
+//! The words by which a note says what is wrong with a row of a file.
 
 ghost use Rattle.std.specs.Prelude.{◌≡◌, ℕ, List};
 
 use action_dispatch::ActionKind;
 use static_dictionary::TableKind;
 
-/// What may be wrong with a row of a file.
+/// What can be wrong with a row of a file.
 pub trait RowKind: Copy {
     /// Its name, as a note says it.
     ghost name_of: { Self → List ℕ };
 
+    /// The same name.
     fn name(self) -> &'static str
         ensures { result.now ≡ name_of self };
 }

@@ -1,4 +1,4 @@
-//! The command that makes a session and says what it measures.
+//! The command `gen`, which makes a session and prints a line of it.
 
 ghost use Rattle.std.specs.Prelude.{◌≡◌, []};
 ghost use Rattle.nbfx_values.specs.QuotasOf.{limits_of};
@@ -13,8 +13,8 @@ use session_generator::summarize;
 use static_dictionary::StaticTable;
 use std::alloc::Global;
 
-/// Makes the session of so many documents that follow the seed, and writes the line of what it
-/// measures, and the note. Answers the status with the output.
+/// Makes the session of the `count` documents that follow the seed, and writes its line, and the
+/// note. Answers the status, with the output.
 pub fn generate_session<O: Sink, N: Sink>(
     alloc: Global,
     seed: u64,

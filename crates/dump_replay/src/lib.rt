@@ -6,18 +6,17 @@
 //! an initiator's stream, and writes what a server would answer. `serve` answers the connections
 //! that peers make in that way, one after the other. `call` connects to a server, sends documents
 //! to it, and prints what it answers as `dump` would. `gen` makes a session of a seed's documents,
-//! and says what it measures.
+//! and prints a line of it.
 //!
-//! The one idea: a command reads a stream by a reading end and writes about it by a reporter, and
-//! the loop over both is `stream_loop`'s, so that what is written is a function of the bytes. The
-//! report of a stream is `session_report`'s, the reader of documents in lines is `document_lines`',
-//! the answers to an initiator's stream and on connections are `duplex_server`'s, the call of a
-//! server is `client`'s and its documents are `document_lines`', the line of a session that is made
-//! is `session_generator`'s, and the words are read by `command_words`. Here are the writer of
-//! envelopes (`building`), the service that is asked for (`responding`), the file of static
-//! strings, the statuses and the notes of a run, and what goes by the task that the words ask for
-//! (`working`). The main contract is the one of `run`: what each status means, when it comes, and
-//! what the output holds then.
+//! The one idea: a command is a loop of `stream_loop` over a reading end, which finds the events of
+//! a stream, and what writes about them, so that what is written is a function of the bytes.
+//! Streams are reported by `session_report`, documents in lines are read by `document_lines`,
+//! requests are answered by `duplex_server`, servers are called by `client`, sessions are generated
+//! by `session_generator`, and arguments are read by `command_words`. Here are the writer of
+//! envelopes (`building`), the service that is asked for (`responding`), the file of static strings
+//! (`statics`), the statuses and the notes of a run, and what is done for each task (`working`).
+//! The main contract is that of `run`: what each status means, when it comes, and what the output
+//! holds then.
 //!
 //! The definitions are in `specs/`: `Outside` has what is seen of the outside at one moment,
 //! `Statics` what a file of static strings gives, `Running` the statuses, `Noting` the notes,

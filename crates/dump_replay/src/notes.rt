@@ -1,4 +1,4 @@
-//! What a run says on the notes. That a note is lost changes nothing else.
+//! The notes of a run, on standard error. If a note can't be written, nothing else changes.
 
 ghost use Rattle.std.specs.Prelude.{◌≡◌, [], ◌∷◌, ◌++◌, All, codes};
 ghost use Rattle.std.specs.Fmt.{decimal};
@@ -48,7 +48,7 @@ fn put_note<N: Sink>(pieces: &[Word], notes: &mut N) -> Result<(), SinkFault>
     notes.flush()
 }
 
-/// Writes the note that goes with a status by itself.
+/// Writes the note of a status that needs no other words.
 pub fn note_status<N: Sink>(status: u8, notes: &mut N)
     ensures notes { Notes N.written N.held N.faults N.may_want notes.old notes.new
         (note_of status) }
@@ -60,7 +60,7 @@ pub fn note_status<N: Sink>(status: u8, notes: &mut N)
     }
 }
 
-// Writes the note of a file that isn't there.
+// Writes the note of a file that doesn't exist.
 fn note_missing<N: Sink>(name: &str, notes: &mut N)
     ensures { Notes N.written N.held N.faults N.may_want notes.old notes.new
         (name.now ++ codes ": not found\n") }
@@ -187,7 +187,7 @@ fn note_input<N: Sink>(fault: InputFault, notes: &mut N)
     }
 }
 
-/// Writes the note of a session that is written, by how that ended.
+/// Writes the note of a session that `build` wrote, by how that ended.
 pub fn note_building<N: Sink>(ending: Ending<InputFault>, notes: &mut N)
     ensures notes { Notes N.written N.held N.faults N.may_want notes.old notes.new
         (note_of_building ending) }
@@ -233,7 +233,7 @@ fn note_inbound<N: Sink>(inbound: Inbound, notes: &mut N)
     }
 }
 
-/// Writes the note of a stream that was answered, by how that ended.
+/// Writes the note of a stream that `replay` answered, by how that ended.
 pub fn note_replay<N: Sink>(replayed: Replayed, notes: &mut N)
     ensures notes { Notes N.written N.held N.faults N.may_want notes.old notes.new
         (note_of_replay replayed.inbound replayed.outbound) }
@@ -247,7 +247,7 @@ pub fn note_replay<N: Sink>(replayed: Replayed, notes: &mut N)
     }
 }
 
-/// Writes the note of a session that was made, by how that ended.
+/// Writes the note of a session that `gen` made, by how that ended.
 pub fn note_summary<N: Sink>(summary: Summary, notes: &mut N)
     ensures notes { Notes N.written N.held N.faults N.may_want notes.old notes.new
         (note_of_summary summary) }

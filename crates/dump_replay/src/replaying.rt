@@ -1,4 +1,4 @@
-//! The command that answers an initiator's stream as a server.
+//! The command `replay`, which answers an initiator's stream as a server.
 
 ghost use Rattle.std.specs.Prelude.{◌≡◌, ◌≤◌, ◌⊎◌, [], Option};
 ghost use Rattle.io_edges.specs.Store.{Store};
@@ -86,8 +86,8 @@ fn answer_input<I: Source, O: Sink, N: Sink>(
 }
 
 /// Answers the initiator's stream that the input gives, by the service that is asked for, and
-/// writes the note. Where that service's file isn't read, nothing is, and the note says why.
-/// Answers the status with the output.
+/// writes the note. If that service's file isn't read, the stream isn't either, and the note says
+/// why. Answers the status, with the output.
 pub fn replay_input<F: Shelf, I: Source, O: Sink, N: Sink>(
     alloc: Global,
     serving: Serving<'_>,

@@ -1,4 +1,4 @@
-//! The commands that report a stream.
+//! The commands `check` and `dump`, which report a stream.
 
 ghost use Rattle.std.specs.Prelude.{◌≡◌};
 ghost use Rattle.nbfx_values.specs.QuotasOf.{limits_of};
@@ -28,7 +28,7 @@ fn side_of(origin: Origin) -> Side
     }
 }
 
-/// The status of a stream with this offence.
+/// The status of a stream that is refused with this offence.
 pub fn offence_status(offence: Offence) -> u8
     ensures { result ≡ offence_status offence }
 {
@@ -53,8 +53,8 @@ fn status(ending: Ending<Offence>, outcome: Outcome) -> u8
     }
 }
 
-/// Reads the stream that the input gives, of the end of a session that is named, and writes its
-/// report. Answers the status with the output.
+/// Reads the stream that the input gives, which the named end of a session sent, and writes its
+/// report. Answers the status, with the output.
 pub fn report_input<I: Source, O: Sink>(
     alloc: Global,
     detail: Detail,

@@ -1,4 +1,4 @@
-//! How requests are answered, by what the words ask for.
+//! The service that answers requests, by what the arguments ask for.
 
 ghost use Rattle.std.specs.Prelude.{◌≡◌, Some, IfErr, IfOk};
 ghost use Rattle.io_edges.specs.Faults.{CountsFaults};
@@ -19,15 +19,16 @@ use receiver_machine::Endpoint;
 use std::alloc::Global;
 use unit_streams::Memory;
 
-/// A file of actions that isn't read.
+/// A file of actions that isn't read, and why.
 #[derive(Clone, Copy, Debug)]
 pub struct UnreadActions<'w> {
-    /// The name that the words give.
+    /// The name that the arguments give.
     pub name: &'w str,
+    /// Why it isn't read.
     pub fault: FileFault<ActionKind>,
 }
 
-/// The Via that is served alone, or any.
+/// The only Via that is served, or any. It fails without memory for it.
 pub fn endpoint_in(alloc: Global, serving: Serving<'_>) -> Result<Endpoint, Memory>
     ensures { IfOk result
         (λ endpoint. endpoint_of endpoint ≡ (serving_of serving.entry).endpoint) }
@@ -38,7 +39,8 @@ pub fn endpoint_in(alloc: Global, serving: Serving<'_>) -> Result<Endpoint, Memo
     }
 }
 
-/// The service that is asked for: the echo, or the texts of the shelf's file of actions.
+/// The service that is asked for: the echo, or the texts of the shelf's file of actions. It fails
+/// where that file isn't read.
 pub fn responder_in<'w, F: Shelf>(
     alloc: Global,
     serving: Serving<'w>,

@@ -1,4 +1,4 @@
-//! The top call.
+//! The call that does all that the program does.
 
 ghost use Rattle.std.specs.Prelude.{◌≡◌, ◌≤◌, ◌⊎◌, [], map};
 ghost use Rattle.std.specs.String.{string_bytes};
@@ -24,7 +24,9 @@ use std::alloc::Global;
 pub struct Ran<I, O> {
     /// The program's exit status.
     pub status: u8,
+    /// The input, as far as it was read.
     pub input: I,
+    /// The output, with what was written to it.
     pub output: O,
 }
 

@@ -1,4 +1,4 @@
-//! The command that answers the connections that peers make, as a server.
+//! The command `serve`, which answers the connections that peers make.
 
 ghost use Rattle.std.specs.Prelude.{◌≡◌, ◌≤◌, ◌<◌, ◌⊎◌, ◌^◌, []};
 ghost use Rattle.io_edges.specs.Faults.{CountsFaults, Rose};
@@ -34,9 +34,9 @@ fn stop_status(stop: Result<(), ServeFault>) -> u8
 }
 
 /// Answers at most so many connections that peers make to that place, one after the other, by the
-/// service that is asked for, and writes the line of each to the output. Where that service's file
-/// isn't read, no connection is asked for. The note says why it stopped. Answers the status with
-/// the output.
+/// service that is asked for, and writes the line of each to the output. If that service's file
+/// isn't read, no connection is asked for. The note says why it stopped early. Answers the status,
+/// with the output.
 pub fn serve_wire<F: Shelf, O: Sink, N: Sink, W: Wire>(
     alloc: Global,
     listen: &str,

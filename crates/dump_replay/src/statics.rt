@@ -1,4 +1,4 @@
-//! The static strings that a file on the shelf gives.
+//! The static strings of a file on the shelf.
 
 ghost use Rattle.std.specs.Prelude.{◌≡◌, ℕ, ◌≤◌, IfOk, IfErr, IsErrOf};
 ghost use Rattle.io_edges.specs.Faults.{CountsFaults, one_more};
@@ -18,7 +18,8 @@ fn file_fault(fault: TableFault) -> FileFault<TableKind>
     }
 }
 
-/// Reads the static strings out of the shelf's file of that name.
+/// Reads the static strings from the shelf's file of that name. It fails where there is no such
+/// file, where the fetch met an I/O error, at the first bad row, or without memory.
 pub fn read_statics<F: Shelf>(
     alloc: Global,
     shelf: &mut F,

@@ -1,4 +1,4 @@
-//! What each command does once it has its static strings.
+//! What each command does once the static strings are read.
 
 ghost use Rattle.std.specs.Prelude.{◌≡◌, ◌≤◌, ◌<◌, ◌^◌, []};
 ghost use Rattle.nbfx_values.specs.QuotasOf.{limits_of};
@@ -23,8 +23,8 @@ use nbfx_values::Quotas;
 use static_dictionary::StaticTable;
 use std::alloc::Global;
 
-/// Does a task with these static strings and quotas, and writes the note that goes with how it
-/// ended. Answers the status with the output.
+/// Does a task with these static strings and quotas, and writes the note of how it ended. Answers
+/// the status, with the output.
 pub fn work<F: Shelf, I: Source, O: Sink, N: Sink, W: Wire>(
     alloc: Global,
     task: Task<'_>,

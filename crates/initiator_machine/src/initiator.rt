@@ -1,4 +1,4 @@
-//! A receiver's stream, in any pieces.
+//! A reader of a receiver's stream, in any pieces.
 #![tactic(auto, unfolding(crate::specs::InitiatorState::reader_of))]
 
 ghost use Rattle.std.specs.Prelude.{◌≡◌, ℕ, List, [], IfOk, Some, false};
@@ -28,7 +28,8 @@ impl<'s> Initiator<'s> {
     ghost use Rattle.initiator_machine.specs.InitiatorState.{reader_of};
 
     /// An initiator before the first byte, in a session of the mode and the encoding that its
-    /// preamble has named. It allocates all that it needs before the first envelope.
+    /// preamble named. It allocates all that it needs before the first envelope, and fails without
+    /// that memory.
     pub fn new(
         alloc: Global,
         mode: Mode,
@@ -48,8 +49,9 @@ impl<'s> Initiator<'s> {
     }
 
     /// Uses the bytes of the piece up to and including the one that completes the next event, and
-    /// says how many they are: the Ack (`Accepted`), an envelope, the End, or a Fault in place of a
-    /// record. After a refusal it is refused the same way; after End or Fault it uses nothing, and
+    /// answers how many they are, and the event: the Ack (`Accepted`), an envelope, the End, or a
+    /// Fault in place of a record. It fails at the first byte that shows why the stream is refused,
+    /// or without memory, and in the same way from then on. After End or Fault it uses nothing, and
     /// repeats that event.
     pub fn feed(&mut self, piece: &[u8]) -> Result<(usize, StreamStep), ReadRefusal>
         ensures { Feeds (reader_of self.old) piece.now (reader_of self.new) result }
@@ -57,8 +59,9 @@ impl<'s> Initiator<'s> {
         self.reader.feed(piece)
     }
 
-    /// Says that the input is over, which is valid exactly after End or Fault, and in simplex mode
-    /// where the Ack was the last byte.
+    /// Says that the input is over. It fails with `Truncated` unless End or Fault has come, or in
+    /// simplex mode the Ack alone, and from then on. An initiator that has refused the stream fails
+    /// in the same way.
     pub fn end_of_input(&mut self) -> Result<(), Offence>
         requires { failure_of (reader_of self.old) ≡ Some ReadRefusal.Memory → ⊥ }
         ensures { EndsInput (reader_of self.old) (reader_of self.new) result }
@@ -77,7 +80,7 @@ impl<'s> Initiator<'s> {
         self.reader.reuse(doc);
     }
 
-    /// The text of the Fault record that ended the session, and before that the empty text.
+    /// The text of the Fault Record that ended the session; empty before.
     pub fn fault_text(&self) -> &str
         ensures text { HasText (reader_of self.now) result.now }
         ensures before { WhereItStands (reader_of self.now) (λ p.
@@ -86,23 +89,24 @@ impl<'s> Initiator<'s> {
         self.reader.text()
     }
 
-    /// How many bytes were used; after an offence of `feed`, how many show it; after running out of
-    /// memory, how many the calls before used.
+    /// How many bytes were used; after a refusal by `feed`, how many show it; after memory ran out,
+    /// how many the calls before used.
     pub fn taken(&self) -> u64
         ensures { HasTaken (reader_of self.now) result }
     {
         self.reader.taken()
     }
 
-    /// The strings of the direction so far; after a refusal in a payload, those read before it.
+    /// The session strings of the direction so far; after a refusal in a payload, those read before
+    /// it.
     pub fn table(&self) -> &SessionTable
         ensures { HasStrings (reader_of self.now) result.now.strings }
     {
         self.reader.table()
     }
 
-    /// What it holds of the input: in bytes, the framing's text and the unfinished unit of the
-    /// payload, and the content of the document so far.
+    /// What it holds of the input: the bytes of a framing record's text and of the payload's
+    /// incomplete record, and the content of the document so far.
     pub fn kept(&self) -> Kept
         ensures { Holds (reader_of self.now) result }
     {

@@ -9,8 +9,9 @@ use nmf_records::put_text_frame;
 use nmf_records::record_types::{KNOWN_ENCODING, MODE, PREAMBLE_END, VERSION, VIA};
 use unit_streams::Memory;
 
-/// Appends an initiator's preamble (MC-NMF): version 1.0, the mode, the Via, the known encoding and
-/// the preamble's end. After an error `out` is as before.
+/// Appends an initiator's preamble (MC-NMF): a Version Record of 1.0, the Mode Record, the Via
+/// Record, the Known Encoding Record and the Preamble End Record. Without memory it fails, and
+/// `out` is as before.
 pub fn opening(mode: Mode, kind: Kind, via: &str, out: &mut Vec<u8>) -> Result<(), Memory>
     requires { length via.now ≤ 2048 }
     ensures written { OnOk result (out.new.items ≡ out.old.items ++ opening_bytes mode kind via.now) }

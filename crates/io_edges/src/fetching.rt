@@ -8,8 +8,9 @@ ghost use Rattle.io_edges.specs.Files.{IsUnfetched};
 use crate::fault::FileFault;
 use crate::{Shelf, ShelfFault};
 
-/// Fetches the bytes of the shelf's file of that name. No row of it is judged, so that the fault is
-/// never `Bad`.
+/// Fetches the bytes of the shelf's file of that name. It fails with `Missing` where there is no
+/// such file, with `Failed` where the fetch met an I/O error, and without memory. No row is judged,
+/// so the fault is never `Bad`.
 pub fn fetch_file<F: Shelf, K>(shelf: &mut F, name: &str) -> Result<Vec<u8>, FileFault<K>>
     ensures found { IfOk result (λ bytes. IfSome (F.files shelf.old)
         (λ store. finite.get store name.now ≡ Some bytes.items)) }

@@ -15,9 +15,9 @@ use std::{fs, io};
 /// The bytes that a file on a shelf may have.
 const MOST: usize = 1 << 30;
 
-/// A shelf over the system's files, by their paths. A file that isn't there is `None`. Every other
-/// error counts as a fault, one of a call that was interrupted too, and so does a file of more than
-/// 2^30 bytes.
+/// A shelf over the system's files, by their paths. A file that doesn't exist is `None`. Every
+/// other error counts as a fault, also that of a call that was interrupted, and so does a file of
+/// more than 2^30 bytes.
 #[derive(Drop)]
 pub struct FileShelf<R> {
     rt: R,

@@ -1,4 +1,4 @@
-//! A sink that gathers what is put to it, and puts it on by few calls.
+//! A sink that gathers what is put to it, and passes it on by few calls.
 
 ghost use Rattle.std.specs.Prelude.{◌≡◌, ◌≤◌, ◌<◌, ◌+◌, ◌++◌, [], length, take, true, vec_len, IfOk, IsOk, OnErr};
 ghost use Rattle.io_edges.specs.Puts.{Adds, AddsSome};
@@ -11,14 +11,14 @@ use std::mem;
 /// How many bytes the usual buffer has.
 const ROOM: usize = 65_536;
 
-/// The usual buffer, of 64 KiB.
+/// The usual buffer of a [`GatheringSink`], of 64 KiB. It fails without memory for it.
 pub fn gathering_room(alloc: Global) -> Result<Vec<u8>, AllocError>
     ensures { IfOk result (λ room. vec_len room ≡ 65536) }
 {
     vec![in alloc; 0u8; ROOM]
 }
 
-// Copies bytes behind the first so many of the room.
+// Copies bytes to the room, after the first so many of it.
 #[inline(always)]
 fn keep(bytes: &[u8], room: &mut [u8], used: &mut usize)
     requires { used.old + length bytes.now ≤ length room.old }
@@ -31,8 +31,8 @@ fn keep(bytes: &[u8], room: &mut [u8], used: &mut usize)
     *used = end;
 }
 
-// Puts the first so many bytes of a room by one put, or by none where there are none. None stands
-// there then, also where the put fails.
+// Puts what the room holds to the inner sink by one put, or by none if it is empty. The room is
+// empty then, also where the put fails.
 fn put_gathered<K: Sink>(room: &[u8], used: &mut usize, sink: &mut K) -> Result<(), SinkFault>
     requires { used.old ≤ length room.now }
     ensures puts { Adds K.written K.held K.faults K.may_want sink.old sink.new
@@ -47,8 +47,8 @@ fn put_gathered<K: Sink>(room: &[u8], used: &mut usize, sink: &mut K) -> Result<
     sink.put(&room[..gathered])
 }
 
-// Puts the first so many bytes of a room, and gathers others in it. Where these are too many for
-// it, they are put as they are. Where a put fails, none stands there any more.
+// Empties the room into the inner sink, and gathers the bytes in it; more than it has place for are
+// put as they are. Where a put fails, the room is empty.
 #[inline(never)]
 fn gather_anew<K: Sink>(
     bytes: &[u8],
@@ -71,7 +71,7 @@ fn gather_anew<K: Sink>(
     sink.put(bytes)
 }
 
-// The same, with first bytes of the others, where all are too many for the room.
+// The same, but of bytes for which the room has no place first ones are put.
 #[inline(never)]
 fn gather_some<K: Sink>(
     bytes: &[u8],
@@ -96,8 +96,8 @@ fn gather_some<K: Sink>(
     sink.put_some(bytes)
 }
 
-/// A sink that buffers what is put to it, and puts it to the inner sink when the buffer has no
-/// place for more, or at a flush. A piece larger than the buffer is put on as it is. Buffering
+/// A sink that buffers what is put to it, and passes it to the inner sink when the buffer has no
+/// place for more, or at a flush. A piece larger than the buffer is passed on as it is. Buffering
 /// takes no memory.
 #[derive(Debug, Drop)]
 pub struct GatheringSink<K> {
@@ -122,7 +122,7 @@ impl<K> Model for GatheringSink<K> {
 }
 
 impl<K: Sink> GatheringSink<K> {
-    /// Buffers in these bytes, whatever they hold.
+    /// Buffers in `room`, whose bytes are overwritten.
     pub fn new(room: Vec<u8>, sink: K) -> GatheringSink<K>
         ensures sink { result.sink ≡ sink }
         ensures room { result.room ≡ vec_len room }
@@ -135,14 +135,14 @@ impl<K: Sink> GatheringSink<K> {
         }
     }
 
-    /// The sink beneath.
+    /// The inner sink.
     pub fn sink(&self) -> &K
         ensures { result.now ≡ self.now.sink }
     {
         &self.sink
     }
 
-    /// The sink beneath. What is gathered is dropped.
+    /// The inner sink, taken out. What is gathered and not yet passed on is dropped.
     pub fn into_sink(self) -> K
         ensures { result ≡ self.sink }
     {

@@ -71,11 +71,11 @@ pub use tcp_wire::TcpWire;
 pub use wire::Wire;
 pub use write_sink::WriteSink;
 
-/// The answer of a call that met an I/O error.
+/// The error of a call that met an I/O error.
 #[derive(Clone, Copy, Debug, PartialEq, Eq)]
 pub struct Failed;
 
-/// Where bytes come from. A caller reads until a take gives none, or fails.
+/// Where bytes come from. A caller reads until a take gives no bytes, or fails.
 pub trait Source {
     /// The bytes that were read, where the source shows its contents.
     ghost taken: { Self → Option (List ℕ) };
@@ -90,9 +90,9 @@ pub trait Source {
     /// makes whoever types at a terminal end the input twice.
     ghost empty_takes: { Self → ℕ };
 
-    /// Puts the next bytes at the front of the buffer, and answers how many they are. 0 for a
-    /// buffer that isn't empty is the end of the input. A take that fails moves nothing, and may be
-    /// followed by one that doesn't.
+    /// Reads the next bytes to the front of the buffer, and answers how many they are. 0 for a
+    /// buffer that isn't empty is the end of the input. A take that fails by an I/O error reads
+    /// nothing, and later ones may succeed.
     fn take(&mut self, room: &mut [u8]) -> Result<usize, Failed>
         ensures within { IfOk result (λ n. n ≤ length room.new) }
         ensures moved { IfOk result (λ n. Told (left self.old) (left self.new)
@@ -108,10 +108,10 @@ pub trait Source {
             (λ t t'. t' ≡ t)) };
 }
 
-/// Why a sink refused a piece.
+/// Why a sink didn't take a piece.
 #[derive(Clone, Copy, Debug, PartialEq, Eq)]
 pub enum SinkFault {
-    /// The outside failed.
+    /// A write met an I/O error.
     Failed,
     /// Out of memory for the bytes.
     Memory,
@@ -135,8 +135,8 @@ pub trait Sink {
     /// Whether the direction was ended.
     ghost ended: { Self → Bool };
 
-    /// Takes the whole piece, after what is held. A refusal may have written the first bytes of
-    /// both, and drops the others.
+    /// Takes the whole piece, to be written after what is held. On an error first bytes of both may
+    /// have been written, and the others are dropped.
     fn put(&mut self, bytes: &[u8]) -> Result<(), SinkFault>
         ensures written { OnOk result (Told (written self.old) (written self.new)
             (λ w w'. Passes w w' (held self.old) (held self.new) bytes.now)) }
@@ -149,9 +149,9 @@ pub trait Sink {
         ensures settled { may_want self.new ≡ may_want self.old }
         ensures same_end { ended self.new ≡ ended self.old };
 
-    /// Takes first bytes of the piece, after what is held: at least one, where there is one. Answers
-    /// how many. A refusal takes none of them. It may have written the first bytes of what is held,
-    /// and drops the others.
+    /// Takes first bytes of the piece, to be written after what is held, and answers how many: at
+    /// least one, where the piece has one. On an error it takes none; first bytes of what is held
+    /// may have been written, and the others are dropped.
     fn put_some(&mut self, bytes: &[u8]) -> Result<usize, SinkFault>
         ensures within { IfOk result (λ n. n ≤ length bytes.now) }
         ensures some { IfOk result (λ n. 0 < length bytes.now → 0 < n) }
@@ -166,7 +166,8 @@ pub trait Sink {
         ensures settled { may_want self.new ≡ may_want self.old }
         ensures same_end { ended self.new ≡ ended self.old };
 
-    /// Writes what is held. A refusal may have written the first bytes of it, and drops the others.
+    /// Writes what is held. On an error first bytes of it may have been written, and the others are
+    /// dropped.
     fn flush(&mut self) -> Result<(), SinkFault>
         ensures written { OnOk result (Told (written self.old) (written self.new)
             (λ w w'. w' ≡ w ++ held self.old)) }
@@ -179,10 +180,10 @@ pub trait Sink {
         ensures settled { may_want self.new ≡ may_want self.old }
         ensures same_end { ended self.new ≡ ended self.old };
 
-    /// Ends the direction, so that a peer that waits for more learns that no more comes. It is for
-    /// when the writing has stopped for good: a caller puts nothing after it, and where there is a
-    /// peer a put would fail. It writes nothing, and what is held stays so. No other call ends it. A
-    /// sink without a peer has nobody to tell, and is as if it were ended.
+    /// Ends the direction, so that a peer that waits for more learns that no more comes. It is
+    /// called when nothing more will be put; where there is a peer, a put after it would fail. It
+    /// writes nothing, and what is held stays held. No other call ends the direction. A sink that
+    /// has no peer does nothing else than to count as ended.
     fn end(&mut self)
         ensures ended { ended self.new ≡ true }
         ensures written { written self.new ≡ written self.old }
@@ -191,16 +192,16 @@ pub trait Sink {
         ensures settled { may_want self.new ≡ may_want self.old };
 }
 
-/// Why a shelf gave no answer.
+/// Why a shelf didn't say what it has under a name.
 #[derive(Clone, Copy, Debug, PartialEq, Eq)]
 pub enum ShelfFault {
-    /// The outside failed.
+    /// The fetch met an I/O error.
     Failed,
     /// Out of memory for the file's bytes.
     Memory,
 }
 
-/// Where files stand by name.
+/// Where files are found by name.
 pub trait Shelf {
     /// The files, where the shelf shows its contents.
     ghost files: { Self → Option Store };
@@ -212,7 +213,8 @@ pub trait Shelf {
     /// twice, and a pipe gives its bytes once.
     ghost fetches: { Self → ℕ };
 
-    /// The bytes of the file of that name, or `None` where there is none. The shelf stays as it is.
+    /// The bytes of the file of that name, or `None` where there is no such file. The files stay as
+    /// they are, also on an error.
     fn fetch(&mut self, name: &str) -> Result<Option<Vec<u8>>, ShelfFault>
         ensures found { IfOk result (λ found. IfSome (files self.old)
             (λ files. option_map (λ v. v.items) found ≡ finite.get files name.now)) }

@@ -1,4 +1,4 @@
-//! A sink in memory, whose calls fail as planned, and behind the end of its direction.
+//! A sink in memory, whose calls fail as planned, and after the end of its direction.
 
 ghost use Rattle.std.specs.Prelude.{◌≡◌, ◌<◌, ◌≤◌, ◌^◌, ◌++◌, [], length, take, true, false, Some, OnOk, OnErr, IfOk, IsOk, IsErrOf};
 ghost use Rattle.io_edges.specs.Plan.{one_call_more};
@@ -10,7 +10,7 @@ use std::alloc::Global;
 use std::marker::Model;
 
 /// A sink that keeps what is written to it, and fails at the calls whose numbers it is given. Puts
-/// behind the end of its direction fail too, and write nothing.
+/// after the end of its direction fail too, and write nothing.
 #[derive(Debug, Drop)]
 pub struct MemorySink {
     bytes: Vec<u8>,
@@ -55,7 +55,7 @@ impl MemorySink {
         self.plan.faults()
     }
 
-    // The answer of a put behind the end, which is counted.
+    // The answer of a put after the end, which is counted.
     fn refuse<T>(&mut self) -> Result<T, SinkFault>
         ensures failed { IsErrOf result SinkFault.Failed }
         ensures counted { self.new.plan ≡ one_call_more true self.old.plan }

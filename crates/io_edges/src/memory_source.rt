@@ -101,7 +101,7 @@ impl Source for MemorySource {
     }
 }
 
-// How many takes gave nothing, behind one that gave so many bytes.
+// How many takes gave nothing, after one that gave so many bytes.
 pub(crate) fn with_take(given: usize, empty: u64) -> u64
     ensures { result ≡ with_take given empty }
 {

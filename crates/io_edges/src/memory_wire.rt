@@ -46,7 +46,8 @@ impl Model for MemoryWire {
 
 impl MemoryWire {
     /// A wire of these ends. The accepts and connects whose numbers, counted together from 0, are
-    /// in `failing` fail. It takes the memory for what the ended connections leave.
+    /// in `failing` fail. It takes the memory for what the ended connections leave, and fails
+    /// without it.
     pub fn new(
         alloc: Global,
         ends: Vec<(MemorySource, MemorySink)>,
@@ -67,7 +68,8 @@ impl MemoryWire {
         })
     }
 
-    /// What was taken from and written to the ended connection of that number, from 0.
+    /// What was taken from the ended connection of that number, from 0, and what was written to it;
+    /// None where fewer have ended.
     pub fn pair(&self, at: usize) -> Option<(&[u8], &[u8])>
         ensures { option_map (λ p. (p.0.now, p.1.now)) result ≡ slice_get self.now.closed at }
     {

@@ -1,4 +1,4 @@
-//! A sink in memory that never fails by the outside.
+//! A sink in memory that meets no I/O error.
 
 ghost use Rattle.std.specs.Prelude.{◌≡◌, [], ◌++◌, true, length, Some, OnOk, IfOk, IsOk, IsOkUnless, OnErr};
 
@@ -6,8 +6,8 @@ use crate::{Sink, SinkFault};
 use std::alloc::Global;
 use std::marker::Model;
 
-/// A sink that keeps what is written to it. A put that runs out of memory writes nothing, and
-/// nothing else makes one fail.
+/// A sink that keeps what is written to it. A put fails only where memory runs out, and then it
+/// writes nothing.
 #[derive(Debug, Drop)]
 pub struct SureSink {
     bytes: Vec<u8>,

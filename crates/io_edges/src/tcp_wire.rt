@@ -42,7 +42,8 @@ impl<R: Net> TcpWire<R> {
         }
     }
 
-    /// Listens at that place, where it doesn't listen yet, and answers where it listens.
+    /// Listens at that place, unless it listens already, and answers the address where it listens.
+    /// An error of the bind is returned, and not counted.
     pub fn listen(&mut self, place: &str) -> io::Result<SocketAddr>
         ensures { (wire_out self.new ≡ wire_out self.old)
             × (wire_faults self.new ≡ wire_faults self.old)

@@ -31,8 +31,9 @@ pub trait Wire {
     /// How many faults the ends of ended connections met, up to 2^64 - 1.
     ghost end_faults: { Self → ℕ };
 
-    /// Gives the next connection that a peer makes to that place, or `None` where none is to
-    /// come. Its ends have met no fault, nothing has moved through them, and its writing isn't ended.
+    /// Gives the next connection that a peer makes to that place, or `None` where no more will
+    /// come. Its ends have met no fault, nothing has moved through them, and its writing isn't
+    /// ended. A call that fails by an I/O error gives none, and leaves those to come.
     fn accept(&mut self, place: &str) -> Result<Option<(Self::Reader, Self::Writer)>, Failed>
         requires { out self.old < 2 ^ 63 }
         ensures handed { IfOk result (λ found. IfSome found (λ ends.
@@ -55,7 +56,8 @@ pub trait Wire {
         ensures ended { (closed self.new ≡ closed self.old)
             × (end_faults self.new ≡ end_faults self.old) };
 
-    /// Makes a connection to that place. Where no peer is there, the call fails.
+    /// Makes a connection to that place, in the same state. Where no peer is there, or by another
+    /// I/O error, the call fails and makes none.
     fn connect(&mut self, place: &str) -> Result<(Self::Reader, Self::Writer), Failed>
         requires { out self.old < 2 ^ 63 }
         ensures handed { IfOk result (λ ends.
@@ -74,7 +76,7 @@ pub trait Wire {
         ensures ended { (closed self.new ≡ closed self.old)
             × (end_faults self.new ≡ end_faults self.old) };
 
-    /// Ends a connection, and counts the faults of its ends. It takes no memory.
+    /// Closes a connection, and counts the faults that its ends met. It takes no memory.
     fn close(&mut self, reader: Self::Reader, writer: Self::Writer)
         requires { 0 < out self.old }
         ensures closed { Told (closed self.old) (closed self.new) (λ c c'.

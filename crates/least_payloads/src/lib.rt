@@ -13,8 +13,8 @@ ghost use Rattle.least_payloads.specs.Least.{least_of_attribute, least_of_item};
 
 use nbfx_values::{AttrItem, Item};
 
-/// The least bytes of a declaration of this prefix: the type byte, the namespace's identifier or
-/// length, and for a prefix its length and a byte of it.
+/// The fewest bytes that the record of a declaration of this prefix has: the type byte, the
+/// namespace's identifier or length, and for a prefix its length and a byte of it.
 pub fn least_of_declaration(prefix: &str) -> u64
     ensures { result ≡ spec.least_of_declaration prefix.now }
 {
@@ -41,7 +41,7 @@ fn least_of_attributes(attributes: &[AttrItem]) -> u64
     least
 }
 
-/// The least bytes of an item, up to 2^64 - 1.
+/// The fewest bytes that an item takes of a payload, up to 2^64 - 1.
 pub fn least_of_item(item: &Item) -> u64
     ensures { result ≡ capped (least_of_item item.now) }
 {

@@ -17,7 +17,7 @@ const ALL: [ArrayKind; 10] = [
     ArrayKind::Uuid,
 ];
 
-// The word that names the kind.
+/// The word that names this kind of array in a line.
 pub fn array_kind_word(kind: ArrayKind) -> &'static str
     ensures { result.now ≡ array_kind_word kind }
 {
@@ -35,7 +35,7 @@ pub fn array_kind_word(kind: ArrayKind) -> &'static str
     }
 }
 
-// The kind that a word names.
+/// The kind of array that a word names, if it names one.
 pub fn array_kind(word: &[u8]) -> Option<ArrayKind>
     ensures { result ≡ array_kind_in word.now }
 {

@@ -24,7 +24,7 @@ fn put_formatted<I: Integer, K: Sink>(n: I, sink: &mut K) -> Result<(), SinkFaul
     put_bytes(buffer.format(n).as_bytes(), sink)
 }
 
-// Puts a number in decimal digits, by one put.
+/// Puts a number in decimal digits, by one put. It fails as the sink does.
 #[inline(never)]
 pub fn put_number<K: Sink>(n: u64, sink: &mut K) -> Result<(), SinkFault>
     ensures { Puts K.written K.held K.faults K.may_want sink.old sink.new (decimal n) result }
@@ -42,7 +42,7 @@ pub fn put_number<K: Sink>(n: u64, sink: &mut K) -> Result<(), SinkFault>
     put_formatted(n, sink)
 }
 
-// Puts a number of up to 128 bits in decimal digits, by one put.
+/// Puts a number of up to 128 bits in decimal digits, by one put. It fails as the sink does.
 pub fn put_natural<K: Sink>(n: u128, sink: &mut K) -> Result<(), SinkFault>
     ensures { Puts K.written K.held K.faults K.may_want sink.old sink.new (decimal n) result }
 {
@@ -52,7 +52,7 @@ pub fn put_natural<K: Sink>(n: u128, sink: &mut K) -> Result<(), SinkFault>
     }
 }
 
-// Puts a number that may be below zero in decimal digits, by one put.
+/// Puts a number that may be negative in decimal digits, by one put. It fails as the sink does.
 pub fn put_integer<K: Sink>(n: i128, sink: &mut K) -> Result<(), SinkFault>
     ensures { Puts K.written K.held K.faults K.may_want sink.old sink.new
         (signed_decimal n) result }
@@ -63,8 +63,8 @@ pub fn put_integer<K: Sink>(n: i128, sink: &mut K) -> Result<(), SinkFault>
     }
 }
 
-/// Puts a text as it is and a number right after it, in two puts. On an error the first bytes were
-/// put. No memory is taken but the sink's.
+/// Puts a text as it is and a number right after it, in two puts. On an error first bytes of them
+/// were put. Only the sink takes memory.
 #[inline(always)]
 pub fn put_labelled<K: Sink>(label: &str, n: u64, sink: &mut K) -> Result<(), SinkFault>
     ensures { Puts K.written K.held K.faults K.may_want sink.old sink.new

@@ -22,7 +22,8 @@ fn are_digits(word: &[u8]) -> bool
     word.iter().all(|byte| digit_value(*byte).is_some())
 }
 
-// The bytes that the digits write.
+/// The bytes that the hexadecimal digits of a word write. It fails where the word isn't pairs of
+/// such digits, or without memory.
 pub fn bytes(alloc: Global, word: &[u8]) -> Result<Vec<u8>, Stop>
     ensures { Finds (λ bytes. bytes.items) result (bytes_in word.now) }
 {
@@ -36,7 +37,7 @@ pub fn bytes(alloc: Global, word: &[u8]) -> Result<Vec<u8>, Stop>
     }
 }
 
-// The same where they are so many.
+/// The same, if they are exactly so many bytes.
 pub fn bytes_sized<const N: usize>(word: &[u8]) -> Option<[u8; N]>
     ensures { result ≡ bytes_sized N word.now }
 {
@@ -67,7 +68,8 @@ fn has_no_capitals(word: &[u8]) -> bool
     none
 }
 
-// The bytes of an identifier in hyphenated lower-case form.
+/// The 16 bytes of an identifier in hyphenated lower case, in the order of the wire; None if the
+/// word isn't one.
 pub fn identifier(word: &[u8]) -> Option<[u8; 16]>
     ensures { result ≡ identifier_in word.now }
 {

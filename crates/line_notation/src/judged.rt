@@ -4,9 +4,10 @@ ghost use Rattle.line_notation.specs.Parts as spec;
 
 use crate::reader::LineKind;
 
+/// What a line says, or why the line is refused for it.
 pub type Judged<T> = Result<T, LineKind>;
 
-// Of two refusals the one that goes first: a text's.
+/// Of two reasons to refuse a line, the one that is reported: a text that isn't UTF-8.
 pub fn first_of(kind: LineKind, other: LineKind) -> LineKind
     ensures { result ≡ spec.first_of kind other }
 {
@@ -17,7 +18,7 @@ pub fn first_of(kind: LineKind, other: LineKind) -> LineKind
     }
 }
 
-// Both, unless the line is refused for one of them.
+/// Both, or why the line is refused for one of them.
 #[inline(always)]
 pub fn both<A: Drop, B: Drop>(first: Judged<A>, second: Judged<B>) -> Judged<(A, B)>
     ensures { result ≡ spec.both first second }

@@ -15,24 +15,24 @@ pub fn read_back()
     ensures ended { LeaveNothingUnfinished }
 {}
 
-/// Documents are read exactly where the lines are theirs, in any spelling, with empty lines before,
-/// between and after them.
+/// Documents are read exactly where the lines are theirs, in any spelling, with any empty lines
+/// before, between and after them.
 pub fn documents()
     ensures { AreOfWhatTheyBring }
 {}
 
-/// Lines that aren't refused are those of whole documents and then of the unfinished one, as many
-/// as the reader counts; the first bad line is refused, with its number. The state after a line
-/// depends only on the line and on the state before it.
+/// Lines that aren't refused are those of complete documents and then of the incomplete one, as
+/// many as the reader counts; the first bad line is refused, with its number. The state after a
+/// line depends only on the line and on the state before it.
 pub fn standing()
     ensures read { AreReadAsTheySay }
     ensures refused { AreRefusedAtALine }
     ensures more { LeadOn }
 {}
 
-/// A line is refused for having no form, or else for a text that isn't UTF-8, or else for a value
-/// out of its range, or else for its place. Each refusal comes exactly where that holds, and no
-/// other.
+/// A line is refused because it has no form, else for a text that isn't UTF-8, else for a value out
+/// of its range, else for its place. Each refusal comes exactly where that holds, and there are no
+/// others.
 pub fn refusals()
     ensures no_form { RefusedForNoForm }
     ensures text { RefusedForText }
@@ -41,8 +41,8 @@ pub fn refusals()
     ensures nothing_else { RefusedForNothingElse }
 {}
 
-/// No line has a line feed in it, so the text that is put for items is cut at its line feeds into
-/// their lines.
+/// A line contains no line feed, so what is put for items is cut at its line feeds into their
+/// lines.
 pub fn texts()
     ensures no_feed { HoldNoFeed }
     ensures cut { AreCutAgain }

@@ -4,7 +4,7 @@ ghost use Rattle.line_notation.specs.Forms.{keyword_in, keyword_word};
 
 use nbfx_values::{ArrayItem, Item, Values};
 
-/// The first word of a line.
+/// The first word of a line, which is the variant's name in lower case.
 #[derive(Clone, Copy, Debug, PartialEq, Eq)]
 pub enum Keyword {
     Start,
@@ -29,7 +29,7 @@ impl Keyword {
         Keyword::Close,
     ];
 
-    // The keyword as a line has it.
+    /// The keyword as a line has it.
     #[inline(always)]
     pub fn word(self) -> &'static str
         ensures { result.now ≡ keyword_word self }
@@ -46,7 +46,7 @@ impl Keyword {
         }
     }
 
-    // The keyword that a word is.
+    /// The keyword that a word is, if it is one.
     pub fn of(word: &[u8]) -> Option<Keyword>
         ensures { result ≡ keyword_in word.now }
     {
@@ -57,12 +57,12 @@ impl Keyword {
     }
 }
 
-/// What a line says that is of a form, and whose texts and values are ones that records can hold.
+/// What a line says that has a form, and whose texts and values are ones that records can hold.
 #[derive(Debug, Drop)]
 pub enum Line {
     /// An item, other than an array.
     Item(Item),
-    /// An array begins, of which there is no value yet.
+    /// An array begins, which has no value yet.
     Array(ArrayItem),
     /// The values of the array that is open.
     Values(Values),

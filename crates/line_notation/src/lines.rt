@@ -15,7 +15,7 @@ use crate::words::{Stop, Words};
 use nbfx_values::{ArrayItem, ArrayKind, Attrs, Item, Txt, Values};
 use std::alloc::Global;
 
-// What was read, if no word is left behind it.
+// What was read, if no word is left after it.
 #[inline(always)]
 fn alone<T: Drop>(one: T, words: &Words) -> Result<T, Stop>
     ensures { Finds (λ one. one) result (alone (Some (one, words.now))) }
@@ -129,7 +129,8 @@ fn close(words: &Words) -> Result<Judged<Line>, Stop>
     }
 }
 
-// What the words behind a keyword say where an array of the kind is open, or none is.
+/// What the words after a keyword say, where an array of this kind is open, or none is. It fails
+/// where they have no form, or without memory.
 #[inline(always)]
 pub fn read_behind(
     alloc: Global,

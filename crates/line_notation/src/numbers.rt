@@ -29,7 +29,7 @@ fn is_natural(word: &[u8]) -> bool
     !(word.is_empty() || has_zero_in_front(word)) && are_decimal_digits(word)
 }
 
-// The number that a word writes.
+/// The number that a word writes in decimal digits, if it does; it is out of range above `most`.
 pub fn natural_up_to(most: u128, word: &[u8]) -> Option<Judged<u128>>
     requires { most < 2 ^ 127 }
     ensures { result ≡ natural_up_to most word.now }
@@ -46,7 +46,8 @@ pub fn natural_up_to(most: u128, word: &[u8]) -> Option<Judged<u128>>
     })
 }
 
-// The number that a word writes, from -2^63 on.
+/// The number that a word writes in decimal digits, with a minus if it is negative, if it does; it
+/// is out of range below -2^63 and above `most`.
 pub fn integer_up_to(most: u128, word: &[u8]) -> Option<Judged<i128>>
     requires { most < 2 ^ 127 }
     ensures { result ≡ integer_up_to most word.now }

@@ -13,10 +13,12 @@ use crate::words::{Stop, Words};
 use nbfx_values::{ArrayItem, ArrayKind, AttrItem, DocBuilder, Item, Memory, Position, PushFault};
 use std::alloc::Global;
 
-/// Why a line leads nowhere.
+/// Why a line is refused where it comes.
 #[derive(Clone, Copy, Debug)]
 pub enum Refusal {
+    /// This is wrong with it.
     Kind(LineKind),
+    /// Out of memory.
     Memory,
 }
 
@@ -56,16 +58,16 @@ impl From<Memory> for Refusal {
     }
 }
 
-/// Where a line leads that isn't refused.
+/// What an accepted line leads to.
 #[derive(Clone, Copy, Debug)]
 pub enum Leads {
-    /// On within a document, or between documents.
+    /// A place within a document, or between documents.
     On,
-    /// To the end of the document that the builder holds.
+    /// The end of the document that the builder holds.
     ToTheEnd,
 }
 
-// What an item does that is put behind the others.
+// What an item does that is appended to the others.
 #[inline(always)]
 fn place_item(builder: &mut DocBuilder, item: Item) -> Result<Leads, Refusal>
     requires { IsTrue (is_valid_item item) }
@@ -174,7 +176,7 @@ fn open_kind(array: &Option<ArrayItem>) -> Option<ArrayKind>
     array.as_ref().map(|array| array.kind)
 }
 
-// Reads the words behind a keyword, and places what they say.
+// Reads the words after a keyword, and places what they say.
 #[inline(always)]
 fn place_read(
     alloc: Global,
@@ -230,7 +232,8 @@ fn place_behind(
     }
 }
 
-// Reads a line, and places what it says.
+/// Reads a line, and puts what it says into the document. It fails where the line is refused, or
+/// without memory.
 #[inline(never)]
 pub fn read_placed(
     alloc: Global,

@@ -95,7 +95,7 @@ fn put_name<K: Sink>(letter: u8, name: &Txt, sink: &mut K) -> Result<(), SinkFau
     put_spaced_words(&words, sink)
 }
 
-// Puts a value's words, each behind a space.
+// Puts a value's words, each after a space.
 fn put_scalar<K: Sink>(scalar: &Scalar, sink: &mut K) -> Result<(), SinkFault>
     requires { IsTrue (is_valid_scalar scalar.now) }
     ensures { Puts K.written K.held K.faults K.may_want sink.old sink.new
@@ -119,7 +119,7 @@ fn put_scalar<K: Sink>(scalar: &Scalar, sink: &mut K) -> Result<(), SinkFault>
     }
 }
 
-// Puts values' words, each behind a space.
+// Puts values' words, each after a space.
 fn put_scalars<K: Sink>(scalars: &[Scalar], sink: &mut K) -> Result<(), SinkFault>
     requires { IsTrue (list_all is_valid_scalar scalars.now) }
     ensures { Puts K.written K.held K.faults K.may_want sink.old sink.new
@@ -316,8 +316,8 @@ fn put_items<K: Sink>(items: &[Item], sink: &mut K) -> Result<(), SinkFault>
 }
 
 /// Puts the lines of a document, each with its line feed. A line goes in several puts: where a put
-/// is expensive, give a buffering sink, such as `io_edges::GatheringSink`. On an error the first
-/// bytes of them were put. No memory is taken but the sink's.
+/// is expensive, give a buffering sink, such as `io_edges::GatheringSink`. On an error first bytes
+/// of the lines were put. Only the sink takes memory.
 pub fn print<K: Sink>(doc: &Doc, sink: &mut K) -> Result<(), SinkFault>
     ensures { Puts K.written K.held K.faults K.may_want sink.old sink.new
         (items_text doc.now) result }

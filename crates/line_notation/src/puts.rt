@@ -13,26 +13,28 @@ use crate::escapes::shown;
 use io_edges::{Sink, SinkFault};
 use uuid::Uuid;
 
-/// A word of a line.
+/// A word of a line that is put.
 #[derive(Clone, Copy, Debug)]
 pub enum Word<'a> {
     /// A word as it is.
     Plain(&'a str),
     /// A text in quotes.
     Quoted(&'a str),
+    /// A number in decimal digits.
     Natural(u128),
+    /// A number that may be negative, in decimal digits.
     Integer(i128),
-    /// The hexadecimal digits of bytes.
+    /// The two hexadecimal digits of each of these bytes.
     Digits(&'a [u8]),
     /// The same in quotes.
     DigitsInQuotes(&'a [u8]),
-    /// An identifier, by its bytes as on the wire.
+    /// An identifier in hyphenated lower case, by its bytes in the order of the wire.
     Identifier(&'a [u8; 16]),
-    /// A letter, of which 0 is a.
+    /// A lower-case letter, by its number, from 0 for a.
     Letter(u8),
 }
 
-// Puts bytes, and says of one put what is said of several.
+/// Puts bytes by one put, with the contract of several puts. It fails as the sink does.
 #[inline(always)]
 pub fn put_bytes<K: Sink>(bytes: &[u8], sink: &mut K) -> Result<(), SinkFault>
     ensures { Puts K.written K.held K.faults K.may_want sink.old sink.new bytes.now result }
@@ -40,8 +42,8 @@ pub fn put_bytes<K: Sink>(bytes: &[u8], sink: &mut K) -> Result<(), SinkFault>
     sink.put(bytes)
 }
 
-/// Puts a text as it is, by one put. A refusal has put the first bytes of it. No memory is taken
-/// but the sink's.
+/// Puts a text as it is, by one put. On an error first bytes of it were put. Only the sink takes
+/// memory.
 #[inline(always)]
 pub fn put_plain<K: Sink>(text: &str, sink: &mut K) -> Result<(), SinkFault>
     ensures { Puts K.written K.held K.faults K.may_want sink.old sink.new text.now result }
@@ -49,7 +51,7 @@ pub fn put_plain<K: Sink>(text: &str, sink: &mut K) -> Result<(), SinkFault>
     put_bytes(text.as_bytes(), sink)
 }
 
-// Whether a quoted text shows the byte as it is.
+/// Whether a quoted text shows the byte as it is.
 pub fn is_plain(byte: u8) -> bool
     ensures { result ≡ is_plain byte }
 {
@@ -91,7 +93,8 @@ fn plain_ones(bytes: &[u8]) -> usize
     bytes.iter().take_while(|byte| is_plain(**byte)).count()
 }
 
-// How many bytes at the front are plain. Most texts are short, and are counted one by one.
+/// How many bytes at the front a quoted text shows as they are. Most texts are short, and are
+/// counted byte by byte.
 pub fn plain_count(bytes: &[u8]) -> usize
     ensures { result ≡ length (take_while is_plain bytes.now) }
 {
@@ -199,7 +202,7 @@ fn put_shown<K: Sink>(bytes: &[u8], sink: &mut K) -> Result<(), SinkFault>
     put_pieces(bytes, sink)
 }
 
-// Puts what a text has between its quotes.
+/// Puts what a quoted text has between its quotes. It fails as the sink does.
 #[inline(always)]
 pub fn put_within_quotes<K: Sink>(text: &str, sink: &mut K) -> Result<(), SinkFault>
     ensures { Puts K.written K.held K.faults K.may_want sink.old sink.new
@@ -216,7 +219,7 @@ pub fn put_within_quotes<K: Sink>(text: &str, sink: &mut K) -> Result<(), SinkFa
 /// Puts a text in double quotes. A printable byte of ASCII stands as it is, and any other, the
 /// quote and the backslash as a backslash and two hexadecimal digits. The text goes in several
 /// puts: where a put is expensive, give a buffering sink, such as `io_edges::GatheringSink`. On an
-/// error the first bytes were put. No memory is taken but the sink's.
+/// error first bytes of it were put. Only the sink takes memory.
 pub fn quote<K: Sink>(text: &str, sink: &mut K) -> Result<(), SinkFault>
     ensures { Puts K.written K.held K.faults K.may_want sink.old sink.new (quoted text.now) result }
 {
@@ -290,7 +293,7 @@ fn put_word<K: Sink>(word: &Word, sink: &mut K) -> Result<(), SinkFault>
     }
 }
 
-// Puts a space and a word.
+/// Puts a space and a word. It fails as the sink does.
 #[inline(always)]
 pub fn put_spaced_word<K: Sink>(word: &Word, sink: &mut K) -> Result<(), SinkFault>
     requires { IsPuttable word.now }
@@ -301,7 +304,7 @@ pub fn put_spaced_word<K: Sink>(word: &Word, sink: &mut K) -> Result<(), SinkFau
     put_word(word, sink)
 }
 
-// Puts words, each behind a space.
+/// Puts words, each after a space. It fails as the sink does.
 pub fn put_spaced_words<K: Sink>(words: &[Word], sink: &mut K) -> Result<(), SinkFault>
     requires { All IsPuttable words.now }
     ensures { Puts K.written K.held K.faults K.may_want sink.old sink.new
@@ -313,8 +316,8 @@ pub fn put_spaced_words<K: Sink>(words: &[Word], sink: &mut K) -> Result<(), Sin
     Ok(())
 }
 
-/// Puts words, one right after the other, in several puts. On an error the first bytes of them were
-/// put. No memory is taken but the sink's.
+/// Puts words, one right after the other, in several puts. On an error first bytes of them were
+/// put. Only the sink takes memory.
 pub fn put_joined<K: Sink>(words: &[Word], sink: &mut K) -> Result<(), SinkFault>
     requires { All IsPuttable words.now }
     ensures { Puts K.written K.held K.faults K.may_want sink.old sink.new
@@ -327,7 +330,7 @@ pub fn put_joined<K: Sink>(words: &[Word], sink: &mut K) -> Result<(), SinkFault
 }
 
 /// Puts a line: a keyword, words, each after a space, and a line feed, in several puts. On an error
-/// the first bytes were put. No memory is taken but the sink's.
+/// first bytes of it were put. Only the sink takes memory.
 pub fn put_words<K: Sink>(keyword: &str, words: &[Word], sink: &mut K) -> Result<(), SinkFault>
     requires { All IsPuttable words.now }
     ensures { Puts K.written K.held K.faults K.may_want sink.old sink.new

@@ -10,7 +10,7 @@ use nbfx_values::{ArrayItem, Doc, DocBuilder, Memory};
 use std::alloc::Global;
 use std::marker::Model;
 
-/// What a line did to the document that is read.
+/// What a line did to the document that is being read.
 #[derive(Debug, Drop)]
 pub enum LineStep {
     /// The document is incomplete, or none has begun.
@@ -19,7 +19,7 @@ pub enum LineStep {
     Done(Doc),
 }
 
-/// Why a line is refused.
+/// What is wrong with a line, or with the number of documents.
 #[derive(Clone, Copy, Debug, PartialEq, Eq)]
 pub enum LineKind {
     /// It has none of the forms of a line.
@@ -29,18 +29,18 @@ pub enum LineKind {
     /// A number is out of the range of its value, a list stands in a list, or a value of an array
     /// isn't of its kind.
     OutOfRange,
-    /// It may not stand there.
+    /// It may not stand where it comes.
     OutOfPlace,
     /// The lines end within a document.
     Cut,
-    /// There are more documents or fewer than there should be. A reader of lines never says so.
+    /// There are more documents or fewer than there should be. [`LineReader`] doesn't answer this.
     WrongCount,
 }
 
-/// The refusal of lines.
+/// Why a line isn't read.
 #[derive(Clone, Copy, Debug, PartialEq, Eq)]
 pub enum LineFault {
-    /// The number of the line, from 1, and why it is refused.
+    /// The line with this number, from 1, is refused, for this reason.
     Bad { line: u64, kind: LineKind },
     /// Out of memory.
     Memory,
@@ -90,9 +90,9 @@ fn refused(fault: LineFault) -> Result<LineStep, LineFault>
     Err(fault)
 }
 
-/// Reads documents out of lines, of which each is given without its line feed. Contracts see where
-/// it stands: after how many lines, with which items and which array of the unfinished document, or
-/// refused.
+/// Reads documents from lines, each of which is given without its line feed. Contracts see after
+/// how many lines it is, the items and the open array of the incomplete document, or that it has
+/// refused a line.
 #[derive(Debug, Drop)]
 pub struct LineReader {
     alloc: Global,
@@ -128,14 +128,14 @@ impl LineReader {
         }
     }
 
-    /// Whether no document has begun that isn't ended.
+    /// Whether no document is incomplete.
     pub fn is_between(&self) -> bool
         ensures { result ≡ is_between self.now }
     {
         self.fault.is_none() && self.array.is_none() && self.builder.items().len() == 0
     }
 
-    /// The number of the next line, from 1, where no line was refused.
+    /// The number of the next line, from 1, if no line was refused.
     pub fn next_line(&self) -> u64
         ensures { IsUnrefused self.now → result ≡ next_line self.now }
     {
@@ -151,14 +151,16 @@ impl LineReader {
         }
     }
 
-    /// Makes room for so many items more of the unfinished document.
+    /// Allocates memory for so many items more of the incomplete document. It fails without that
+    /// memory; the items stay either way.
     pub fn reserve(&mut self, count: usize) -> Result<(), Memory>
         ensures { self.new ≡ self.old }
     {
         self.builder.reserve(count)
     }
 
-    /// Reads one line more. A fault stays: each further line has the same.
+    /// Reads one line more, and answers the document that it completes, if any. It fails with `Bad`
+    /// where the line is refused, or without memory, and each further line in the same way.
     #[inline(always)]
     pub fn line(&mut self, line: &[u8]) -> Result<LineStep, LineFault>
         requires few { HasReadFew self.old }
@@ -183,7 +185,7 @@ impl LineReader {
         }
     }
 
-    /// Ends the lines: they may not end within a document.
+    /// Ends the lines. It fails with `Cut` within a document.
     pub fn finish(&mut self) -> Result<(), LineFault>
         ensures answer { result ≡ ending self.old }
         ensures stands { self.new ≡ ended self.old }

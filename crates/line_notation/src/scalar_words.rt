@@ -29,7 +29,8 @@ fn judged(scalar: Scalar) -> Judged<Scalar>
     }
 }
 
-// The next word as a number.
+/// The number that the next word writes; it is out of range above `most`. It fails where the word
+/// is no number.
 pub fn natural(most: u128, words: &mut Words) -> Result<Judged<u128>, Stop>
     requires { most < 2 ^ 127 }
     ensures { Gives (λ n. n) result words.new (one_word (natural_up_to most) words.old) }
@@ -221,7 +222,8 @@ fn uuid(words: &mut Words) -> Result<Judged<Scalar>, Stop>
     Ok(judged(Scalar::Uuid(id)))
 }
 
-// The value of a kind in front of words.
+/// The value of this kind that the next words write. It fails where they write none, or without
+/// memory.
 pub fn scalar(alloc: Global, kind: ScalarKind, words: &mut Words) -> Result<Judged<Scalar>, Stop>
     ensures { Gives (λ s. s) result words.new (judged_at (scalar_at kind words.old)) }
 {

@@ -2,7 +2,7 @@
 ghost use Rattle.std.specs.Prelude.{◌≡◌};
 ghost use Rattle.line_notation.specs.Scalars as spec;
 
-/// What the first word of a value that is no list says of it.
+/// The kind of a value that is no list, which the first word of the value names.
 #[derive(Clone, Copy, Debug, PartialEq, Eq)]
 pub enum ScalarKind {
     Number,
@@ -35,7 +35,7 @@ impl ScalarKind {
         ScalarKind::QName,
     ];
 
-    // The word that names the kind.
+    /// The word that names the kind.
     pub fn word(self) -> &'static str
         ensures { result.now ≡ spec.scalar_kind_word self }
     {
@@ -55,7 +55,7 @@ impl ScalarKind {
         }
     }
 
-    // The kind that a word names.
+    /// The kind that a word names, if it names one.
     pub fn of(word: &[u8]) -> Option<ScalarKind>
         ensures { result ≡ spec.scalar_kind_in word.now }
     {

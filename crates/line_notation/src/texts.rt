@@ -16,7 +16,7 @@ use nbfx_values::Txt;
 use std::alloc::Global;
 use std::str;
 
-// The value of a hexadecimal digit, of which a letter is lower-case.
+/// The value of a hexadecimal digit, of which a letter is lower-case; None of any other byte.
 pub fn digit_value(byte: u8) -> Option<u8>
     ensures value { result ≡ digit_in byte }
     ensures small { IfSome result (λ n. n ≤ 15) }
@@ -70,7 +70,8 @@ fn unescaped(alloc: Global, pieces: &[u8]) -> Result<Vec<u8>, Stop>
     Ok(text)
 }
 
-// What stands between a first and a last quote.
+/// What stands between a quote at the word's beginning and one at its end; None if they aren't
+/// there.
 pub fn between_quotes(word: &[u8]) -> Option<&[u8]>
     ensures { option_copied result ≡ between_quotes word.now }
 {
@@ -109,7 +110,7 @@ fn escaped_text(alloc: Global, words: &mut Words) -> Result<Judged<Txt>, Stop>
     Ok(judged_text(unescaped(alloc, pieces)?))
 }
 
-// The text in quotes that is the next word.
+/// The text in quotes that the next word is. It fails where the word is none, or without memory.
 #[inline(always)]
 pub fn text(alloc: Global, words: &mut Words) -> Result<Judged<Txt>, Stop>
     ensures { Gives (λ text. text) result words.new (one_word judged_text_in words.old) }
@@ -120,7 +121,7 @@ pub fn text(alloc: Global, words: &mut Words) -> Result<Judged<Txt>, Stop>
     }
 }
 
-// The two texts in quotes that are the next words.
+/// The two texts in quotes that the next words are. It fails where they aren't, or without memory.
 #[inline(always)]
 pub fn two_texts(alloc: Global, words: &mut Words) -> Result<Judged<(Txt, Txt)>, Stop>
     ensures { Gives (λ texts. texts) result words.new (judged_texts_at words.old) }

@@ -14,10 +14,12 @@ use crate::words::{Stop, Words};
 use nbfx_values::{ArrayKind, Memory, Scalar, Value, Values};
 use std::alloc::Global;
 
-/// A value that is no list, or how many values a list has.
+/// A value that is no list, or the number of values of a list.
 #[derive(Debug, Drop)]
 pub enum JudgedToken {
+    /// A value that is no list.
     Scalar(Judged<Scalar>),
+    /// How many values a list has.
     Count(Judged<u128>),
 }
 
@@ -31,7 +33,7 @@ fn kind_token(alloc: Global, kind: ScalarKind, words: &mut Words) -> Result<Judg
     Ok(JudgedToken::Scalar(scalar))
 }
 
-// What the words behind this one say, which names a kind of value.
+// What the words after this one say, which names a kind of value.
 fn scalar_token(alloc: Global, word: &[u8], words: &mut Words) -> Result<JudgedToken, Stop>
     ensures { Gives (λ token. token) result words.new
         (judged_token_at (plain_at word.now words.old)) }
@@ -72,9 +74,9 @@ fn token(alloc: Global, words: &mut Words) -> Result<JudgedToken, Stop>
 /// How many values have come.
 #[derive(Clone, Copy, Debug)]
 pub struct Tally {
-    /// Those that stand in no list.
+    /// Those that are in no list.
     pub count: usize,
-    /// Those that are due in the lists that are open.
+    /// Those that are still to come in the lists that are open.
     pub due: usize,
 }
 
@@ -99,7 +101,7 @@ impl Tally {
     }
 }
 
-/// What values stand in, which says what may come.
+/// What values are part of, which says what values there may be.
 #[derive(Clone, Copy, Debug)]
 pub enum Holder {
     /// A list: values that are no lists.
@@ -111,7 +113,7 @@ pub enum Holder {
 }
 
 impl Holder {
-    /// What the values of a line stand in, by the array that is open.
+    /// What the values of a line are part of, by the array that is open.
     pub fn of(kind: Option<ArrayKind>) -> Holder
         ensures { result ≡ holder_of kind }
     {
@@ -171,10 +173,12 @@ fn with_list(may_come: bool, values: Judged<Values>) -> Judged<Values>
     }
 }
 
-/// Values that have come.
+/// The values that were read so far.
 #[derive(Debug, Drop)]
 pub struct Gathering {
+    /// How many there are.
     pub tally: Tally,
+    /// The values, or why the line is refused for one of them.
     pub values: Judged<Values>,
 }
 
@@ -211,7 +215,8 @@ impl Gathering {
     }
 }
 
-// The values in all words that are left.
+/// The values that all words that are left write. It fails where they write none, or without
+/// memory.
 pub fn gathered(alloc: Global, holder: Holder, words: &mut Words) -> Result<Gathering, Stop>
     ensures { Finds (λ g. (g.tally.count, g.values)) result (gathered_in holder words.old) }
 {
@@ -235,7 +240,7 @@ fn one_value(scalar: Judged<Scalar>) -> Judged<Value>
     }
 }
 
-// A value, by its first token and all that is behind it.
+// A value, by its first token and all that follows it.
 fn value_from(token: JudgedToken, all: Gathering) -> Option<Judged<Value>>
     ensures { result ≡ spec.value_from token all.tally.count all.values }
 {
@@ -248,7 +253,7 @@ fn value_from(token: JudgedToken, all: Gathering) -> Option<Judged<Value>>
     }
 }
 
-// The one value of a first token and those in all words behind it.
+// The one value of a first token and of all words after it.
 #[inline(never)]
 fn value_behind(alloc: Global, first: JudgedToken, words: &mut Words) -> Result<Judged<Value>, Stop>
     ensures { Finds (λ value. value) result (value_behind first words.old) }
@@ -257,7 +262,8 @@ fn value_behind(alloc: Global, first: JudgedToken, words: &mut Words) -> Result<
     value_from(first, all).ok_or(Stop::NotALine)
 }
 
-// The one value that all words write.
+/// The one value that all words that are left write. It fails where they write none or several, or
+/// without memory.
 pub fn value(alloc: Global, words: &mut Words) -> Result<Judged<Value>, Stop>
     ensures { Finds (λ value. value) result (judged_value_in words.old) }
 {

@@ -13,10 +13,10 @@ use std::alloc::{AllocError, AllocFailed};
 use std::marker::Model;
 use unit_streams::Memory;
 
-/// Why a line isn't read on.
+/// Why the words of a line aren't read on.
 #[derive(Clone, Copy, Debug, PartialEq, Eq)]
 pub enum Stop {
-    /// It has none of the forms of a line.
+    /// The line has none of the forms of a line.
     NotALine,
     /// Out of memory.
     Memory,
@@ -82,14 +82,14 @@ fn are_few(line: &[u8])
     let _length = line.len();
 }
 
-// Whether the byte behind this one is in quotes.
+// Whether the byte after this one is in quotes.
 fn is_in_quotes(in_quotes: bool, byte: u8) -> bool
     ensures { result ≡ goes_on_within in_quotes byte }
 {
     if byte == b'"' { !in_quotes } else { in_quotes }
 }
 
-// Where the first word ends that may have quotes: at the first space that is in none.
+// Where the first word ends, which may have quotes: at the first space that isn't in quotes.
 #[inline(never)]
 fn quoted_word_end(line: &[u8]) -> usize
     ensures { CutsWord line.now result }
@@ -185,7 +185,7 @@ fn common_kind(line: &[u8]) -> Option<(ScalarKind, Option<&[u8]>)>
 }
 
 impl<'a> Words<'a> {
-    // All words of a line.
+    /// All words of a line.
     pub fn of(line: &'a [u8]) -> Words<'a>
         ensures { result ≡ words_of line.now }
     {
@@ -193,7 +193,7 @@ impl<'a> Words<'a> {
         Words { rest: Some(line) }
     }
 
-    // Whether none is left.
+    /// Whether no word is left.
     pub fn is_empty(&self) -> bool
         ensures none { IsTrue result ↔ (self.now ≡ []) }
         ensures few { length self.now ≤ 2 ^ 63 }
@@ -201,7 +201,8 @@ impl<'a> Words<'a> {
         self.rest.is_none()
     }
 
-    // What the next word has between quotes, if it is plain bytes in quotes. Any other isn't taken.
+    /// What the next word has between its quotes, if it is a text in quotes without escapes. Any
+    /// other word is left.
     pub fn next_shown(&mut self) -> Option<&'a [u8]>
         ensures shown { IfSome result (λ shown. TakesShown shown.now self.old self.new) }
         ensures unchanged { IfNone result (self.new ≡ self.old) }
@@ -211,8 +212,7 @@ impl<'a> Words<'a> {
         Some(shown)
     }
 
-    // The kind of value that the next word names, if it is one that comes often. Any other word is
-    // left.
+    /// The kind of value that the next word names, if it is a frequent one. Any other word is left.
     #[inline(always)]
     pub fn next_kind(&mut self) -> Option<ScalarKind>
         ensures kind { IfSome result (λ kind. self.old ≡ scalar_kind_word kind ∷ self.new) }
@@ -224,7 +224,7 @@ impl<'a> Words<'a> {
         Some(kind)
     }
 
-    // The keyword that the next word is.
+    /// The keyword that the next word is. It fails where it is none.
     #[inline(always)]
     pub fn next_keyword(&mut self) -> Result<Keyword, Stop>
         ensures { Gives (λ keyword. keyword) result self.new (one_word keyword_in self.old) }
@@ -249,7 +249,7 @@ impl<'a> Words<'a> {
         Keyword::of(word).ok_or(Stop::NotALine)
     }
 
-    // The next word, if there is one.
+    /// The next word. It fails where there is none.
     pub fn next(&mut self) -> Result<&'a [u8], Stop>
         ensures next { Gives (λ word. word.now) result self.new (next_in self.old) }
         ensures few { length self.old ≤ 2 ^ 63 }

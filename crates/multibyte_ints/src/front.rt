@@ -4,18 +4,18 @@ ghost use Rattle.multibyte_ints.specs.AtFront.{StandsAtFront};
 
 use crate::integer::{IntReader, IntStep};
 
-/// What stands at the front of some bytes.
+/// What stands at the front of some bytes, read as a MultiByteInt31 of MC-NBFX.
 #[derive(Clone, Copy, Debug, PartialEq, Eq)]
 pub enum IntRead {
-    /// An incomplete integer.
+    /// The beginning of an integer.
     More,
-    /// An integer of so many bytes.
+    /// The integer `value`, in the first `used` bytes.
     Done { value: u32, used: usize },
     /// No integer: the fifth byte is above 7.
     Bad,
 }
 
-/// Reads the integer at the front of the bytes, in whatever spelling it stands.
+/// Reads the integer at the front of the bytes, in whatever spelling it stands there.
 pub fn read_int(bytes: &[u8]) -> IntRead
     ensures { StandsAtFront bytes.now result }
 {

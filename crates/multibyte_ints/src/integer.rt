@@ -7,7 +7,7 @@ ghost use Rattle.multibyte_ints.specs.IntState.{count_of, sum_of};
 /// A greater fifth byte would take an integer past 31 bits.
 const GREATEST_FIFTH: u8 = 7;
 
-/// What a byte did to the integer that is read.
+/// What a byte did to the integer that is being read.
 #[derive(Clone, Copy, Debug, PartialEq, Eq)]
 pub enum IntStep {
     /// Further bytes follow.
@@ -27,7 +27,8 @@ enum State {
     Refused,
 }
 
-/// Reads integers byte by byte, each of them in whatever spelling it comes.
+/// Reads integers (MultiByteInt31 of MC-NBFX) byte by byte, each of them in whatever spelling it
+/// comes.
 #[derive(Debug, Drop)]
 pub struct IntReader {
     state: State,

@@ -9,14 +9,14 @@ use crate::{IntReader, IntStep, Memory};
 use std::alloc::Global;
 use std::str;
 
-/// What a piece did to the string that is read.
+/// What a piece did to the string that is being read.
 #[derive(Clone, Copy, Debug, PartialEq, Eq)]
 pub enum StringStep {
     /// The whole piece was used, and further bytes follow.
     More,
     /// The string is complete.
     Done,
-    /// The length is no integer.
+    /// The length is no integer: its fifth byte is above 7.
     BadInt,
     /// The length is above the limit.
     TooLong,
@@ -34,7 +34,8 @@ enum Part {
     Answered(StringStep),
 }
 
-/// Reads a string of at most so many bytes of text, in whatever pieces it comes.
+/// Reads strings, one after the other and in whatever pieces they come, of at most so many bytes of
+/// text: the String of MC-NBFX, which MC-NMF has in its Via and Fault Records.
 #[derive(Debug, Drop)]
 pub struct StringReader {
     limit: usize,
@@ -50,7 +51,8 @@ pub struct StringReader {
 impl StringReader {
     ghost use Rattle.multibyte_ints.specs.TextReader.{StringStandsFor, StringAnswersAt, Reached, EndsAtInt, limit_of, held_of, text_of};
 
-    /// A reader before the first byte, with room for a text of `limit` bytes.
+    /// A reader before the first byte, with room for a text of `limit` bytes. It fails without
+    /// memory for that; no other call takes memory.
     #[tactic(auto, unfolding(crate::specs::TextReader::limit_of))]
     pub fn new(alloc: Global, limit: usize) -> Result<StringReader, Memory>
         ensures stands { IfOk result (λ reader. StringStandsFor reader []) }
@@ -91,7 +93,7 @@ impl StringReader {
         self.length = IntReader::new();
     }
 
-    /// The text after `Done`, and else the empty one.
+    /// The text after `Done`, and otherwise the empty one.
     #[tactic(auto, unfolding(crate::specs::TextReader::limit_of))]
     pub fn text(&self) -> &str
         ensures { (p : List ℕ) → StringStandsFor self.now p
@@ -121,7 +123,7 @@ impl StringReader {
         }
     }
 
-    // Takes the bytes of the length, where it isn't whole.
+    // Takes the bytes that belong to the length, which is incomplete.
     fn feed_length(&mut self, piece: &[u8]) -> usize
         ensures within { result ≤ length piece.now }
         ensures reached { (p : List ℕ) → Reached self.old p self.old.part
@@ -162,7 +164,7 @@ impl StringReader {
         }
     }
 
-    // Takes the bytes of the text, where the length is whole.
+    // Takes the bytes that belong to the text, whose length is complete.
     fn feed_text(&mut self, piece: &[u8]) -> usize
         ensures within { result ≤ length piece.now }
         ensures reached { (p : List ℕ) → Reached self.old p self.old.part

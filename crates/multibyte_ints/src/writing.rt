@@ -6,8 +6,8 @@ ghost use Rattle.multibyte_ints.specs.Text.{string_bytes_of};
 
 use crate::Memory;
 
-/// Writes the shortest spelling of `n` to the front of `out`, and says how many bytes it has. The
-/// rest of `out` stays.
+/// Writes the shortest spelling of `n`, as a MultiByteInt31 of MC-NBFX, to the front of `out`, and
+/// says how many bytes it has. The rest of `out` stays.
 pub fn put_int(n: u32, out: &mut [u8; 5]) -> usize
     requires { n < 2 ^ 31 }
     ensures len { result ≡ length (shortest n) }
@@ -24,7 +24,8 @@ pub fn put_int(n: u32, out: &mut [u8; 5]) -> usize
     count + 1
 }
 
-/// Appends the length of the text, in its shortest spelling, and the text.
+/// Appends a String of MC-NBFX: the length of the text in bytes, in its shortest spelling, and the
+/// text. Without memory it fails, and `out` is as it was.
 pub fn put_string(text: &str, out: &mut Vec<u8>) -> Result<(), Memory>
     requires { length text.now < 2 ^ 31 }
     ensures written { OnOk result (out.new.items ≡ out.old.items ++ string_bytes_of text.now) }

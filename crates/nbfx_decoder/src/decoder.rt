@@ -15,10 +15,10 @@ use session_dictionary::SessionTable;
 use static_dictionary::StaticTable;
 use std::alloc::Global;
 
-/// Reads payloads of one direction, one after the other, in whatever pieces their bytes come: nodes
-/// of MC-NBFX, whose identifiers name strings of MC-NBFS's static dictionary and, under
-/// [`Kind::Session`], of the tables of MC-NBFSE with which payloads begin. It holds of a payload
-/// the items of its whole units, and the bytes of the unit that is incomplete.
+/// Reads the payloads of one direction, one after the other, in whatever pieces their bytes come:
+/// records of MC-NBFX, whose identifiers name strings of the static dictionary (MC-NBFS) and, under
+/// [`Kind::Session`], of the string tables of MC-NBFSE with which payloads begin. It holds of a
+/// payload the items of its complete records, and the bytes of the incomplete one.
 #[derive(Drop)]
 pub struct Decoder<'s> {
     units: UnitReader<'s>,
@@ -38,7 +38,7 @@ impl<'s> Decoder<'s> {
     ghost use Rattle.nbfx_decoder.specs.Taking.{AllAnswers, KeepsRest, TakeAnswers, TakesSome};
     ghost use Rattle.nbfx_decoder.specs.Units.{KeepsTable, KeepsSettings};
 
-    /// A reader before the first payload, with no strings.
+    /// A reader before the first payload, without session strings.
     pub fn new(alloc: Global, statics: &'s StaticTable, quotas: Quotas, kind: Kind) -> Decoder<'s>
         ensures stands { StandsFor result [] [] }
         ensures settings { settings_of result
@@ -52,10 +52,10 @@ impl<'s> Decoder<'s> {
         }
     }
 
-    /// Takes the next bytes of the payload, which with those before are no more than the payload
-    /// quota. A refusal comes at the first byte that shows it. After it, and after running out of
-    /// memory, the answer is the same from then on: the payload's items and bytes are given up, and
-    /// its strings that were whole stay in the table.
+    /// Takes the next bytes of the payload, which with those before are at most as many as the
+    /// payload quota. It fails at the first byte that shows why the payload is refused, or without
+    /// memory, and in the same way from then on. Then the items and bytes of the payload are given
+    /// up, while the strings that were complete stay in the table.
     pub fn feed(&mut self, piece: &[u8]) -> Result<(), DecodeFault>
         requires { failure_of self.old ≡ None
             → taken_of self.old + length piece.now ≤ (settings_of self.old).limits.payload }
@@ -80,8 +80,9 @@ impl<'s> Decoder<'s> {
         }
     }
 
-    /// Says that the payload is complete, and returns its document. Then the next payload may
-    /// follow. Where its root hasn't ended it is refused as `DocumentCut`, and fails for good.
+    /// Ends the payload, and returns its document; the next payload may follow. Where the root
+    /// hasn't ended it fails with `DocumentCut`, and in the same way from then on. It takes no
+    /// memory.
     pub fn finish(&mut self) -> Result<Doc, DecodeFault>
         ensures answers { WhereItStands self.old (λ strings p.
             FinishAnswers (settings_of self.old) strings p result) }
@@ -126,7 +127,7 @@ impl<'s> Decoder<'s> {
         self.units.reuse(doc);
     }
 
-    /// What it holds of the payload: in bytes, the unit that is incomplete, and the content of the
+    /// What it holds of the payload: the bytes of the incomplete record, and the content of the
     /// items.
     #[tactic(auto, unfolding(crate::specs::DecoderState::held_of, crate::specs::DecoderState::content_held_of))]
     pub fn kept(&self) -> Kept
@@ -156,9 +157,9 @@ impl<'s> Decoder<'s> {
         }
     }
 
-    /// How many bytes of the payload it has taken; 0 before the first one. Of a payload that is
-    /// refused it is the offset at which the refused unit begins, and after running out of memory
-    /// the one at which the unit begins that came next.
+    /// How many bytes of the payload were read; 0 before the first one. After a refusal it is the
+    /// offset at which the refused record or string begins, and after memory ran out the one at
+    /// which the next one begins.
     pub fn taken(&self) -> u32
         ensures counted { result < 2 ^ 32 - 1 → result ≡ taken_of self.now }
         ensures stands { WhereItStands self.now (λ strings p. result ≡ length p) }
@@ -169,7 +170,7 @@ impl<'s> Decoder<'s> {
         self.units.from().saturating_add(begun)
     }
 
-    /// How many elements are open after the whole units, the root among them.
+    /// How many elements are open, the root among them.
     pub fn depth(&self) -> u32
         ensures open { WhereItStands self.now (λ strings p.
             result ≡ opened_by 0 (situation_of (settings_of self.now) strings p).items) }
@@ -180,7 +181,7 @@ impl<'s> Decoder<'s> {
         self.units.depth()
     }
 
-    /// The strings of the direction so far.
+    /// The session strings of the direction so far.
     pub fn table(&self) -> &SessionTable
         ensures strings { WhereItStands self.now (λ strings p.
             result.now ≡ table_at self.now strings p) }

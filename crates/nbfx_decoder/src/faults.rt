@@ -8,14 +8,17 @@ use nbfx_records::{NodeFault, RecordFault, Stop};
 use nbfx_values::Reason;
 use unit_streams::Memory;
 
-/// Why a payload isn't read.
+/// Why a payload isn't read on.
 #[derive(Clone, Copy, Debug, PartialEq, Eq)]
 pub enum DecodeFault {
-    /// The payload is refused: the unit that begins at offset `at`, as the payload's first
-    /// `shown_by` bytes show, and fewer do not.
+    /// The payload is refused: what begins at offset `at`, a record or a part of the string table.
+    /// Its first `shown_by` bytes show that, and no fewer do.
     Payload {
+        /// From 0, in the payload.
         at: u32,
+        /// Why it is refused.
         reason: Reason,
+        /// Counted from the beginning of the payload.
         shown_by: u32,
     },
     /// Out of memory.
@@ -41,14 +44,14 @@ impl From<Memory> for UnitFault {
     }
 }
 
-/// A refusal.
+/// The error that a unit is refused, which its first so many bytes show.
 pub(crate) fn refused<T>(reason: Reason, shown_by: usize) -> Result<T, UnitFault>
     ensures { result ≡ Err (UnitFault.Refused reason shown_by) }
 {
     Err(UnitFault::Refused { reason, shown_by })
 }
 
-/// The reason for which no record that may stand there is read.
+/// The reason to refuse a payload for this fault of a record.
 pub(crate) fn reason_of(fault: RecordFault) -> Reason
     ensures { result ≡ spec.reason_of fault }
 {
@@ -64,7 +67,7 @@ pub(crate) fn reason_of(fault: RecordFault) -> Reason
     }
 }
 
-/// Why no node is made of a whole record of so many bytes.
+/// The fault of a complete record of so many bytes of which no node is made.
 pub(crate) fn unmade(why: NodeFault, used: usize) -> UnitFault
     ensures { result ≡ spec.unmade why used }
 {
@@ -77,7 +80,7 @@ pub(crate) fn unmade(why: NodeFault, used: usize) -> UnitFault
     }
 }
 
-/// Why no whole record is read, or how many bytes are wanted.
+/// The answer where no complete record is read: how many bytes are wanted, or why it is refused.
 #[inline(always)]
 pub(crate) fn stopped(stop: Stop) -> Result<UnitRead, UnitFault>
     ensures { result ≡ spec.stopped stop }

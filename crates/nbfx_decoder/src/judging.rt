@@ -1,4 +1,4 @@
-//! What a whole record says: it is judged before any of it is kept, and made then.
+//! What a complete record says: it is judged first, and only then made into items.
 
 ghost use Rattle.std.specs.Prelude.{◌≡◌, IfOk, IsTrue, Ok, Some};
 ghost use Rattle.std.specs.List.{list_all};
@@ -18,7 +18,7 @@ use nbfx_values::Reason;
 use unit_streams::Memory;
 
 impl UnitReader<'_> {
-    /// Judges what a whole record of so many bytes says, of which nothing is kept yet.
+    /// Judges what a complete record of so many bytes says, of which nothing is kept yet.
     pub(crate) fn judge(&self, part: &RecordPart, used: usize) -> Result<(), UnitFault>
         requires { IsSoundRecord part.now }
         ensures { Judges self.now (record_seen part.now) used result }
@@ -37,7 +37,7 @@ impl UnitReader<'_> {
         }
     }
 
-    /// The node of a whole record whose meaning is within the content quota.
+    /// The node of a complete record whose meaning is within the content quota.
     pub(crate) fn made(&self, part: &RecordPart) -> Result<Node, Memory>
         requires sound { IsSoundRecord part.now }
         requires within { MayMake self.now (record_seen part.now) }
@@ -66,8 +66,8 @@ impl UnitReader<'_> {
         }
     }
 
-    /// What a whole record means that is within the content quota. The values of a list are made of
-    /// its bytes, with no node between.
+    /// What a complete record means whose meaning is within the content quota. The values of a list
+    /// are made of its bytes, without a node.
     pub(crate) fn said(&self, part: &RecordPart) -> Result<Meant, Memory>
         requires sound { IsSoundRecord part.now }
         requires within { MayMake self.now (record_seen part.now) }

@@ -6,29 +6,29 @@ ghost use Rattle.unit_streams.specs.Laws.{StandingsGoOn, AnswersAreFirst, CutsCh
 ghost use Rattle.nbfx_decoder.specs.Payload.{Settings, payload};
 ghost use Rattle.nbfx_decoder.specs.Laws.{PayloadsAreAccepted, SpellsOneDocument, SituationsKeepWithin, SituationsAreFronts, StringsStayTexts, RefusedWhereShown, CutWhereUnended, FirstReasonRefuses, OffendsWhereShown, GoesOnWhereNothing, NothingIsRefused, GoesOnUnrefused, FinishedWhereWhole};
 
-/// The bytes that have no offence are the payloads of the standards' records, whose nesting,
-/// content and strings are within what is admitted; the items and the strings that the bytes lead
-/// to are theirs.
+/// The bytes that are accepted are the payloads by the standards' records whose nesting, content
+/// and strings are within what is admitted. The items and strings that they lead to are those of
+/// such a payload.
 pub fn payloads()
     ensures { PayloadsAreAccepted }
 {}
 
-/// Bytes are a payload of one document at most, and leave one table of strings at most.
+/// Bytes are a payload of at most one document, and leave at most one list of strings.
 pub fn one_document()
     ensures { SpellsOneDocument }
 {}
 
-/// However far a payload has come, its items and strings are within bounds: they have at
-/// most as many values as there were bytes, and are at most twice as many. Where what identifiers
-/// name is text, the items are the front of a document, and the strings are text.
+/// However far a payload has been read, its items and strings are within bounds: the items have at
+/// most as many values as there were bytes, and are at most twice as many. If the texts that
+/// identifiers name are UTF-8, the items are the front of a document, and the strings are UTF-8.
 pub fn situations()
     ensures within { SituationsKeepWithin }
     ensures fronts { SituationsAreFronts }
     ensures texts { StringsStayTexts }
 {}
 
-/// The state of a payload depends only on the bytes read so far. No unit begins a longer one that
-/// may come in its place.
+/// The state of a payload depends only on the bytes read so far. No unit is the beginning of a
+/// longer unit that may come in its place.
 pub fn units()
     ensures standings_go_on { (x : Settings) (strings : List (List ℕ))
         → StandingsGoOn (payload x strings) }
@@ -56,10 +56,11 @@ pub fn refusals()
         → AcceptedOrOffended (payload x strings) }
 {}
 
-/// Bytes of a payload are refused for a reason, at an offset, exactly where they show it: whole
-/// units up to that offset, and then bytes that are no unit which may come, or a unit that is
+/// Bytes of a payload are refused for a reason, at an offset, exactly where they show it: complete
+/// units up to that offset, and then bytes that can be no unit which may come, or a unit that is
 /// refused by what it says. Each reason has a row of `specs/Reasons`. The end of a payload is
-/// refused exactly where its root hasn't ended. A whole payload is refused for the first of these.
+/// refused exactly where its root hasn't ended. A complete payload is refused for the first of
+/// these.
 pub fn reasons()
     ensures shown { RefusedWhereShown }
     ensures cut { CutWhereUnended }

@@ -132,7 +132,8 @@ impl Lookup<'_> {
         Ok(values)
     }
 
-    // What a value of a list says that is one of its kind, and whose name the tables have.
+    // What a value of a list means. It is of its kind, and the tables have the string that it
+    // names.
     fn value_in(&self, part: &ScalarPart) -> Result<Scalar, Memory>
         requires { MeansValue (table_of self.now) (scalar_seen part.now) }
         ensures says { IfOk result (SaysValue (table_of self.now) (scalar_seen part.now)) }
@@ -165,8 +166,8 @@ impl Lookup<'_> {
         Ok(values)
     }
 
-    /// What a text means that is a list, all of whose values are of their kinds and have their
-    /// names in the tables.
+    /// What a text means that is a list. Its values are of their kinds, and the tables have the
+    /// strings that they name.
     #[inline(never)]
     pub(crate) fn list_text(&self, list: &[u8], ends: bool) -> Result<Meant, Memory>
         requires list { IsList list.now }

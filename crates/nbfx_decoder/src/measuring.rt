@@ -1,5 +1,5 @@
-//! How much the meaning of a record counts in a document's content. It is found before anything of
-//! it is kept: a few bytes may name long texts many times.
+//! How much the meaning of a record counts in a document's content. It is counted before anything
+//! of it is kept, since a few bytes may name long texts many times.
 
 ghost use Rattle.std.specs.Prelude.{◌≡◌, ◌+◌, ◌&&◌, Some, length, sum_by};
 ghost use Rattle.std.specs.List.{list_all};
@@ -128,8 +128,8 @@ impl Lookup<'_> {
         }
     }
 
-    // An attribute, where others come behind it: a text of them that isn't UTF-8 goes before a
-    // wrong value.
+    // An attribute, after which others come: a text of these that isn't UTF-8 is reported before a
+    // wrong value of it.
     fn size_before(&self, part: &AttributePart, rest: &[u8]) -> Result<Option<u64>, NodeFault>
         requires sound { IsSoundAttribute part.now }
         requires rest { AreParts rest.now }
@@ -205,8 +205,8 @@ impl Lookup<'_> {
         Ok(Some(size))
     }
 
-    /// What the meaning of a whole record counts, where a node is made of it; None where one of its
-    /// identifiers names no string.
+    /// How much a complete record counts in the document's content; None where one of its
+    /// identifiers names no string. It fails where no node can be made of the record.
     #[inline(never)]
     #[tactic(auto, unfolding(nbfx_records::specs::Contents::contents))]
     pub(crate) fn record_size(&self, part: &RecordPart) -> Result<Option<u64>, NodeFault>

@@ -1,5 +1,5 @@
-//! The records that come most, each read by the fast path for its type where it is complete and in
-//! order.
+//! The most frequent records, each read by the fast path for its type where it is complete and
+//! valid.
 
 ghost use Rattle.std.specs.Prelude.{◌≡◌, ℕ, ◌+◌, ◌<◌, ◌^◌, ◌↔◌, true, List, length};
 ghost use Rattle.nbfx_records.specs.Beginning.{BeginsKind, MayStand};
@@ -27,9 +27,9 @@ impl UnitReader<'_> {
         may_stand(self.place(), kind)
     }
 
-    /// Reads the record at the front of the bytes, and puts what it means after the items, if it is
-    /// complete, in order and of one of the kinds that come most. Each of these has a fast path of
-    /// its own. Else nothing changes.
+    /// Reads the record at the front of the bytes, and appends what it means to the items, if it is
+    /// complete, valid and of one of the most frequent kinds, each of which has a fast path of its
+    /// own. Else nothing changes.
     #[inline(always)]
     pub(crate) fn read_quickly(&mut self, bytes: &[u8]) -> Option<usize>
         requires few { self.old.from + length bytes.now < 2 ^ 32 }
@@ -178,8 +178,8 @@ impl UnitReader<'_> {
         self.pass_quickly(text_node(self.alloc, &ValuePart::One(part), ends), used)
     }
 
-    // Puts what is made of a whole record of so many bytes behind the items, and goes behind it, if
-    // it is in order, within the content quota, neither a list nor an array, and there is memory.
+    // Appends what is made of a complete record of so many bytes to the items, and goes past it, if
+    // it is valid, within the content quota and neither a list nor an array, and there is memory.
     // Else nothing changes.
     #[inline(always)]
     fn pass_quickly(&mut self, made: Result<Node, NodeFault>, used: usize) -> Option<usize>

@@ -1,4 +1,4 @@
-//! What comes next of a payload.
+//! Which part of a payload comes next.
 
 ghost use Rattle.std.specs.Prelude.{◌≡◌};
 ghost use Rattle.nbfx_decoder.specs.Sections as spec;

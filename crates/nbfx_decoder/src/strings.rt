@@ -24,8 +24,8 @@ struct Head {
     size: usize,
 }
 
-// The length of a string, where so many bytes of the table are left, and so much of the dictionary
-// quota. None where it has begun.
+// The length of a string, if so many bytes of the table are left, and so much of the dictionary
+// quota. None where it is incomplete.
 fn head_at(bytes: &[u8], left: usize, room: usize) -> Result<Option<Head>, UnitFault>
     requires { 0 < left }
     ensures { HeadStands room left bytes.now result }

@@ -88,7 +88,8 @@ impl<'s> UnitReader<'s> {
         }
     }
 
-    /// Reads the unit whose bytes have begun, as far as they weren't read before.
+    /// Reads on the incomplete unit with these bytes; of a list, what was scanned before isn't
+    /// scanned again.
     #[inline(never)]
     pub(crate) fn read_on(&mut self, begun: &mut BegunBytes) -> Result<UnitRead, UnitFault>
         requires few { self.old.from + length begun.old < 2 ^ 32 }
@@ -181,7 +182,7 @@ impl<'s> UnitReader<'s> {
         }
     }
 
-    /// Puts what a node means after the items that names two texts at most: they are copied before
+    /// Appends to the items what a node means that names at most two texts. These are copied before
     /// they are judged.
     #[inline(always)]
     pub(crate) fn add_quickly(&mut self, node: Node) -> bool
@@ -203,7 +204,7 @@ impl<'s> UnitReader<'s> {
         }
     }
 
-    // Reads the record at the front of the bytes, and puts what it means behind the items.
+    // Reads the record at the front of the bytes, and appends what it means to the items.
     #[inline(never)]
     fn record(&mut self, bytes: &[u8]) -> Result<UnitRead, UnitFault>
         requires here { self.old.section ≡ Section.Nodes }
@@ -216,7 +217,7 @@ impl<'s> UnitReader<'s> {
         }
     }
 
-    // Reads on the record whose bytes have begun, and puts what it means behind the items.
+    // Reads on the incomplete record with these bytes, and appends what it means to the items.
     #[inline(never)]
     fn record_on(&mut self, begun: &mut BegunBytes) -> Result<UnitRead, UnitFault>
         requires here { self.old.section ≡ Section.Nodes }
@@ -234,7 +235,7 @@ impl<'s> UnitReader<'s> {
         }
     }
 
-    // Puts what a whole record of so many bytes means behind the items, and goes behind it.
+    // Appends what a complete record of so many bytes means to the items, and goes past it.
     fn pass_record(&mut self, part: &RecordPart, used: usize) -> Result<UnitRead, UnitFault>
         requires here { self.old.section ≡ Section.Nodes }
         requires sound { IsSoundRecord part.now }
@@ -271,7 +272,7 @@ impl<'s> UnitReader<'s> {
         self.document.content().saturating_add(size) <= self.quotas.content as u64
     }
 
-    // Puts what a node means behind the items.
+    // Appends what a node means to the items.
     #[inline(always)]
     fn add(&mut self, meant: Meant) -> Result<(), Memory>
         requires valid { IsTrue (list_all is_valid_item (items_in meant)) }
@@ -292,7 +293,7 @@ impl<'s> UnitReader<'s> {
         }
     }
 
-    /// The document, where its root has ended. Then the next payload may come.
+    /// The document, if its root has ended. Then the next payload may come.
     pub(crate) fn finish(&mut self) -> Option<Doc>
         ensures document { IsSome result ↔ IsDocument self.old.document }
         ensures same { IfSome result (λ doc. doc ≡ self.old.document) }
@@ -358,7 +359,7 @@ impl<'s> UnitReader<'s> {
     }
 }
 
-// Puts what a node means behind the items, if their content is at most this then.
+// Appends what a node means to the items, if their content is then at most this.
 #[inline(always)]
 fn push(document: &mut DocBuilder, most: u64, meant: Meant) -> Result<(), PushFault>
     requires { IsTrue (list_all is_valid_item (items_in meant)) }

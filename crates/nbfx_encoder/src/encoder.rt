@@ -25,8 +25,9 @@ use static_dictionary::StaticTable;
 use std::alloc::Global;
 use unit_streams::Memory;
 
-/// Writes documents as payloads (MC-NBFX, MC-NBFS, and MC-NBFSE where they bring strings), each in
-/// its chosen spelling. It holds the strings of its direction, as the peer's reader does.
+/// Writes documents as payloads (records of MC-NBFX with the static dictionary of MC-NBFS and,
+/// under [`Kind::Session`], the string tables of MC-NBFSE), each in its chosen spelling. It holds
+/// the session strings of its direction, as the peer's reader does.
 #[derive(Drop)]
 pub struct Encoder<'s> {
     quotas: Quotas,
@@ -38,8 +39,8 @@ pub struct Encoder<'s> {
     ghost cost: { used_cost speller.table.strings ≤ quotas.dictionary },
 }
 
-/// What stands in an encoder's buffers to be written: the place before the strings that it brings,
-/// and how many bytes it has.
+/// A payload in an encoder's buffers: the state of the table before the strings that it adds, and
+/// how many bytes it has.
 #[derive(Clone, Copy, Debug, PartialEq, Eq)]
 pub(crate) struct Prepared {
     pub(crate) mark: Mark,
@@ -50,7 +51,7 @@ impl<'s> Encoder<'s> {
     ghost use Rattle.nbfx_encoder.specs.EncoderState.{HasPrepared, KeepsSettings, Refuses, Writes};
     ghost use Rattle.nbfx_encoder.specs.EncoderState.{kind_in, limits_in, names_in, payload_in};
 
-    /// A writer of a direction without strings so far.
+    /// A writer of a direction that has no session strings yet.
     pub fn new(alloc: Global, statics: &'s StaticTable, quotas: Quotas, kind: Kind) -> Self
         ensures limits { limits_in result ≡ limits_of quotas }
         ensures kind { kind_in result ≡ kind }
@@ -69,7 +70,7 @@ impl<'s> Encoder<'s> {
         }
     }
 
-    /// The strings of the direction so far, which cost no more than the dictionary quota.
+    /// The session strings of the direction so far, which cost no more than the dictionary quota.
     pub fn table(&self) -> &SessionTable
         ensures strings { result.now.strings ≡ (names_in self.now).strings }
         ensures within { used_cost result.now.strings ≤ (limits_in self.now).dictionary }
@@ -95,7 +96,7 @@ impl<'s> Encoder<'s> {
         Ok(())
     }
 
-    // Puts what a payload begins with into its rooms: the strings behind the mark, and before them
+    // Puts the beginning of a payload into its buffers: the strings after the mark, and before them
     // how many bytes they have.
     #[tactic(auto, unfolding(multibyte_ints::specs::Text::string_bytes_of))]
     fn put_opening(&mut self, mark: Mark) -> Result<(), Memory>
@@ -120,7 +121,7 @@ impl<'s> Encoder<'s> {
         Ok(())
     }
 
-    // Puts a document's items into the rooms, and answers how many bytes they have there.
+    // Puts a document's items into the buffers, and answers how many bytes the payload has.
     fn spell(&mut self, items: &[Item], mark: Mark) -> Result<usize, EncodeFault>
         requires sound { IsSound (writing_of self.old.speller) (names_of self.old.speller) }
         requires valid { IsTrue (list_all is_valid_item items.now) }
@@ -141,8 +142,8 @@ impl<'s> Encoder<'s> {
         Ok(self.head.len() + self.strings.len() + self.speller.nodes.len())
     }
 
-    // Puts a document's items into the rooms, where they have as many bytes as the payload quota
-    // admits.
+    // Puts a document's items into the buffers, if the payload has at most as many bytes as its
+    // quota.
     fn spell_within(&mut self, items: &[Item], mark: Mark) -> Result<u32, EncodeFault>
         requires sound { IsSound (writing_of self.old.speller) (names_of self.old.speller) }
         requires valid { IsTrue (list_all is_valid_item items.now) }
@@ -165,7 +166,7 @@ impl<'s> Encoder<'s> {
         Ok(size as u32)
     }
 
-    /// Takes back the strings after a mark.
+    /// Removes the strings that were added after a mark.
     pub(crate) fn take_back(&mut self, mark: Mark)
         requires { IsMarkOf mark (names_in self.old).strings }
         ensures names { names_in self.new ≡ record (names_in self.old) {
@@ -176,7 +177,7 @@ impl<'s> Encoder<'s> {
         self.speller.table.back_to(mark);
     }
 
-    /// Judges a document, and puts its payload into the buffers. Where it is refused the strings are
+    /// Judges a document, and puts its payload into the buffers. If it is refused, the strings are
     /// as before.
     pub(crate) fn prepare(&mut self, doc: &Doc) -> Result<Prepared, EncodeFault>
         ensures prepared { IfOk result (λ prepared. HasPrepared
@@ -205,12 +206,11 @@ impl<'s> Encoder<'s> {
         }
     }
 
-    /// Appends the payload of a document in its chosen spelling, which brings the strings that it
-    /// needs, and carries the session's strings on. Any reader whose quotas admit as much reads the
-    /// document from it, and has the same strings afterwards. A document is refused by the first of
-    /// these:
-    /// its nesting, its content, a QName's name that gets no identifier, the size of its payload.
-    /// Then, and where there is no memory, the strings and the output are as before.
+    /// Appends the payload of a document in its chosen spelling, with the session strings that it
+    /// adds. Any reader that has the same static and session strings, and quotas as great, reads
+    /// the document from it, and has the same session strings afterwards. A document is refused by
+    /// the first of these: its nesting, its content, a QName's name that gets no identifier, the
+    /// payload's size. Then, or without memory, the session strings and `out` are as before.
     pub fn encode(&mut self, doc: &Doc, out: &mut Vec<u8>) -> Result<(), EncodeFault>
         ensures written { OnOk result (Writes
             (encoded (limits_in self.old) (kind_in self.old) (names_in self.old) doc.now)

@@ -4,17 +4,18 @@ ghost use Rattle.std.specs.Prelude.{◌≡◌};
 
 use unit_streams::Memory;
 
-/// Why a document isn't written. The writer is as before, and so is its output.
+/// Why a document isn't written. The writer and its output are as before.
 #[derive(Clone, Copy, Debug, PartialEq, Eq)]
 pub enum EncodeFault {
-    /// This many elements are open at one moment, which are more than the depth quota admits.
+    /// This many elements are open at one moment, more than the depth quota admits.
     TooDeep { depth: u64 },
-    /// The content counts this many bytes, which are more than the content quota admits.
+    /// The content counts this many bytes, more than the content quota admits.
     TooMuchContent { size: u64 },
-    /// The item with this number, from 0, has a QName whose name gets no identifier: the static
-    /// strings have none for it, and as a string of the session it would cost too much.
+    /// The item with this number, from 0, has a QName whose local name gets no identifier: no
+    /// static string is that name, and as a session string it would cost too much, or encoding 7
+    /// has none.
     NoIdForQName { item: u64 },
-    /// The payload has this many bytes, which are more than the payload quota admits.
+    /// The payload would have this many bytes, more than the payload quota admits.
     TooLarge { size: u64 },
     /// Out of memory.
     Memory,

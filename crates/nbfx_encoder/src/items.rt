@@ -31,7 +31,8 @@ fn last_text(items: &[Item]) -> Option<&Value>
     }
 }
 
-// How many items were spelled by one record, where it was put. The first of them has this number.
+// The answer after a record that says so many items, the first of which has this number: how many
+// they are, or why it wasn't put.
 fn said(put: Result<(), SpellFault>, count: usize, at: usize) -> Result<usize, EncodeFault>
     ensures put { OnOk put (result ≡ Ok count) }
     ensures refused { IfErr put (λ fault. result ≡ Err (fault_told fault at)) }
@@ -91,8 +92,8 @@ impl<'s> Speller<'s> {
         }
     }
 
-    // Appends the first record of items, and answers how many of them it says. The first of them
-    // has this number.
+    // Appends the record of the first item, or of the first two, and answers how many they are. The
+    // first has this number in the document.
     fn put_record(&mut self, items: &[Item], at: usize) -> Result<usize, EncodeFault>
         requires some { 0 < length items.now }
         requires sound { IsSound (writing_of self.old) (names_of self.old) }

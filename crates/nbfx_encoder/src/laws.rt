@@ -13,8 +13,9 @@ pub fn payloads()
     ensures large { LargeIsUnwritten }
 {}
 
-/// One document more is one envelope more, under the strings that those before have left; or it is
-/// the first that doesn't fit.
+/// Of a list of documents and one more, the envelopes are those of the list, and then the envelope
+/// of the last one under the session strings that those before it left; or that one is the first
+/// that doesn't fit.
 pub fn envelopes()
     ensures { SendsOneMore }
 {}

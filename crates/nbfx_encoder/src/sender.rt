@@ -1,4 +1,4 @@
-//! One half of a session that sends: documents in envelopes, and then End.
+//! The sending half of a session: documents in envelopes, and then End.
 #![tactic(auto, unfolding(crate::specs::Sending::kind_in, crate::specs::Sending::limits_in, crate::specs::Sending::mode_in, crate::specs::Sending::names_in, crate::specs::Sending::side_in, crate::specs::Sending::state_in,))]
 
 ghost use Rattle.std.specs.Prelude.{◌≡◌, ◌++◌, ◌<◌, ◌≤◌, ◌^◌, [], false, OnOk, OnErr, IfErr, IfOk};
@@ -21,10 +21,12 @@ use static_dictionary::StaticTable;
 use std::alloc::Global;
 use unit_streams::Memory;
 
-/// Whose half it is: of the end that connected, or of the one that accepted.
+/// Which end of the session sends.
 #[derive(Clone, Copy, Debug, PartialEq, Eq)]
 pub enum Side {
+    /// The end that connected.
     Initiator,
+    /// The end that accepted the connection.
     Receiver,
 }
 
@@ -39,16 +41,16 @@ pub enum SendState {
     Closed,
 }
 
-/// Why a message isn't sent. The half is as before, and so is its output.
+/// Why a message isn't sent. The sending half and its output are as before.
 #[derive(Clone, Copy, Debug, PartialEq, Eq)]
 pub enum SendFault {
     /// No message may be sent in this state.
     WrongMoment { state: SendState },
-    /// The document isn't written.
+    /// The document isn't written, for this reason.
     Refused(EncodeFault),
 }
 
-/// The sending half of a session, after its preamble.
+/// The sending half of a session (MC-NMF), after its preamble.
 #[derive(Drop)]
 pub struct Sender<'s> {
     pub(crate) encoder: Encoder<'s>,
@@ -60,7 +62,8 @@ pub struct Sender<'s> {
 impl<'s> Sender<'s> {
     ghost use Rattle.nbfx_encoder.specs.Sending.{KeepsSettings, MayNotEnd, RefusesMessage, Sends, behind_message, first_state, kind_in, limits_in, mode_in, names_in, side_in, state_in};
 
-    /// The half of this side in a session of this mode, whose payloads are of this kind.
+    /// The sending half of this end in a session of this mode, whose payloads have this encoding. A
+    /// receiver in simplex mode may send no message.
     pub fn new(
         alloc: Global,
         statics: &'s StaticTable,
@@ -88,7 +91,7 @@ impl<'s> Sender<'s> {
         }
     }
 
-    /// The strings of the direction so far, which cost no more than the dictionary quota.
+    /// The session strings of the direction so far, which cost no more than the dictionary quota.
     pub fn table(&self) -> &SessionTable
         ensures strings { result.now.strings ≡ (names_in self.now).strings }
         ensures within { used_cost result.now.strings ≤ (limits_in self.now).dictionary }
@@ -96,15 +99,16 @@ impl<'s> Sender<'s> {
         self.encoder.table()
     }
 
-    /// Where it is in its session.
+    /// Whether a message, or End, may be sent.
     pub fn state(&self) -> SendState
         ensures { result ≡ state_in self.now }
     {
         self.state
     }
 
-    /// Ends the session: the End record's byte, which is to be sent last. It may not be where the
-    /// half has ended, and where an initiator's message of singleton mode is still to come.
+    /// Ends the session, and answers the byte of the End Record, which the caller sends last. It
+    /// fails where End was sent before, and in singleton mode before the initiator's message; then
+    /// nothing changes, and the state is answered.
     pub fn end(&mut self) -> Result<u8, SendState>
         ensures byte { IfOk result (λ byte. byte ≡ 7) }
         ensures may { OnOk result (MayNotEnd (mode_in self.old) (side_in self.old) (state_in self.old) → ⊥) }
@@ -125,11 +129,12 @@ impl<'s> Sender<'s> {
         }
     }
 
-    /// Sends a document in an envelope: appends it, and carries the session's strings on. Any
-    /// reader whose quotas admit as much reads the document from its payload, and has the same
-    /// strings afterwards. In singleton mode the envelope is of one chunk, and no other message may
-    /// follow. A message at the wrong moment is refused before the document is judged. Where it
-    /// isn't sent the half and its output are as before.
+    /// Appends the envelope of a document, and carries the session strings on. Any reader that has
+    /// the same static and session strings, and quotas as great, reads the document from its
+    /// payload, and has the same session strings afterwards. In singleton mode it is an Unsized
+    /// Envelope Record of one chunk, and no other message may follow; else a Sized Envelope Record.
+    /// It fails where no message may be sent, before the document is judged, or as
+    /// [`Encoder::encode`] does; then the sending half and `out` are as before.
     pub fn message(&mut self, doc: &Doc, out: &mut Vec<u8>) -> Result<(), SendFault>
         ensures ready { OnOk result (state_in self.old ≡ SendState.Ready) }
         ensures written { OnOk result (Sends
@@ -167,7 +172,7 @@ impl<'s> Sender<'s> {
         }
     }
 
-    // Where the half is behind a message.
+    // The state after a message.
     fn behind_message(&self) -> SendState
         ensures { result ≡ behind_message self.now.mode }
     {
@@ -204,7 +209,7 @@ fn put_envelope_head(mode: Mode, size: u32, out: &mut Vec<u8>) -> Result<(), Mem
     }
 }
 
-// Appends what stands behind it.
+// Appends what stands after it.
 fn put_envelope_end(mode: Mode, out: &mut Vec<u8>) -> Result<(), Memory>
     ensures { Puts result out.old.items out.new.items (envelope_end mode) }
 {

@@ -17,27 +17,34 @@ use crate::resume::Resume;
 use crate::type_bytes::{array_kind, record_kind, width};
 use nbfx_values::ArrayKind;
 
-/// An attribute or a declaration of an array's element, or the end of these.
+/// What comes next after an array's element.
 #[derive(Clone, Copy, Debug)]
 pub enum ArrayTurn<'a> {
+    /// An attribute or a declaration of the element.
     Part(AttributePart<'a>),
+    /// The end of these.
     End,
 }
 
-/// The values of an array, in so many bytes.
+/// The values of an array, which stand without type bytes.
 #[derive(Clone, Copy, Debug)]
 pub struct CellsPart<'a> {
+    /// What they all are.
     pub kind: ArrayKind,
+    /// How many there are.
     pub count: usize,
+    /// Their bytes.
     pub bytes: &'a [u8],
 }
 
-/// An array after its type byte.
+/// An Array record of MC-NBFX after its type byte.
 #[derive(Clone, Copy, Debug)]
 pub struct ArrayPart<'a> {
+    /// Its element, after that one's type byte.
     pub element: NamedPart<'a>,
-    /// The bytes of its attributes and declarations, with that of their end.
+    /// The bytes of the element's attributes and declarations, with that of their end.
     pub attributes: &'a [u8],
+    /// Its values.
     pub cells: CellsPart<'a>,
 }
 
@@ -70,7 +77,8 @@ fn array_part<'a>(
     }
 }
 
-/// An attribute or a declaration of an array's element, or the end of these, with its type byte.
+/// Reads an attribute or a declaration of an array's element, or the end of these, from its type
+/// byte on.
 pub fn array_turn_at<'a>(
     bytes: &'a [u8],
     at: usize,
@@ -87,8 +95,8 @@ pub fn array_turn_at<'a>(
     array_part(record_kind(byte), bytes, at, resume)
 }
 
-// The attributes and declarations of an array's element: their bytes, with that of their end. What
-// was seen of them is kept in `resume`.
+// The attributes and declarations of an array's element: their bytes, with that of their end. How
+// far they were scanned is noted in `resume`.
 fn parts_at<'a>(
     bytes: &'a [u8],
     from: usize,
@@ -172,7 +180,7 @@ fn counted_cells(kind: ArrayKind, bytes: &[u8], at: usize) -> Result<(CellsPart<
     Ok((cells, at))
 }
 
-// The values behind the byte of their kind.
+// The values after the type byte of their kind.
 fn cells_of(
     kind: Option<ArrayKind>,
     bytes: &[u8],
@@ -200,7 +208,7 @@ fn cells_at(bytes: &[u8], at: usize) -> Result<(CellsPart<'_>, usize), Stop>
     cells_of(array_kind(byte), bytes, at)
 }
 
-/// What follows an array's type byte.
+/// Reads what follows the type byte of an Array record.
 #[inline(never)]
 pub fn array_at<'a>(
     bytes: &'a [u8],

@@ -15,22 +15,25 @@ use crate::parts::{NamePart, PrefixPart, ScalarPart, name_at, prefix_at, scalar_
 use crate::resume::Resume;
 use crate::type_bytes::record_kind;
 
-/// The value of a text or an attribute.
+/// The value of a text or of an attribute.
 #[derive(Clone, Copy, Debug)]
 pub enum ValuePart<'a> {
+    /// One value.
     One(ScalarPart<'a>),
-    /// The bytes of a list after its type byte, with those of its end.
+    /// A list: the bytes after its type byte, with those of its end.
     List(&'a [u8]),
 }
 
 /// An attribute or a declaration.
 #[derive(Clone, Copy, Debug)]
 pub enum AttributePart<'a> {
+    /// An attribute with its value.
     Attribute {
         prefix: PrefixPart<'a>,
         name: NamePart<'a>,
         value: ValuePart<'a>,
     },
+    /// The declaration of a prefix.
     Declaration {
         prefix: PrefixPart<'a>,
         uri: NamePart<'a>,
@@ -111,7 +114,7 @@ fn value_at<'a>(
     value_of_kind(record_kind(byte), bytes, at, resume)
 }
 
-/// What follows the type byte of an attribute in these forms.
+/// Reads what follows the type byte of an attribute whose prefix and name have these forms.
 #[inline(always)]
 pub fn attribute_at<'a>(
     prefix: PrefixForm,
@@ -141,7 +144,7 @@ pub fn attribute_at<'a>(
     ))
 }
 
-/// What follows the type byte of a declaration in these forms.
+/// Reads what follows the type byte of a declaration whose prefix and URI have these forms.
 #[inline(always)]
 pub fn declaration_at(
     prefix: PrefixForm,

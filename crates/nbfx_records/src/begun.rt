@@ -1,4 +1,5 @@
-//! A record by its kind: which one some bytes begin, and the parts of one whose kind is known.
+//! A record by its kind: which kind some bytes begin, and the parts of a record whose kind is
+//! known.
 
 ghost use Rattle.std.specs.Prelude.{◌≡◌, ◌≢◌, ◌<◌, ◌↔◌, IfNone, IfOk, IfSome, length, true};
 ghost use Rattle.nbfx_records.specs.Asked as asked;
@@ -16,7 +17,8 @@ use crate::records::{RecordPart, misplaced};
 use crate::resume::Resume;
 use crate::type_bytes::record_kind;
 
-/// The kind of the record that the bytes begin.
+/// The kind of the record that the bytes begin; None where their first byte begins no record, or is
+/// missing.
 #[inline(always)]
 pub fn kind_at(bytes: &[u8]) -> Option<RecordKind>
     ensures begins { IfSome result (BeginsKind bytes.now) }
@@ -33,7 +35,8 @@ pub fn may_stand(place: NodePlace, kind: RecordKind) -> bool
     misplaced(place, kind).is_none()
 }
 
-/// The parts of the element that the bytes begin, in these forms.
+/// The parts of the element at the front of the bytes, whose prefix and name have these forms, and
+/// how many bytes it has. It fails where the element is incomplete or wrong.
 #[inline(always)]
 pub fn element_parts(
     prefix: PrefixForm,
@@ -48,7 +51,8 @@ pub fn element_parts(
     element_at(prefix, name, bytes, 1)
 }
 
-/// The parts of the attribute that the bytes begin, in these forms.
+/// The parts of the attribute at the front of the bytes, whose prefix and name have these forms,
+/// and how many bytes it has. It fails where the attribute is incomplete or wrong.
 #[inline(always)]
 pub fn attribute_parts(
     prefix: PrefixForm,
@@ -64,7 +68,8 @@ pub fn attribute_parts(
     attribute_at(prefix, name, bytes, 1, &mut Resume::new())
 }
 
-/// The parts of the declaration that the bytes begin, in these forms.
+/// The parts of the declaration at the front of the bytes, whose prefix and URI have these forms,
+/// and how many bytes it has. It fails where the declaration is incomplete or wrong.
 #[inline(always)]
 pub fn declaration_parts(
     prefix: PrefixForm,
@@ -80,7 +85,8 @@ pub fn declaration_parts(
     declaration_at(prefix, uri, bytes, 1)
 }
 
-/// The one value of the text that the bytes begin, of this kind, which is no list.
+/// The value of the text at the front of the bytes, which is of this kind and no list, and how many
+/// bytes the text has. It fails where the text is incomplete or wrong.
 #[inline(always)]
 pub fn scalar_parts(
     kind: TextKind,

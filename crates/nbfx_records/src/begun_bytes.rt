@@ -1,4 +1,4 @@
-//! The bytes of a record that has begun.
+//! The bytes of a record that isn't complete yet.
 
 ghost use Rattle.std.specs.Prelude.{◌≡◌, [], ◌++◌, length, IfOk, OnErr, OnOk};
 ghost use Rattle.multibyte_ints.specs.Integer.{IsBytes};
@@ -15,8 +15,8 @@ use std::alloc::Global;
 use std::marker::Model;
 use unit_streams::Memory;
 
-/// The bytes of a record that has begun, and what was seen of them, so that what is complete of a
-/// list isn't read again. Contracts see the bytes.
+/// The bytes of a record that isn't complete yet, and how far a list or an array in them was
+/// scanned, so that it isn't scanned again. Contracts see the bytes.
 #[derive(Drop)]
 pub struct BegunBytes {
     bytes: Vec<u8>,
@@ -61,7 +61,7 @@ impl BegunBytes {
         self.bytes.len()
     }
 
-    /// Puts more bytes after the others.
+    /// Puts more bytes after the others. Without memory it fails, and the bytes are as before.
     pub fn keep(&mut self, more: &[u8]) -> Result<(), Memory>
         ensures kept { OnOk result (self.new ≡ self.old ++ more.now) }
         ensures unchanged { OnErr result (self.new ≡ self.old) }
@@ -70,7 +70,7 @@ impl BegunBytes {
         Ok(())
     }
 
-    /// Takes the bytes out. Their memory stays allocated.
+    /// Removes all bytes. Their memory stays allocated.
     pub fn clear(&mut self)
         ensures { self.new ≡ [] }
     {
@@ -78,8 +78,9 @@ impl BegunBytes {
         self.resume = Resume::new();
     }
 
-    /// The parts of the record that they begin, where it may come at this place: a list and an
-    /// array's attributes are read on from where [`look`](Self::look) left them.
+    /// The parts of the record, if it is complete and may stand at this place, and how many bytes
+    /// it has. It fails where the record is incomplete or wrong. A list, and an array's attributes,
+    /// are read on from where [`look`](Self::look) left them.
     pub fn parts(&self, place: NodePlace) -> Result<(RecordPart<'_>, usize), Stop>
         ensures tells { Tells record_seen (spec.shape_at place)
             (asked.shape_at place) self.now 0 result }
@@ -90,8 +91,8 @@ impl BegunBytes {
         shape_at(place, self.bytes.as_slice(), &mut resume)
     }
 
-    /// Sees how far the record is complete that they begin, so that no long list is gone through
-    /// again for each piece of it.
+    /// Scans the record and notes how far it is complete, so that a long list isn't scanned again
+    /// for each piece of it.
     pub fn look(&mut self, place: NodePlace)
         ensures { self.new ≡ self.old }
     {

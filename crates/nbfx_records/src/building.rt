@@ -1,4 +1,4 @@
-//! The node of a whole record: its texts are judged before its values.
+//! The node of a complete record: its texts are judged before its values.
 
 ghost use Rattle.std.specs.Prelude.{◌≡◌, ◌<◌, [], ◌∷◌, IfNone, IfSome, IsTrue, length};
 ghost use Rattle.std.specs.List.{list_all};
@@ -23,7 +23,7 @@ use crate::values::{is_text, known, text};
 use nbfx_values::{Scalar, Txt, Values};
 use std::alloc::Global;
 
-/// The text of a prefix.
+/// The text of a prefix. It fails with `BadUtf8`, or without memory.
 #[inline(always)]
 pub fn prefix(alloc: Global, part: &PrefixPart) -> Result<Txt, NodeFault>
     ensures { Makes result (spec.text_judged (prefix_seen part.now)) }
@@ -47,7 +47,7 @@ fn has_text(part: &ScalarPart) -> bool
     }
 }
 
-/// A name.
+/// A name, or a URI. It fails with `BadUtf8`, or without memory.
 #[inline(always)]
 pub fn name(alloc: Global, part: &NamePart) -> Result<NameRef, NodeFault>
     ensures { Makes result (spec.name_judged (name_seen part.now)) }
@@ -58,7 +58,7 @@ pub fn name(alloc: Global, part: &NamePart) -> Result<NameRef, NodeFault>
     }
 }
 
-/// One value.
+/// One value. It fails with `BadUtf8` or `BadValue`, or without memory.
 #[inline(always)]
 pub fn scalar(alloc: Global, part: &ScalarPart) -> Result<RawScalar, NodeFault>
     ensures { Makes result (spec.scalar_judged (scalar_seen part.now)) }
@@ -75,7 +75,7 @@ pub fn scalar(alloc: Global, part: &ScalarPart) -> Result<RawScalar, NodeFault>
     }
 }
 
-/// The first value of a list, and the bytes after it.
+/// The first value of a list, and the bytes after it; None at the end of the list.
 pub fn next_value(list: &[u8]) -> Option<(ScalarPart<'_>, &[u8])>
     requires { IsList list.now }
     ensures none { IfNone result (listed list.now ≡ []) }
@@ -106,8 +106,8 @@ fn are_texts(list: &[u8]) -> bool
     true
 }
 
-/// One value, where others come after it: a text of them that isn't UTF-8 goes before a wrong
-/// value.
+/// One value, after which those of `rest` come. It fails with `BadUtf8` where a text of any of them
+/// isn't UTF-8, before `BadValue` of this one; or without memory.
 pub fn scalar_before(alloc: Global, part: &ScalarPart, rest: &[u8]) -> Result<RawScalar, NodeFault>
     requires { IsList rest.now }
     ensures { Makes result (spec.behind_texts (list_all spec.scalar_is_text (listed rest.now))
@@ -199,7 +199,7 @@ fn prefix_has_text(part: &PrefixPart) -> bool
     }
 }
 
-// Whether a name is UTF-8, if it stands there.
+// Whether a name is UTF-8, if the record has its characters.
 fn name_has_text(part: &NamePart) -> bool
     ensures { result ≡ spec.name_is_text (name_seen part.now) }
 {
@@ -224,7 +224,8 @@ fn attribute_has_text(part: &AttributePart) -> bool
     }
 }
 
-/// The first attribute of an array's element, and the bytes after it.
+/// The first attribute or declaration of an array's element, and the bytes after it; None at the
+/// end of these.
 pub fn next_part(parts: &[u8]) -> Option<(AttributePart<'_>, &[u8])>
     requires { AreParts parts.now }
     ensures none { IfNone result (parts_of parts.now ≡ []) }
@@ -241,7 +242,7 @@ pub fn next_part(parts: &[u8]) -> Option<(AttributePart<'_>, &[u8])>
     }
 }
 
-/// Whether each text of the attributes is UTF-8.
+/// Whether each text of the attributes and declarations is UTF-8.
 pub fn parts_have_text(parts: &[u8]) -> bool
     requires { AreParts parts.now }
     ensures { result ≡ list_all spec.attribute_is_text (parts_of parts.now) }
@@ -256,8 +257,8 @@ pub fn parts_have_text(parts: &[u8]) -> bool
     true
 }
 
-// An attribute, where others come behind it: a text of them that isn't UTF-8 goes before a wrong
-// value.
+// An attribute, after which others come: a text of these that isn't UTF-8 is reported before a
+// wrong value of it.
 fn attribute_before(alloc: Global, part: &AttributePart, rest: &[u8]) -> Result<AttrNode, NodeFault>
     requires sound { IsSoundAttribute part.now }
     requires rest { AreParts rest.now }
@@ -324,7 +325,7 @@ fn array(alloc: Global, part: &ArrayPart) -> Result<ArrayNode, NodeFault>
     })
 }
 
-/// The node of an element.
+/// The node of an element. It fails with `BadUtf8`, or without memory.
 #[inline(always)]
 #[tactic(auto, unfolding(crate::specs::Contents::contents))]
 pub fn element_node(alloc: Global, part: &NamedPart) -> Result<Node, NodeFault>
@@ -336,7 +337,8 @@ pub fn element_node(alloc: Global, part: &NamedPart) -> Result<Node, NodeFault>
     })
 }
 
-/// The node of an attribute with these parts.
+/// The node of an attribute with these parts. It fails with `BadUtf8` or `BadValue`, or without
+/// memory.
 #[inline(always)]
 #[tactic(auto, unfolding(crate::specs::Contents::contents))]
 pub fn attribute_node(
@@ -356,7 +358,7 @@ pub fn attribute_node(
     })
 }
 
-/// The node of a declaration with these parts.
+/// The node of a declaration with these parts. It fails with `BadUtf8`, or without memory.
 #[inline(always)]
 #[tactic(auto, unfolding(crate::specs::Contents::contents))]
 pub fn declaration_node(
@@ -373,7 +375,8 @@ pub fn declaration_node(
     })
 }
 
-/// The node of a text whose bytes are to be UTF-8.
+/// The node of a text whose bytes are characters in UTF-8. It fails with `BadUtf8` where they
+/// aren't, or without memory.
 #[inline(always)]
 #[tactic(auto, unfolding(crate::specs::Contents::contents))]
 pub fn chars_node(
@@ -392,7 +395,8 @@ pub fn chars_node(
     })
 }
 
-/// The node of a text.
+/// The node of a text, and of the end of the element that holds it if `ends`. It fails with
+/// `BadUtf8` or `BadValue`, or without memory.
 #[inline(always)]
 #[tactic(auto, unfolding(crate::specs::Contents::contents))]
 pub fn text_node(alloc: Global, part: &ValuePart, ends: bool) -> Result<Node, NodeFault>
@@ -405,7 +409,7 @@ pub fn text_node(alloc: Global, part: &ValuePart, ends: bool) -> Result<Node, No
     })
 }
 
-/// The node of a whole record.
+/// The node of a complete record. It fails with `BadUtf8` or `BadValue`, or without memory.
 #[tactic(auto, unfolding(crate::specs::Contents::contents))]
 pub fn node(alloc: Global, part: &RecordPart) -> Result<Node, NodeFault>
     requires { IsSoundRecord part.now }

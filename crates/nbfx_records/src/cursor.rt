@@ -1,5 +1,5 @@
-//! The smallest parts of a record, each read from an offset on: it is complete up to another one,
-//! or it is wrong, or the bytes end within it.
+//! The smallest parts of a record. Each function reads one from an offset on, and answers it with
+//! the offset after it; or it says that the bytes end within the part, or what is wrong with it.
 
 ghost use Rattle.std.specs.Prelude.{◌≡◌, ◌^◌, ◌<◌, ◌≤◌, IfOk, length};
 ghost use Rattle.unit_streams.specs.Parts.{a_byte, some_bytes};
@@ -10,16 +10,16 @@ ghost use Rattle.nbfx_records.specs.Shapes.{a_string, an_integer};
 use crate::nodes::RecordFault;
 use multibyte_ints::{IntReader, IntStep};
 
-/// Why a part is incomplete.
+/// Why no complete part was read.
 #[derive(Clone, Copy, Debug, PartialEq, Eq)]
 pub enum Stop {
-    /// The bytes end within it: so many in all are wanted at least.
+    /// The bytes end within it. So many bytes in all are wanted at least.
     More { wants: usize },
-    /// So many bytes show what is wrong with it.
+    /// It is wrong, which the first `shown_by` bytes show.
     Fault { fault: RecordFault, shown_by: usize },
 }
 
-/// So many bytes show this fault.
+/// The error that so many bytes show this fault.
 #[inline(always)]
 pub fn fault<T>(fault: RecordFault, shown_by: usize) -> Result<T, Stop>
     ensures { result ≡ Err (Stop.Fault fault shown_by) }
@@ -27,7 +27,7 @@ pub fn fault<T>(fault: RecordFault, shown_by: usize) -> Result<T, Stop>
     Err(Stop::Fault { fault, shown_by })
 }
 
-/// A byte.
+/// Reads a byte.
 #[inline(always)]
 pub fn byte_at(bytes: &[u8], at: usize) -> Result<(u8, usize), Stop>
     requires { at ≤ length bytes.now }
@@ -39,7 +39,7 @@ pub fn byte_at(bytes: &[u8], at: usize) -> Result<(u8, usize), Stop>
     Ok((bytes[at], at + 1))
 }
 
-/// So many bytes.
+/// Reads `count` bytes.
 #[inline(always)]
 pub fn bytes_at(bytes: &[u8], at: usize, count: usize) -> Result<(&[u8], usize), Stop>
     requires within { at ≤ length bytes.now }
@@ -55,7 +55,7 @@ pub fn bytes_at(bytes: &[u8], at: usize, count: usize) -> Result<(&[u8], usize),
     Ok((&bytes[at..to], to))
 }
 
-/// An integer. Most have one byte.
+/// Reads a MultiByteInt31. Most have one byte.
 #[inline(always)]
 pub fn integer_at(bytes: &[u8], from: usize) -> Result<(u32, usize), Stop>
     requires { from ≤ length bytes.now }
@@ -95,7 +95,7 @@ fn any_integer_at(bytes: &[u8], from: usize) -> Result<(u32, usize), Stop>
     })
 }
 
-/// A string, whose text isn't judged.
+/// Reads a String, whose text isn't judged.
 #[inline(always)]
 pub fn string_at(bytes: &[u8], from: usize) -> Result<(&[u8], usize), Stop>
     requires { from ≤ length bytes.now }

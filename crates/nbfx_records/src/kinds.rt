@@ -1,6 +1,6 @@
-//! The type bytes of records.
+//! What the type bytes of MC-NBFX's records begin.
 
-/// A text record's kind, by the name that MC-NBFX gives it.
+/// The kind of a text record: its name in MC-NBFX is the variant's with `Text` after it.
 #[derive(Clone, Copy, Debug, PartialEq, Eq)]
 pub enum TextKind {
     Zero,
@@ -36,65 +36,74 @@ pub enum TextKind {
     QNameDictionary,
 }
 
-/// How a record spells a prefix.
+/// How a record spells its prefix.
 #[derive(Clone, Copy, Debug, PartialEq, Eq)]
 pub enum PrefixForm {
-    /// There is none.
+    /// It has no prefix.
     Unprefixed,
-    /// This letter.
+    /// The type byte implies a prefix of one letter, which is this one in ASCII.
     Lettered(u8),
-    /// A string.
+    /// The prefix is a String.
     Prefixed,
 }
 
-/// How a record spells a name.
+/// How a record spells its name, or its URI.
 #[derive(Clone, Copy, Debug, PartialEq, Eq)]
 pub enum NameForm {
-    /// A string.
+    /// As a String.
     Inlined,
-    /// An identifier.
+    /// As a DictionaryString, which is an identifier.
     Identified,
 }
 
 /// What a type byte begins.
 #[derive(Clone, Copy, Debug, PartialEq, Eq)]
 pub enum RecordKind {
+    /// EndElement.
     EndElement,
+    /// Comment.
     Comment,
+    /// Array.
     Array,
+    /// An attribute, by the forms of its prefix and its name.
     Attribute(PrefixForm, NameForm),
+    /// The declaration of a prefix (an Xmlns record), by the forms of the prefix and the URI.
     Declaration(PrefixForm, NameForm),
+    /// An element, by the forms of its prefix and its name.
     Element(PrefixForm, NameForm),
     /// A text of this kind, and whether it ends the element that holds it.
     Text(TextKind, bool),
 }
 
-/// How many bytes a length has.
+/// How many bytes the length of a text has.
 #[derive(Clone, Copy, Debug, PartialEq, Eq)]
 pub enum LengthForm {
+    /// One, unsigned: Chars8, Bytes8, UnicodeChars8.
     OneByte,
+    /// Two, unsigned: Chars16, Bytes16, UnicodeChars16.
     TwoBytes,
+    /// Four, signed and not negative: Chars32, Bytes32, UnicodeChars32.
     FourBytes,
 }
 
-/// What follows the type byte of a text.
+/// What follows the type byte of a text record.
 #[derive(Clone, Copy, Debug, PartialEq, Eq)]
 pub enum Body {
     /// So many bytes.
     Fixed(u8),
-    /// A length, and as many bytes as it says.
+    /// A length in this form, and as many bytes as it says.
     Counted(LengthForm),
     /// An identifier.
     Named,
     /// A letter and an identifier.
     Qualified,
-    /// Texts, and an end.
+    /// Text records, and then the end of the list.
     Listed,
-    /// Nothing: it ends a list.
+    /// Nothing: it is itself the end of a list.
     Ending,
 }
 
-/// The kinds in the order of their type bytes, which are the even ones from 80 on.
+/// The kinds in the order of their type bytes, which are the even ones from 0x80 on.
 pub const TEXT_KINDS: [TextKind; 31] = [
     TextKind::Zero,
     TextKind::One,

@@ -14,17 +14,18 @@ pub fn record_fronts()
     ensures nothing { NothingIsBegun }
 {}
 
-/// The records that are read are those that the bytes are, where they may stand. No record begins a
-/// longer one, wherever they stand, and none is two. A record of bytes is one of a valid node.
+/// What is read as a record is one by the table of records, and the other way round, where it may
+/// stand. No record is the beginning of a longer one, wherever they stand, and no bytes are two
+/// records. A record that is read is one of a valid node.
 pub fn records()
     ensures read { RecordsAreRead }
     ensures none_goes_on { NoRecordGoesOn }
     ensures valid { RecordsAreValid }
 {}
 
-/// Bytes are no record that may stand there by a type byte, a number or a length, each of which
-/// shows what is wrong where it comes; or by a text of the whole record that isn't UTF-8; or, where
-/// all are, by a value that is none of its kind.
+/// Bytes are refused as a record by a type byte, a number or a length, each of which shows what is
+/// wrong where it comes; or by a text of the complete record that isn't UTF-8; or, where all its
+/// texts are, by a value that isn't one of its kind.
 pub fn faults()
     ensures by_part { WrongByPart }
     ensures bad_utf8 { WrongByText }
@@ -39,11 +40,11 @@ pub fn written()
     ensures shortest { ChosenIsShortest }
 {}
 
-/// What a node says where a string table is given is at most one list of items. There is none
-/// exactly where one of its identifiers names no string. Where the table's strings are text, the
-/// items of a valid node are valid. What a node says stays where strings are appended. A node that
-/// says valid items may be written where their content and its identifiers have 31 bits, and it has
-/// an identifier for each QName.
+/// Where a string table is given, a node means at most one list of items, and none exactly where
+/// one of its identifiers names no string. If the table's strings are UTF-8, the items of a valid
+/// node are valid. What a node means stays the same when strings are appended. A node that means
+/// valid items may be written where their content and its identifiers have 31 bits, and it has an
+/// identifier for each QName.
 pub fn meanings()
     ensures found { MeaningsAreFound }
     ensures unnamed { NothingWithoutNames }

@@ -17,16 +17,18 @@ use crate::type_bytes::record_kind;
 /// What a list is the value of.
 #[derive(Clone, Copy, Debug, PartialEq, Eq)]
 pub enum ListHolder {
-    /// A text: the list's end may end the element that holds it.
+    /// A text in an element's content: the list's end may also end the element.
     Text,
+    /// An attribute.
     Attribute,
 }
 
-/// One value of a list, or its end.
+/// What comes next in a list.
 #[derive(Clone, Copy, Debug)]
 pub enum ListTurn<'a> {
+    /// One of its values.
     Value(ScalarPart<'a>),
-    /// And whether the element that holds the list ends.
+    /// Its end, and whether that also ends the element that holds the list.
     End(bool),
 }
 
@@ -89,7 +91,7 @@ fn turn_of(
     }
 }
 
-/// One value of a list, or its end, with its type byte.
+/// Reads one value of a list, or its end, from its type byte on.
 pub fn list_turn_at(
     holder: ListHolder,
     bytes: &[u8],
@@ -103,15 +105,16 @@ pub fn list_turn_at(
     turn_of(holder, record_kind(byte), bytes, at)
 }
 
-/// A list after its type byte: its bytes with those of its end, and whether the element that holds
-/// it ends.
+/// A list after its type byte.
 #[derive(Clone, Copy, Debug)]
 pub struct ListPart<'a> {
+    /// Its bytes, with those of its end.
     pub bytes: &'a [u8],
+    /// Whether its end also ends the element that holds it.
     pub closes: bool,
 }
 
-/// A list after its type byte. What was seen of it is kept in `resume`.
+/// Reads a list after its type byte. How far it was scanned is read from `resume` and noted there.
 #[inline(never)]
 pub fn list_at<'a>(
     holder: ListHolder,

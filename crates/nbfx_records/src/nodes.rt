@@ -1,4 +1,4 @@
-//! What records say, with each identifier as its number.
+//! What the records of MC-NBFX say, with each identifier as its number.
 
 ghost use Rattle.std.specs.Prelude.{◌≡◌};
 
@@ -9,24 +9,25 @@ use unit_streams::Memory;
 /// A name or a URI, as a record has it.
 #[derive(Debug, Drop)]
 pub enum NameRef {
-    /// Its characters stand in the record.
+    /// Its characters, which stand in the record.
     Inline(Txt),
-    /// It is the string that this identifier names.
+    /// The identifier of the string that it is.
     Id(u32),
 }
 
 /// One value of a text record.
 #[derive(Debug, Drop)]
 pub enum RawScalar {
-    /// A value that names no string; it is no QName.
+    /// A value that names no string. It isn't a QName.
     Known(Scalar),
-    /// The text that this identifier names.
+    /// The identifier of a text.
     Dictionary(u32),
-    /// A QName: the number of its prefix's letter, of which 0 is a, and the identifier of its name.
+    /// A QName: the number of its prefix's letter, from 0 for a, and the identifier of its local
+    /// name.
     QName(u8, u32),
 }
 
-/// Values of a list.
+/// The values of a list.
 pub type RawValues = Sequence<RawScalar>;
 
 /// The value of a text record.
@@ -66,9 +67,9 @@ pub struct ArrayNode {
     pub name: NameRef,
     /// Its declarations and attributes, in their order.
     pub attrs: AttrNodes,
-    /// Which values there are.
+    /// What all the values are.
     pub kind: ArrayKind,
-    /// One or more of that kind.
+    /// One or more values of that kind.
     pub values: Values,
 }
 
@@ -120,31 +121,32 @@ pub enum NodePlace {
     AfterRoot,
 }
 
-/// What is wrong with a record, as its bytes show.
+/// What is wrong with a record.
 #[derive(Clone, Copy, Debug, PartialEq, Eq)]
 pub enum RecordFault {
-    /// No record begins with its type byte.
+    /// Its type byte begins no record.
     UnknownNode,
-    /// Its record may not stand here.
+    /// It may not stand here.
     OutOfPlace,
-    /// The document has ended.
+    /// The root has ended, so no record may follow.
     TrailingBytes,
-    /// As many elements are open as may be.
+    /// It begins one element more than may be open.
     TooDeep,
-    /// An integer's fifth byte is above 7, or a length of four bytes is negative.
+    /// A fifth byte of an integer is above 7, or a length of four bytes is negative.
     BadInt,
-    /// An array isn't made of an element, its attributes, a listed type and one value or more.
+    /// The array isn't an element, its attributes, a type that arrays may have, and one value or
+    /// more.
     BadArray,
     /// A text isn't UTF-8.
     BadUtf8,
-    /// A value's bytes are none of its kind.
+    /// The bytes of a value aren't one of its kind.
     BadValue,
 }
 
-/// Why no node is read.
+/// Why a record isn't read as a node.
 #[derive(Clone, Copy, Debug, PartialEq, Eq)]
 pub enum NodeFault {
-    /// This is wrong with its record.
+    /// The record is refused.
     Record(RecordFault),
     /// Out of memory.
     Memory,

@@ -15,36 +15,42 @@ use crate::type_bytes::body;
 /// A prefix.
 #[derive(Clone, Copy, Debug)]
 pub enum PrefixPart<'a> {
+    /// One letter, in ASCII.
     Letter(u8),
+    /// The bytes of a String.
     Text(&'a [u8]),
 }
 
 /// A name or a URI.
 #[derive(Clone, Copy, Debug)]
 pub enum NamePart<'a> {
+    /// The bytes of a String.
     Inline(&'a [u8]),
+    /// An identifier.
     Id(u32),
 }
 
-/// A prefix and a name.
+/// The prefix and the name of an element.
 #[derive(Clone, Copy, Debug)]
 pub struct NamedPart<'a> {
+    /// Its prefix.
     pub prefix: PrefixPart<'a>,
+    /// Its local name.
     pub name: NamePart<'a>,
 }
 
 /// One value.
 #[derive(Clone, Copy, Debug)]
 pub enum ScalarPart<'a> {
-    /// The bytes of a kind.
+    /// The bytes of a value of this kind.
     Bytes(TextKind, &'a [u8]),
-    /// The text that an identifier names.
+    /// The identifier of a text.
     Named(u32),
-    /// A letter, and the name that an identifier names.
+    /// A QName: the byte of its letter, which isn't judged, and the identifier of its local name.
     Qualified(u8, u32),
 }
 
-/// A prefix in this form.
+/// Reads a prefix in this form.
 #[inline(always)]
 pub fn prefix_at(form: PrefixForm, bytes: &[u8], at: usize) -> Result<(PrefixPart<'_>, usize), Stop>
     requires { at ≤ length bytes.now }
@@ -60,7 +66,7 @@ pub fn prefix_at(form: PrefixForm, bytes: &[u8], at: usize) -> Result<(PrefixPar
     }
 }
 
-/// A name in this form.
+/// Reads a name in this form.
 #[inline(always)]
 pub fn name_at(form: NameForm, bytes: &[u8], at: usize) -> Result<(NamePart<'_>, usize), Stop>
     requires { at ≤ length bytes.now }
@@ -78,7 +84,7 @@ pub fn name_at(form: NameForm, bytes: &[u8], at: usize) -> Result<(NamePart<'_>,
     }
 }
 
-/// What follows the type byte of an element in these forms.
+/// Reads what follows the type byte of an element whose prefix and name have these forms.
 #[inline(always)]
 pub fn element_at(
     prefix: PrefixForm,
@@ -126,7 +132,7 @@ fn length_said(form: LengthForm, said: &[u8]) -> Option<usize>
     }
 }
 
-/// A length in this form.
+/// Reads a length in this form.
 #[inline(always)]
 pub fn length_at(form: LengthForm, bytes: &[u8], at: usize) -> Result<(usize, usize), Stop>
     requires { at ≤ length bytes.now }
@@ -165,7 +171,7 @@ fn qualified_at(bytes: &[u8], at: usize) -> Result<(ScalarPart<'_>, usize), Stop
     Ok((ScalarPart::Qualified(letter, id), at))
 }
 
-/// What follows the type byte of one value of this kind.
+/// Reads what follows the type byte of a text of this kind, which is no list.
 #[inline(always)]
 pub fn scalar_at(kind: TextKind, bytes: &[u8], at: usize) -> Result<(ScalarPart<'_>, usize), Stop>
     requires { at ≤ length bytes.now }

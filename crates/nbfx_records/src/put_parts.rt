@@ -1,4 +1,5 @@
-//! The parts of a record at the end of some bytes: type bytes, numbers, strings, texts.
+//! Appends the parts of a record: type bytes, numbers, strings, texts. Without memory a call fails,
+//! and may leave first bytes of the part.
 
 ghost use Rattle.std.specs.Prelude.{◌≡◌, ◌∷◌, ◌++◌, [], ◌<◌, ◌^◌, IsTrue, length};
 ghost use Rattle.std.specs.Int.{byte_len};
@@ -21,7 +22,7 @@ pub fn put_byte(byte: u8, out: &mut Vec<u8>) -> Result<(), Memory>
     Ok(())
 }
 
-/// Appends some bytes.
+/// Appends these bytes.
 pub fn put_bytes(bytes: &[u8], out: &mut Vec<u8>) -> Result<(), Memory>
     ensures { Puts result out.old.items out.new.items bytes.now }
 {
@@ -29,7 +30,7 @@ pub fn put_bytes(bytes: &[u8], out: &mut Vec<u8>) -> Result<(), Memory>
     Ok(())
 }
 
-/// Appends the shortest spelling of an integer.
+/// Appends a MultiByteInt31 in its shortest spelling.
 pub fn put_integer(number: u32, out: &mut Vec<u8>) -> Result<(), Memory>
     requires { number < 2 ^ 31 }
     ensures { Puts result out.old.items out.new.items (shortest number) }
@@ -39,7 +40,7 @@ pub fn put_integer(number: u32, out: &mut Vec<u8>) -> Result<(), Memory>
     put_bytes(&spelling[..used], out)
 }
 
-/// Appends a string.
+/// Appends a String of MC-NBFX: the length of the text and the text.
 pub fn put_string(text: &str, out: &mut Vec<u8>) -> Result<(), Memory>
     requires { length text.now < 2 ^ 31 }
     ensures { Puts result out.old.items out.new.items (string_bytes_of text.now) }
@@ -47,7 +48,7 @@ pub fn put_string(text: &str, out: &mut Vec<u8>) -> Result<(), Memory>
     multibyte_ints::put_string(text, out)
 }
 
-/// Appends a string of these bytes, which are text where the string is to be read.
+/// Appends a String of these bytes, which have to be UTF-8 if it is to be read.
 pub fn put_raw_string(text: &[u8], out: &mut Vec<u8>) -> Result<(), Memory>
     requires { length text.now < 2 ^ 31 }
     ensures { Puts result out.old.items out.new.items (string_bytes_of text.now) }
@@ -56,7 +57,7 @@ pub fn put_raw_string(text: &[u8], out: &mut Vec<u8>) -> Result<(), Memory>
     put_bytes(text, out)
 }
 
-/// Appends the type byte of a record.
+/// Appends the type byte of a record of this kind.
 pub fn put_kind(kind: RecordKind, out: &mut Vec<u8>) -> Result<(), Memory>
     requires { IsTrue (is_kind kind) }
     ensures { Puts result out.old.items out.new.items (byte_of kind ∷ []) }

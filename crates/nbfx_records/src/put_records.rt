@@ -20,7 +20,7 @@ use crate::type_bytes::text_kind_in;
 use nbfx_values::{ArrayKind, Scalar};
 use unit_streams::Memory;
 
-// How a prefix is told where letters have forms of their own.
+// The form of a prefix, in a record that has forms for single letters.
 fn prefix_form(prefix: &str) -> PrefixForm
     ensures { result ≡ spec.prefix_form prefix.now }
 {
@@ -31,7 +31,7 @@ fn prefix_form(prefix: &str) -> PrefixForm
     }
 }
 
-// How a declared one is told.
+// The form of a declared prefix.
 fn declared_form(prefix: &str) -> PrefixForm
     ensures { result ≡ spec.declared_form prefix.now }
 {
@@ -42,7 +42,7 @@ fn declared_form(prefix: &str) -> PrefixForm
     }
 }
 
-// How a name is told.
+// The form of a name.
 fn name_form(name: NamePart<'_>) -> NameForm
     ensures { result ≡ form_of (name_seen name.entry) }
 {
@@ -92,8 +92,8 @@ fn put_named(
     put_name(name, out)
 }
 
-/// Appends the record that begins an element: its type byte, its prefix and its name. The empty
-/// prefix means none.
+/// Appends the record of MC-NBFX that begins an element: its type byte, its prefix and its name.
+/// The empty prefix means none.
 pub fn put_element(prefix: &str, name: NamePart<'_>, out: &mut Vec<u8>) -> Result<(), Memory>
     requires { IsTrue (fit_names prefix.now (name_seen name)) }
     ensures { Puts result out.old.items out.new.items
@@ -104,7 +104,7 @@ pub fn put_element(prefix: &str, name: NamePart<'_>, out: &mut Vec<u8>) -> Resul
     put_named(kind, form, prefix, name, out)
 }
 
-/// Appends the record of a declaration: its type byte, the prefix and the URI.
+/// Appends an Xmlns record: its type byte, the prefix and the URI.
 pub fn put_declaration(prefix: &str, uri: NamePart<'_>, out: &mut Vec<u8>) -> Result<(), Memory>
     requires { IsTrue (fit_names prefix.now (name_seen uri)) }
     ensures { Puts result out.old.items out.new.items
@@ -115,8 +115,8 @@ pub fn put_declaration(prefix: &str, uri: NamePart<'_>, out: &mut Vec<u8>) -> Re
     put_named(kind, form, prefix, uri, out)
 }
 
-/// Appends an attribute's type byte, its prefix and its name. Its value, which doesn't end an
-/// element, follows them.
+/// Appends an attribute's type byte, its prefix and its name. Its value has to follow, which ends
+/// no element.
 pub fn put_attribute_start(
     prefix: &str,
     name: NamePart<'_>,
@@ -131,7 +131,7 @@ pub fn put_attribute_start(
     put_named(kind, form, prefix, name, out)
 }
 
-/// Appends the record of a comment.
+/// Appends a Comment record.
 pub fn put_comment(text: &str, out: &mut Vec<u8>) -> Result<(), Memory>
     requires { IsTrue (is_short text.now) }
     ensures { Puts result out.old.items out.new.items (spec.comment_bytes text.now) }
@@ -140,15 +140,15 @@ pub fn put_comment(text: &str, out: &mut Vec<u8>) -> Result<(), Memory>
     put_string(text, out)
 }
 
-/// Appends the record that ends an element.
+/// Appends an EndElement record.
 pub fn put_end_element(out: &mut Vec<u8>) -> Result<(), Memory>
     ensures { Puts result out.old.items out.new.items spec.end_bytes }
 {
     put_kind(RecordKind::EndElement, out)
 }
 
-/// Appends the type byte of an array. Its element, that element's declarations and attributes, and
-/// its values follow it.
+/// Appends the type byte of an Array record. Its element, that one's declarations and attributes,
+/// and its values have to follow.
 pub fn put_array_start(out: &mut Vec<u8>) -> Result<(), Memory>
     ensures { Puts result out.old.items out.new.items spec.array_start }
 {
@@ -175,7 +175,7 @@ fn put_cell(kind: ArrayKind, value: &Scalar, out: &mut Vec<u8>) -> Result<(), Me
     }
 }
 
-// Appends the values of an array, one behind the other.
+// Appends the values of an array, one after the other.
 fn put_cells(kind: ArrayKind, values: &[Scalar], out: &mut Vec<u8>) -> Result<(), Memory>
     requires { IsTrue (list_all (fits_kind kind) values.now) }
     ensures { Puts result out.old.items out.new.items (flat_map (spec.cell_bytes kind) values.now) }
@@ -186,8 +186,8 @@ fn put_cells(kind: ArrayKind, values: &[Scalar], out: &mut Vec<u8>) -> Result<()
     Ok(())
 }
 
-/// Appends the end of an array's attributes, the type byte of its values, their number and the
-/// values.
+/// Appends the rest of an Array record: the end of its attributes, the type byte of its values,
+/// their number and the values.
 pub fn put_array_values(kind: ArrayKind, values: &[Scalar], out: &mut Vec<u8>) -> Result<(), Memory>
     requires valid { IsTrue (list_all (fits_kind kind) values.now) }
     requires fits { length values.now < 2 ^ 31 }

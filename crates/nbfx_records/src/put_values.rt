@@ -22,11 +22,12 @@ use unit_streams::Memory;
 /// One value as a writer spells it.
 #[derive(Clone, Copy, Debug)]
 pub enum ScalarChoice<'a> {
-    /// The value itself; it is no QName.
+    /// The value itself, which isn't a QName.
     Known(&'a Scalar),
-    /// The text that an identifier names.
+    /// The identifier of a text.
     Named(u32),
-    /// A QName: the number of its prefix's letter, of which 0 is a, and the identifier of its name.
+    /// A QName: the number of its prefix's letter, from 0 for a, and the identifier of its local
+    /// name.
     Qualified(u8, u32),
 }
 
@@ -128,7 +129,7 @@ fn binary(form: LengthForm) -> TextKind
     }
 }
 
-// Appends a text that stands there.
+// Appends a text by its characters.
 fn put_characters(text: &str, ends: bool, out: &mut Vec<u8>) -> Result<(), Memory>
     requires { length text.now < 2 ^ 31 }
     ensures { Puts result out.old.items out.new.items
@@ -160,7 +161,7 @@ fn sign(negative: bool) -> u8
     if negative { 128 } else { 0 }
 }
 
-/// Appends what follows the type byte of a decimal.
+/// Appends the 16 bytes of a DecimalText after its type byte.
 pub fn put_decimal(decimal: &Dec, out: &mut Vec<u8>) -> Result<(), Memory>
     requires { IsTrue (is_valid_scalar (Scalar.Decimal decimal.now)) }
     ensures { Puts result out.old.items out.new.items (spec.decimal_body decimal.now) }
@@ -202,8 +203,8 @@ fn put_known(value: &Scalar, ends: bool, out: &mut Vec<u8>) -> Result<(), Memory
     }
 }
 
-/// Appends the record of one value, which may end the element that holds it. A text may go by the
-/// identifier of a string, and a QName goes by that of its name.
+/// Appends the text record of one value. If `ends`, it is the record that also ends the element
+/// that holds the text.
 pub fn put_scalar(value: ScalarChoice<'_>, ends: bool, out: &mut Vec<u8>) -> Result<(), Memory>
     requires valid { IsTrue (is_valid_raw (choice_seen value)) }
     requires fits { IsTrue (fits_raw (choice_seen value)) }
@@ -223,21 +224,22 @@ pub fn put_scalar(value: ScalarChoice<'_>, ends: bool, out: &mut Vec<u8>) -> Res
     }
 }
 
-/// Appends the record that begins a list. Its values follow it, none of which ends an element.
+/// Appends a StartListText record. The values of the list have to follow, none of which ends an
+/// element, and then its end.
 pub fn put_list_start(out: &mut Vec<u8>) -> Result<(), Memory>
     ensures { Puts result out.old.items out.new.items spec.list_start }
 {
     put_kind(RecordKind::Text(TextKind::StartList, false), out)
 }
 
-/// Appends the record that ends a list, and may end the element that holds it.
+/// Appends an EndListText record. If `ends`, it also ends the element that holds the list.
 pub fn put_list_end(ends: bool, out: &mut Vec<u8>) -> Result<(), Memory>
     ensures { Puts result out.old.items out.new.items (spec.list_end ends) }
 {
     put_kind(RecordKind::Text(TextKind::EndList, ends), out)
 }
 
-// The same value, what it holds borrowed.
+// The same value, borrowed.
 fn choice_of(value: &RawScalar) -> ScalarChoice<'_>
     ensures { choice_seen result ≡ value.now }
 {
@@ -261,7 +263,7 @@ fn put_scalars(values: &[RawScalar], out: &mut Vec<u8>) -> Result<(), Memory>
     Ok(())
 }
 
-/// Appends a text, which may end the element that holds it.
+/// Appends a text: one value, or a list. If `ends`, it also ends the element that holds the text.
 pub fn put_value(value: &RawValue, ends: bool, out: &mut Vec<u8>) -> Result<(), Memory>
     requires valid { IsTrue (is_valid_text value.now) }
     requires fits { IsTrue (fits_text value.now) }

@@ -13,7 +13,7 @@ use crate::nodes::{Node, NodeFault, NodePlace};
 use crate::records::parts_at;
 use std::alloc::Global;
 
-/// What a piece led to.
+/// What a piece has completed.
 #[derive(Debug, Drop)]
 pub enum NodeStep {
     /// No record is complete yet.
@@ -22,8 +22,8 @@ pub enum NodeStep {
     Done(Node),
 }
 
-/// Reads records, one after the other, in whatever pieces their bytes come. It holds the bytes of
-/// the record that has begun, and within a call no others.
+/// Reads the records of MC-NBFX, one after the other, in whatever pieces their bytes come. It holds
+/// the bytes of the incomplete record, and within a call no others.
 #[derive(Drop)]
 pub struct NodeReader {
     alloc: Global,
@@ -50,10 +50,10 @@ impl NodeReader {
     }
 
     /// Reads on with a piece, up to the byte that completes a record, and answers how many bytes of
-    /// the piece it used, and the node of the record. Where none is complete yet it has used them
-    /// all. A record that may not stand at this place is a fault; `place` is to be the same for all
-    /// pieces of one record. After a fault, and after running out of memory, it holds no bytes, and
-    /// the answer is the same from then on.
+    /// the piece it used, and the node of the record. Where no record is complete it has used all.
+    /// `place` says which records may stand here, and has to be the same for all pieces of one
+    /// record. It fails at the first byte that shows a fault, or without memory; from then on it
+    /// holds no bytes and fails in the same way.
     pub fn feed(&mut self, piece: &[u8], place: NodePlace) -> Result<(usize, NodeStep), NodeFault>
         requires { failure_of self.old ≡ None → node_at place (begun_of self.old) ≡ begun }
         ensures answers { failure_of self.old ≡ None
@@ -80,7 +80,7 @@ impl NodeReader {
         }
     }
 
-    /// How many bytes there are of the record that has begun.
+    /// How many bytes of the incomplete record it holds.
     pub fn pending(&self) -> u64
         ensures { result ≡ length (begun_of self.now) }
     {
@@ -126,7 +126,7 @@ impl NodeReader {
         }
     }
 
-    // Reads on the record that has begun, of which no more is kept than is wanted.
+    // Reads on the incomplete record, of which no more is kept than it needs.
     fn take_on(&mut self, piece: &[u8], place: NodePlace) -> Result<(usize, NodeStep), NodeFault>
         requires { node_at place self.old.begun ≡ begun }
         ensures answers { FeedAnswers place self.old.begun piece.now result }
@@ -146,7 +146,7 @@ impl NodeReader {
         Ok((used, NodeStep::More))
     }
 
-    // Of bytes that come, those that the record wants which has begun, and one at least.
+    // The first of these bytes, as many as the incomplete record still needs at least, or one.
     fn wanted<'a>(&self, bytes: &'a [u8]) -> &'a [u8]
         requires { 0 < length bytes.now }
         ensures { result.now ≡ take (min (max (self.now.wants - length self.now.begun) 1)
@@ -156,7 +156,7 @@ impl NodeReader {
         &bytes[..wanted.min(bytes.len())]
     }
 
-    // Reads on the record that has begun, with all of the piece kept.
+    // Reads on the incomplete record, with all of the piece kept.
     fn read_on(&mut self, piece: &[u8], place: NodePlace) -> Result<(usize, NodeStep), NodeFault>
         requires { node_at place self.old.begun ≡ begun }
         ensures answers { FeedAnswers place self.old.begun piece.now result }

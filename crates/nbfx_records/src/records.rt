@@ -1,4 +1,4 @@
-//! The structure of a whole record, as slices of its bytes: nothing of a text or a value is judged.
+//! The structure of a complete record, as slices of its bytes: no text and no value is judged.
 
 ghost use Rattle.std.specs.Prelude.{◌≡◌, ◌≤◌, IfOk, length};
 ghost use Rattle.nbfx_records.specs.Asked as asked;
@@ -17,15 +17,20 @@ use crate::parts::{NamedPart, element_at, scalar_at};
 use crate::resume::Resume;
 use crate::type_bytes::record_kind;
 
-/// A record.
+/// A record of MC-NBFX, by its parts.
 #[derive(Clone, Copy, Debug)]
 pub enum RecordPart<'a> {
+    /// EndElement.
     EndElement,
+    /// Comment, by the bytes of its text.
     Comment(&'a [u8]),
+    /// An element's start.
     Element(NamedPart<'a>),
+    /// An attribute or a declaration.
     Attribute(AttributePart<'a>),
-    /// And whether the element that holds it ends.
+    /// A text, and whether the element that holds it ends with it.
     Text(ValuePart<'a>, bool),
+    /// Array.
     Array(ArrayPart<'a>),
 }
 
@@ -199,8 +204,8 @@ fn record_at<'a>(
     }
 }
 
-// Whether a record may come that opens an element, ends a list, or stands only behind an element's
-// start.
+// Why a record may not come within the root: an attribute or a declaration that doesn't follow an
+// element's start, the end of a list, or one element more than may be open.
 fn misplaced_within(attributes: bool, deeper: bool, kind: RecordKind) -> Option<RecordFault>
     ensures { result ≡ spec.misplaced (NodePlace.Within attributes deeper) kind }
 {
@@ -229,7 +234,7 @@ pub(crate) fn misplaced(place: NodePlace, kind: RecordKind) -> Option<RecordFaul
     }
 }
 
-// What follows a type byte, where the record may come that it begins.
+// What follows a type byte, if the record may come that it begins.
 #[inline(always)]
 fn placed<'a>(
     place: NodePlace,
@@ -258,8 +263,8 @@ fn placed<'a>(
     }
 }
 
-// The record at the front of the bytes, where it may come at this place. What was seen of one that
-// isn't whole is kept in `resume`.
+// The record at the front of the bytes, if it may come at this place. How far an incomplete one was
+// scanned is noted in `resume`.
 #[inline(always)]
 pub(crate) fn shape_at<'a>(
     place: NodePlace,
@@ -277,7 +282,8 @@ pub(crate) fn shape_at<'a>(
     placed(place, record_kind(byte), bytes, at, resume)
 }
 
-/// The parts of the record at the front of the bytes, where it may come at this place.
+/// The parts of the record at the front of the bytes, if it may stand at this place, and how many
+/// bytes it has. It fails where the record is incomplete or wrong.
 #[inline(always)]
 pub fn parts_at(place: NodePlace, bytes: &[u8]) -> Result<(RecordPart<'_>, usize), Stop>
     ensures tells { Tells record_seen (spec.shape_at place)

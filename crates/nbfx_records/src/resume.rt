@@ -1,6 +1,7 @@
-//! How far a record was seen to be whole, so that it needn't be looked at again from its beginning.
+//! How far a list or an array was seen to be complete, so that it isn't scanned again from its
+//! beginning.
 
-/// How far the bytes of a record that is incomplete were looked at: positions alone.
+/// How far the bytes of an incomplete record were scanned: offsets alone.
 #[derive(Clone, Copy, Debug)]
 pub struct Resume {
     // A list that begins here goes on there.
@@ -16,7 +17,7 @@ impl Resume {
     ghost use Rattle.nbfx_records.specs.Resuming.{Fits, Passes};
     ghost use Rattle.nbfx_records.specs.Shapes.{array_turn, list_turn};
 
-    /// Nothing was looked at.
+    /// Nothing was scanned.
     pub fn new() -> Resume
         ensures { (bytes : List ℕ) → Fits result bytes }
     {

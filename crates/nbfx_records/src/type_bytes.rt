@@ -105,7 +105,7 @@ fn lower_kind(byte: u8) -> Option<RecordKind>
     }
 }
 
-/// The record that a type byte begins.
+/// The kind of record that a type byte begins; None where it begins none.
 #[inline(always)]
 #[tactic(auto, unfolding(crate::specs::Kinds::record_kind))]
 pub fn record_kind(byte: u8) -> Option<RecordKind>
@@ -152,7 +152,7 @@ pub fn body(kind: TextKind) -> Body
     }
 }
 
-/// The text record that has one value of an array of this kind.
+/// The kind of the text record that has one value of an array of this kind.
 pub fn text_kind_in(kind: ArrayKind) -> TextKind
     ensures { result ≡ spec.text_kind_in kind }
 {
@@ -203,7 +203,8 @@ fn array_kind_of(kind: TextKind) -> Option<ArrayKind>
     }
 }
 
-/// The kind of an array's values, by the type byte before them.
+/// The kind of an array's values, by the type byte before them; None where no array has such
+/// values.
 pub fn array_kind(byte: u8) -> Option<ArrayKind>
     ensures { result ≡ spec.array_kind byte }
 {
@@ -213,7 +214,7 @@ pub fn array_kind(byte: u8) -> Option<ArrayKind>
     array_kind_of(text_kind(byte)?)
 }
 
-/// Whether a kind's bytes are to be UTF-8.
+/// Whether the bytes of a text of this kind are characters in UTF-8.
 pub fn is_chars(kind: TextKind) -> bool
     ensures { result ≡ contents.is_chars kind }
 {
@@ -230,7 +231,7 @@ fn text_byte(kind: TextKind) -> u8
     128 + 2 * (kind as u8)
 }
 
-/// The type byte of a record.
+/// The type byte of a record of this kind.
 pub fn type_byte(kind: RecordKind) -> u8
     requires { IsTrue (type_bytes.is_kind kind) }
     ensures { result ≡ type_bytes.byte_of kind }

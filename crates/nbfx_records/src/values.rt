@@ -1,4 +1,4 @@
-//! What the bytes of a text's kind say.
+//! The values that the bytes of text records are.
 
 ghost use Rattle.std.specs.Prelude.{◌≡◌, ◌<◌, ◌^◌, IfOk, drop, slice_index, true};
 ghost use Rattle.std.specs.Int.{from_le_bytes, w32, w64};
@@ -21,7 +21,7 @@ pub fn is_text(bytes: &[u8]) -> bool
     }
 }
 
-/// The text of bytes that are UTF-8.
+/// The text of these bytes. It fails with `BadUtf8` where they aren't UTF-8, or without memory.
 #[inline]
 pub fn text(alloc: Global, bytes: &[u8]) -> Result<Txt, NodeFault>
     ensures { Makes result (text_judged bytes.now) }
@@ -151,7 +151,8 @@ fn fixed(kind: TextKind, bytes: &[u8]) -> Option<Scalar>
     }
 }
 
-/// The value of a kind's bytes.
+/// The value of these bytes, of a text of this kind. It fails with `BadUtf8` or `BadValue` where
+/// they aren't one, or without memory.
 #[tactic(auto, unfolding(crate::specs::Contents::scalar_of))]
 pub fn known(alloc: Global, kind: TextKind, bytes: &[u8]) -> Result<Scalar, NodeFault>
     ensures { Makes result (known_judged kind bytes.now) }

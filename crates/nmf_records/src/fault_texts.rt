@@ -6,8 +6,8 @@ ghost use Rattle.nmf_records.specs.Writing.{fault_text_of};
 
 use nbfx_values::Reason;
 
-/// The text of the Fault record that says to the peer why its stream is refused (MC-NMF, 2.2.3.5),
-/// or None where no such text is there: then nothing is sent.
+/// The text of the Fault Record of MC-NMF that tells the peer why its stream is refused; None for a
+/// reason that has no such text, for which nothing is sent.
 pub fn fault_text(reason: Reason) -> Option<&'static str>
     ensures { option_copied result ≡ fault_text_of reason }
 {

@@ -1,5 +1,5 @@
-/// A framing record (MC-NMF, 2.2.3), or the size of a chunk. The text of a Via or a Fault stays in
-/// the reader.
+/// A framing record of MC-NMF, of an envelope its head, or the size of a chunk. The text of a Via
+/// or a Fault stays in the reader.
 #[derive(Clone, Copy, Debug, PartialEq, Eq)]
 pub enum Frame {
     /// Version Record.
@@ -12,7 +12,7 @@ pub enum Frame {
     KnownEncoding(u8),
     /// The head of an Unsized Envelope Record.
     UnsizedEnvelope,
-    /// The size of a chunk of an unsized envelope; 0 ends the envelope.
+    /// The size in bytes of a chunk of an Unsized Envelope Record; 0 ends the envelope.
     Chunk(u32),
     /// The head of a Sized Envelope Record, with the payload's size in bytes.
     SizedEnvelope(u32),
@@ -26,13 +26,11 @@ pub enum Frame {
     PreambleEnd,
 }
 
-/// What may come next.
-///
-/// Extensible Encoding, Upgrade Request and Upgrade Response have no frame, so they are unexpected
-/// everywhere.
+/// What may come next. Extensible Encoding, Upgrade Request and Upgrade Response Records have no
+/// [`Frame`], so they are unexpected everywhere.
 #[derive(Clone, Copy, Debug, PartialEq, Eq)]
 pub enum Expect {
-    /// A record of a type t whose bit, 1 << t, is set.
+    /// A record, if the bit of its type t, which is 1 << t, is set.
     Types(u16),
     /// The size of a chunk.
     Chunk,
@@ -47,12 +45,12 @@ pub enum FrameStep {
     Done(Frame),
 }
 
-/// Why bytes are no record that may come.
+/// Why bytes are refused where a record, or a chunk's size, was to come.
 #[derive(Clone, Copy, Debug, PartialEq, Eq)]
 pub enum FrameFault {
-    /// The type byte is none of `record_types`.
+    /// The type byte is above 0x0C, so no record of MC-NMF has it.
     UnknownRecord,
-    /// The type byte is this known one, which may not come.
+    /// The type byte is this one, of a record that may not come here.
     Unexpected(u8),
     /// The fifth byte of a size or of a text's length is above 0x07.
     BadInt,
@@ -62,9 +60,11 @@ pub enum FrameFault {
     TextNotUtf8,
 }
 
-/// A fault, and how many bytes of the record, or of the chunk's size, show it.
+/// The refusal of a record, or of a chunk's size.
 #[derive(Clone, Copy, Debug, PartialEq, Eq)]
 pub struct FrameRefusal {
+    /// What is wrong.
     pub fault: FrameFault,
+    /// How many bytes of the record, or of the chunk's size, show it.
     pub shown_by: usize,
 }

@@ -1,4 +1,4 @@
-//! The records that come with each message, where they are complete.
+//! The records that come with each message, read in one step where they are complete.
 
 ghost use Rattle.std.specs.Prelude.{◌≡◌, ℕ, List, [], ◌∷◌, IfSome, true, false};
 ghost use Rattle.unit_streams.specs.Front.{whole};
@@ -9,8 +9,9 @@ use crate::record_types::SIZED_ENVELOPE;
 use crate::stage;
 use multibyte_ints::{IntRead, read_int};
 
-/// The head of a sized envelope, or the size of a chunk, at the front of the bytes, and how many it
-/// has, if it may come and is complete.
+/// The head of a Sized Envelope Record, or the size of a chunk, at the front of the bytes, and how
+/// many bytes it has. None unless it may come and is complete: then
+/// [`FrameReader`](crate::FrameReader) says what the bytes are.
 pub fn head_at(bytes: &[u8], expect: Expect) -> Option<(Frame, usize)>
     ensures reads { IfSome result (λ head. (limit : ℕ)
         → frame_at limit expect bytes.now ≡ whole (bare head.0) head.1) }

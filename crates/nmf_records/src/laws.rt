@@ -14,23 +14,24 @@ pub fn record_fronts()
     ensures { (limit : ℕ) (expect : Expect) → ReadsFront (frame_at limit expect) }
 {}
 
-/// The records that are read are those that the bytes are, and no record begins a longer one.
+/// What a reader answers as a record is one by the table of records, and the other way round. No
+/// record is the beginning of a longer one.
 pub fn records()
     ensures read { RecordsAreRead }
     ensures none_goes_on { NoRecordGoesOn }
 {}
 
-/// A record that has only begun has at most five bytes more than the limit on a text. One that is
-/// complete has at most six more than the limit, and what is wrong shows within as many.
+/// The beginning of a record that isn't complete has at most five bytes more than the limit on a
+/// text, a complete record at most six more. What is wrong with a record shows within as many.
 pub fn record_lengths()
     ensures begun { BegunIsShort }
     ensures whole { WholeIsShort }
     ensures wrong { WrongIsShort }
 {}
 
-/// Bytes are no record that may come for five causes, one for each fault: a type byte above 0x0C, a
-/// known type byte that may not come, an integer whose fifth byte is above 0x07, a text's length
-/// above the limit, and a text that isn't UTF-8.
+/// Bytes are refused as a record for five causes, one for each fault: a type byte above 0x0C, the
+/// type byte of a record that may not come, an integer whose fifth byte is above 0x07, a text
+/// longer than the limit, and a text that isn't UTF-8.
 pub fn faults()
     ensures unknown_record { UnknownByType }
     ensures unexpected { UnexpectedByType }
@@ -39,7 +40,7 @@ pub fn faults()
     ensures text_not_utf8 { BadByText }
 {}
 
-/// What is written of a record is the record, and is read back as it, whatever follows.
+/// What is written of a record is that record, and is read back as it, whatever follows.
 pub fn writers()
     ensures written { WrittenAreRecords }
     ensures read { WrittenAreRead }

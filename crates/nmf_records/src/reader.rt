@@ -16,19 +16,19 @@ use crate::stage::{self, Progress, SizeRecord, Stage, TextRecord};
 use multibyte_ints::{IntReader, IntStep, Memory, StringReader};
 use std::alloc::Global;
 
-/// Reads records, one after the other, in whatever pieces their bytes come.
+/// Reads the records of MC-NMF, one after the other, in whatever pieces their bytes come.
 #[derive(Debug, Drop)]
 pub struct FrameReader {
     stage: Stage,
     size: IntReader,
     text: StringReader,
-    /// How many bytes there are of the record that is incomplete, or that a fault needed.
+    /// How many bytes of the incomplete record were read, or show the fault.
     pending: u32,
 }
 
 impl FrameReader {
-    /// A reader before the first byte, which takes texts of at most `limit` bytes. All its memory
-    /// is allocated here.
+    /// A reader before the first byte, which takes texts of at most `limit` bytes. It fails without
+    /// memory for such a text; no other call takes memory.
     pub fn new(alloc: Global, limit: u32) -> Result<FrameReader, Memory>
         ensures stands { IfOk result (λ reader. (expect : Expected) → StandsFor reader expect []) }
         ensures text { IfOk result (λ reader. ShowsText reader []) }
@@ -43,9 +43,9 @@ impl FrameReader {
     }
 
     /// Reads on with a piece, up to the byte that completes a record, and answers how many bytes it
-    /// used and whether the record is complete. `expect` says what may come, and is to be the same
-    /// for all pieces of one record. A fault is answered at the first byte that shows it, and from
-    /// then on.
+    /// used and whether the record is complete. `expect` says what may come, and has to be the same
+    /// for all pieces of one record. It fails at the first byte that shows a fault, and with the
+    /// same refusal from then on.
     pub fn feed(&mut self, piece: &[u8], expect: Expect) -> Result<(usize, FrameStep), FrameRefusal>
         ensures within { IfOk result (λ answer. answer.0 ≤ length piece.now) }
         ensures answers { (p : List ℕ) → StandsFor self.old expect p
@@ -103,15 +103,15 @@ impl FrameReader {
         Ok((used, FrameStep::More))
     }
 
-    /// The text of the last Via or Fault, and the empty one before it, while one is read, and where
-    /// one is wrong.
+    /// The text of the last Via or Fault Record. It is empty before the first one, while one is
+    /// read, and after one that was refused.
     pub fn text(&self) -> &str
         ensures { (s : List ℕ) → ShowsText self.now s → result.now ≡ s }
     {
         self.text.text()
     }
 
-    /// How many bytes there are of the record that is incomplete, or that a fault needed.
+    /// How many bytes of the incomplete record were read; after a refusal, how many show it.
     pub fn pending(&self) -> u32
         ensures counted { result ≡ pending_of self.now }
         ensures stands { (expect : Expected) (p : List ℕ) → StandsFor self.now expect p
@@ -122,7 +122,7 @@ impl FrameReader {
         self.pending
     }
 
-    /// How many bytes of text it holds.
+    /// How many bytes of a text it holds.
     pub fn held(&self) -> usize
         ensures counted { result ≡ held_of self.now }
         ensures within { result ≤ limit_of self.now }

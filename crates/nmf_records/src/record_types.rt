@@ -1,4 +1,4 @@
-//! The types of MC-NMF's records (2.2.3): the first byte of each.
+//! The record types of MC-NMF: the first byte of each record.
 
 /// Version Record.
 pub const VERSION: u8 = 0x00;
@@ -8,7 +8,7 @@ pub const MODE: u8 = 0x01;
 pub const VIA: u8 = 0x02;
 /// Known Encoding Record.
 pub const KNOWN_ENCODING: u8 = 0x03;
-/// Extensible Encoding Record, which has no frame here.
+/// Extensible Encoding Record, which is refused.
 pub const EXTENSIBLE_ENCODING: u8 = 0x04;
 /// Unsized Envelope Record.
 pub const UNSIZED_ENVELOPE: u8 = 0x05;
@@ -18,13 +18,13 @@ pub const SIZED_ENVELOPE: u8 = 0x06;
 pub const END: u8 = 0x07;
 /// Fault Record.
 pub const FAULT: u8 = 0x08;
-/// Upgrade Request Record, which has no frame here.
+/// Upgrade Request Record, which is refused.
 pub const UPGRADE_REQUEST: u8 = 0x09;
-/// Upgrade Response Record, which has no frame here.
+/// Upgrade Response Record, which is refused.
 pub const UPGRADE_RESPONSE: u8 = 0x0A;
 /// Preamble Ack Record.
 pub const PREAMBLE_ACK: u8 = 0x0B;
 /// Preamble End Record.
 pub const PREAMBLE_END: u8 = 0x0C;
-/// A greater byte is the type of no record.
+/// The greatest type: a greater byte begins no record.
 pub const GREATEST: u8 = PREAMBLE_END;

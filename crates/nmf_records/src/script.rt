@@ -14,12 +14,14 @@ use nbfx_values::Mode;
 /// Whose stream it is.
 #[derive(Clone, Copy, Debug, PartialEq, Eq)]
 pub enum Direction {
+    /// What the end that connected sends.
     FromInitiator,
+    /// What the end that accepted the connection sends.
     FromReceiver,
 }
 
 impl Direction {
-    // What may come where these records may: a receiver may send a Fault in place of any.
+    // The records of these types may come, and of a receiver a Fault Record in place of any.
     fn or_fault(self, types: u16) -> Expect
         ensures { result ≡ or_fault self types }
     {
@@ -29,7 +31,7 @@ impl Direction {
         }
     }
 
-    // What comes behind the preamble in this mode.
+    // What comes after the preamble in this mode.
     fn behind_preamble(self, mode: Mode) -> Due
         ensures { result ≡ behind_preamble self mode }
     {
@@ -42,32 +44,38 @@ impl Direction {
     }
 }
 
-/// What may come next.
+/// What may come next in a stream. A receiver may also send a Fault Record in place of any record.
 #[derive(Clone, Copy, Debug, PartialEq, Eq)]
 pub enum Due {
+    /// The initiator's first record, a Version Record.
     Version,
+    /// A Mode Record.
     Mode,
+    /// A Via Record.
     Via,
+    /// A Known Encoding Record.
     Encoding,
+    /// A Preamble End Record.
     PreambleEnd,
-    /// The receiver's first record.
+    /// The receiver's first record, a Preamble Ack Record.
     Ack,
-    /// A sized envelope or End.
+    /// A Sized Envelope Record or an End Record.
     Messages,
-    /// An unsized envelope, which an initiator owes in singleton mode.
+    /// An Unsized Envelope Record, which an initiator has to send in singleton mode.
     Envelope,
-    /// An unsized envelope or End, with which a receiver answers in singleton mode.
+    /// An Unsized Envelope Record or an End Record, with which a receiver answers in singleton
+    /// mode.
     Reply,
-    /// The size of a chunk.
+    /// The size of a chunk of an Unsized Envelope Record.
     Chunk,
-    /// End alone.
+    /// An End Record.
     End,
     /// Nothing: the session is over.
     Over,
 }
 
 impl Due {
-    /// What a stream of this direction begins with.
+    /// What the stream of this direction begins with.
     pub fn first(direction: Direction) -> Due
         ensures { result ≡ first direction }
     {
@@ -77,7 +85,7 @@ impl Due {
         }
     }
 
-    /// The types of the records that may come, or a chunk's size.
+    /// The types of the records that may come; or that a chunk's size may.
     pub fn expect(self, direction: Direction) -> Expect
         ensures { result ≡ may_come direction self }
     {
@@ -97,7 +105,8 @@ impl Due {
         }
     }
 
-    /// Where a record that may come leads, in a session of this mode, or a chunk's size.
+    /// What may come after this record, or after this size of a chunk, in a session of this mode,
+    /// if it may come itself.
     pub fn behind(self, direction: Direction, mode: Mode, frame: Frame) -> Due
         ensures { result ≡ leads direction mode self frame }
     {
@@ -114,7 +123,8 @@ impl Due {
         }
     }
 
-    /// Whether the stream may end here.
+    /// Whether the stream may end before the next byte: after End or Fault, or after a receiver's
+    /// Ack in simplex mode.
     pub fn may_end(self, direction: Direction, mode: Mode) -> bool
         ensures { result ≡ may_end direction mode self }
     {

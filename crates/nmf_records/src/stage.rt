@@ -1,4 +1,4 @@
-//! The stages of a reader, and what a byte of a type or of a fixed field leads to.
+//! How far a reader has come within a record, and what the next byte leads to.
 
 ghost use Rattle.std.specs.Prelude.{◌≡◌, ℕ, List, [], ◌∷◌, ◌++◌, ◌+◌, ◌≤◌, length, ◌==◌, ◌||◌};
 ghost use Rattle.unit_streams.specs.Front.{begun};
@@ -13,15 +13,17 @@ use crate::frame::{Frame, FrameFault};
 use crate::record_types;
 use multibyte_ints::StringStep;
 
-/// A record with a text.
+/// A record that has a text.
 #[derive(Clone, Copy, Debug, PartialEq, Eq)]
 pub enum TextRecord {
+    /// Via Record.
     Via,
+    /// Fault Record.
     Fault,
 }
 
 impl TextRecord {
-    /// The whole record.
+    /// The record, when its text is complete.
     pub fn frame(self) -> Frame
         ensures { result ≡ texted self }
     {
@@ -35,12 +37,14 @@ impl TextRecord {
 /// What ends with a size.
 #[derive(Clone, Copy, Debug, PartialEq, Eq)]
 pub enum SizeRecord {
+    /// The head of a Sized Envelope Record.
     SizedEnvelope,
+    /// The size of a chunk.
     Chunk,
 }
 
 impl SizeRecord {
-    /// The whole record, or the chunk's size.
+    /// The head or the chunk's size, with this size.
     pub fn frame(self, size: u32) -> Frame
         ensures { result ≡ sized self size }
     {
@@ -51,36 +55,42 @@ impl SizeRecord {
     }
 }
 
-/// A byte of a record whose length its type determines.
+/// A byte after the type of a record that has a fixed length.
 #[derive(Clone, Copy, Debug, PartialEq, Eq)]
 pub enum Field {
+    /// The major version of a Version Record.
     Major,
+    /// The minor version of one whose major version is this.
     Minor { major: u8 },
+    /// The mode of a Mode Record.
     Mode,
+    /// The encoding of a Known Encoding Record.
     Encoding,
 }
 
 /// What the next byte belongs to.
 #[derive(Clone, Copy, Debug, PartialEq, Eq)]
 pub enum Stage {
-    /// A record that hasn't begun, or a chunk's size that hasn't.
+    /// A record, or a chunk's size, of which nothing was read: the next byte is its first.
     Type,
+    /// This field of a record.
     Field(Field),
-    /// A text, or its length.
+    /// The length of a text, or the text.
     Text(TextRecord),
+    /// A size of which a byte or more was read, or that a type byte came before.
     Size(SizeRecord),
-    /// Nothing: this fault is answered.
+    /// Nothing: this fault was answered, and is answered again.
     Failed(FrameFault),
 }
 
-/// What some bytes led to.
+/// What the bytes of a record have led to.
 #[derive(Clone, Copy, Debug, PartialEq, Eq)]
 pub enum Progress {
-    /// A record that is incomplete.
+    /// The record is incomplete, and what is at this stage comes next.
     Going(Stage),
-    /// A whole record.
+    /// The record is complete.
     Done(Frame),
-    /// No record that may come.
+    /// The bytes are refused.
     Wrong(FrameFault),
 }
 
@@ -105,7 +115,7 @@ fn after_known_type(kind: u8) -> Progress
     }
 }
 
-/// Whether a record of this type may come.
+/// Whether the bit of this type is set.
 pub fn allows(types: u16, kind: u8) -> bool
     requires { kind ≤ GREATEST }
     ensures { result ≡ allows types kind }
@@ -113,7 +123,7 @@ pub fn allows(types: u16, kind: u8) -> bool
     types >> kind & 1 == 1
 }
 
-/// What a type byte leads to, where a record whose type has its bit set may come.
+/// What a type byte leads to, where the records may come whose type has its bit set in `types`.
 pub fn after_type(types: u16, kind: u8) -> Progress
     ensures reads { (limit : ℕ) → Meets (allowed_at limit types (kind ∷ [])) 1 result }
     ensures goes { GoesTo (Types types) (kind ∷ []) result }
@@ -128,7 +138,7 @@ pub fn after_type(types: u16, kind: u8) -> Progress
     after_known_type(kind)
 }
 
-/// What a byte of a fixed field leads to.
+/// What the byte of a field leads to.
 pub fn after_field(field: Field, byte: u8) -> Progress
     ensures reads { (limit : ℕ) (expect : Expect) (p : List ℕ)
         → HasShape expect (Stage.Field field) p → frame_at limit expect p ≡ begun
@@ -144,7 +154,7 @@ pub fn after_field(field: Field, byte: u8) -> Progress
     }
 }
 
-/// What some bytes of a text led to, which a reader of strings answered so.
+/// What the bytes of a text led to, by the answer of the reader of strings that they were fed to.
 pub fn after_text(text: TextRecord, step: StringStep) -> Progress
     ensures { result ≡ progress_of text step }
 {

@@ -1,4 +1,4 @@
-//! Records as they are written: with the shortest spelling of each size and length.
+//! Records of MC-NMF as they are written: with the shortest spelling of each size and length.
 
 ghost use Rattle.std.specs.Prelude.{◌≡◌, ℕ, ◌+◌, ◌^◌, ◌<◌, ◌≤◌, ◌∷◌, ◌++◌, ◌⊎◌, length, take, drop, false, OnOk, OnErr};
 ghost use Rattle.multibyte_ints.specs.Integer.{shortest};
@@ -13,8 +13,8 @@ use crate::record_types::{
 use multibyte_ints::put_int;
 use unit_streams::Memory;
 
-/// Writes the record, or the size of a chunk, to the front of `out`, and says how many bytes it
-/// has: of an envelope its head. The rest of `out` stays. A Via or a Fault has a text, which
+/// Writes the record, of an envelope its head, or the size of a chunk, to the front of `out`, and
+/// says how many bytes it has. The rest of `out` stays. A Via or Fault Record has a text, which
 /// [`put_text_frame`] writes.
 pub fn put_head(frame: Frame, out: &mut [u8; 8]) -> usize
     requires textless { has_text frame ≡ false }
@@ -36,7 +36,8 @@ pub fn put_head(frame: Frame, out: &mut [u8; 8]) -> usize
     }
 }
 
-/// Appends the record of a text: a Via, where `kind` is [`VIA`], or a Fault, where it is [`FAULT`].
+/// Appends a record that has a text: a Via Record, where `kind` is [`VIA`], or a Fault Record,
+/// where it is [`FAULT`]. Without memory it fails, and `out` is as before.
 pub fn put_text_frame(kind: u8, text: &str, out: &mut Vec<u8>) -> Result<(), Memory>
     requires kind { (kind ≡ VIA) ⊎ (kind ≡ FAULT) }
     requires length { length text.now ≤ 2048 }
@@ -73,7 +74,7 @@ fn put_size(size: u32, out: &mut [u8; 8]) -> usize
     put_front(&spelling[..used], out)
 }
 
-// Writes a type byte and a size behind it to the front, and says how many bytes they have.
+// Writes a type byte and then a size to the front, and says how many bytes they have.
 fn put_typed_size(kind: u8, size: u32, out: &mut [u8; 8]) -> usize
     requires { size < 2 ^ 31 }
     ensures len { result ≡ 1 + length (shortest size) }

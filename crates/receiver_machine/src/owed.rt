@@ -1,4 +1,4 @@
-//! What a receiver's framing answers an event or an offence with (MC-NMF).
+//! What a receiver's framing answers to an event or an offence (MC-NMF).
 
 ghost use Rattle.std.specs.Prelude.{◌≡◌};
 ghost use Rattle.receiver_machine.specs.Owed.{after_answer, after_step, bytes_of, closing_bytes, fault_record, owed_for};
@@ -64,9 +64,9 @@ pub(crate) fn owed_for(refusal: ReadRefusal) -> &'static [u8]
     }
 }
 
-/// The record that a receiver ends its stream with: an End where the initiator's stream ended well,
-/// else the Fault record that says why it is refused (MC-NMF, 2.2.3.5), or no bytes where the
-/// standard has no text for that. It takes no memory.
+/// The record of MC-NMF with which a receiver ends its stream: an End Record where the initiator's
+/// stream ended well, else the Fault Record that says why it is refused, or no bytes where MC-NMF
+/// has no text for that. It takes no memory.
 pub fn closing_record(refusal: Option<Offence>) -> &'static [u8]
     ensures { result.now ≡ closing_bytes refusal }
 {

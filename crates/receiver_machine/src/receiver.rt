@@ -1,4 +1,4 @@
-//! An initiator's stream, in any pieces.
+//! A reader of an initiator's stream, in any pieces.
 #![tactic(auto, unfolding(crate::specs::ReceiverState::settings_of, crate::specs::ReceiverState::taken_of, crate::specs::ReceiverState::messages_of, crate::specs::ReceiverState::failure_of, crate::specs::ReceiverState::held_of, crate::specs::ReceiverState::content_held_of, crate::specs::ReceiverState::owed_of, crate::specs::ReceiverState::ShowsText, crate::specs::ReceiverState::ShowsStrings, crate::specs::ReceiverState::StandsFor, crate::specs::ReceiverState::FailedBehind))]
 
 ghost use Rattle.std.specs.Prelude.{◌≡◌, ℕ, ◌+◌, ◌≤◌, List, [], ◌++◌, length, take, IfOk, IfErr, OnOk, IsErrOf, Ok, Err, Some, false, true};
@@ -36,7 +36,7 @@ impl<'s> Receiver<'s> {
     ghost use Rattle.receiver_machine.specs.ReceiverState.{owed_of, settings_of, taken_of, held_of, content_held_of, messages_of, failure_of, StandsFor, FailedBehind, ShowsText, ShowsStrings, WhereItStands, WhereItFailed, FailsBy};
 
     /// A receiver before the first byte, which serves this endpoint. It allocates all that it needs
-    /// up to the preamble's end.
+    /// up to the end of the preamble, and fails without that memory.
     pub fn new(
         alloc: Global,
         statics: &'s StaticTable,
@@ -59,8 +59,9 @@ impl<'s> Receiver<'s> {
     }
 
     /// Uses the bytes of the piece up to and including the one that completes the next event, and
-    /// says how many they are. After a refusal it is refused the same way; after the session's end
-    /// it uses nothing, and says so again.
+    /// answers how many they are, and the event. It fails at the first byte that shows why the
+    /// stream is refused, or without memory, and in the same way from then on. After the session's
+    /// end it uses nothing, and repeats the event that ended it.
     pub fn feed(&mut self, piece: &[u8]) -> Result<(usize, StreamStep), ReadRefusal>
         ensures within { IfOk result (λ answer. answer.0 ≤ length piece.now) }
         // The answer is decided at the first byte that completes an event or shows a refusal.
@@ -97,7 +98,8 @@ impl<'s> Receiver<'s> {
         answer
     }
 
-    /// Says that the input is over, which is valid exactly after the session's end.
+    /// Says that the input is over. It fails with `Truncated` unless the session has ended, and
+    /// from then on. A receiver that has refused the stream fails in the same way.
     pub fn end_of_input(&mut self) -> Result<(), Offence>
         requires { failure_of self.old ≡ Some ReadRefusal.Memory → ⊥ }
         ensures answers { WhereItStands self.old (λ p.
@@ -131,9 +133,9 @@ impl<'s> Receiver<'s> {
         self.reader.reuse(doc);
     }
 
-    /// The bytes that the framing owes the initiator for the last event: a Preamble Ack after
-    /// `Opened`, an End after `Ended`; and after an offence the Fault record that says why, where
-    /// the standard has a text for it. Else they are none. It takes no memory.
+    /// The record of MC-NMF that the framing owes the initiator for the last event: a Preamble Ack
+    /// after `Opened`, an End after `Ended`; after an offence the Fault Record that says why, where
+    /// MC-NMF has a text for it. Else there are no bytes. It takes no memory.
     pub fn owed(&self) -> &[u8]
         ensures shown { result.now ≡ owed_of self.now }
         ensures failed { WhereItFailed self.now (λ refusal taken p. result.now ≡ owed_for refusal) }
@@ -144,7 +146,7 @@ impl<'s> Receiver<'s> {
         }
     }
 
-    /// The Via, once its record was read, and before that the empty text.
+    /// The Via, once its record is complete; empty before.
     pub fn via(&self) -> &str
         ensures shown { (text : List ℕ) → ShowsText self.now text → result.now ≡ text }
         ensures stands { WhereItStands self.now (λ p.
@@ -155,8 +157,8 @@ impl<'s> Receiver<'s> {
         self.reader.text()
     }
 
-    /// How many bytes were used; after an offence of `feed`, how many show it; after running out of
-    /// memory, how many the calls before used.
+    /// How many bytes were used; after a refusal by `feed`, how many show it; after memory ran out,
+    /// how many the calls before used.
     pub fn taken(&self) -> u64
         ensures counted { result ≡ taken_of self.now }
         ensures stands { WhereItStands self.now (λ p. result ≡ length p) }
@@ -178,7 +180,8 @@ impl<'s> Receiver<'s> {
         self.reader.messages()
     }
 
-    /// The strings of the direction so far; after a refusal in a payload, those read before it.
+    /// The session strings of the direction so far; after a refusal in a payload, those read before
+    /// it.
     pub fn table(&self) -> &SessionTable
         ensures shown { (strings : List (List ℕ)) → ShowsStrings self.now strings
             → result.now.strings ≡ strings }
@@ -194,8 +197,8 @@ impl<'s> Receiver<'s> {
         self.reader.table()
     }
 
-    /// What it holds of the input: in bytes, the framing's text and the unfinished unit of the
-    /// payload, and the content of the document so far.
+    /// What it holds of the input: the bytes of a framing record's text and of the payload's
+    /// incomplete record, and the content of the document so far.
     pub fn kept(&self) -> Kept
         ensures held { result.raw ≡ held_of self.now }
         ensures content_held { result.content ≡ content_held_of self.now }

@@ -14,7 +14,7 @@ use std::alloc::{AllocError, Global};
 use std::marker::Model;
 use unit_streams::Memory;
 
-/// Why a string was not added.
+/// Why a string wasn't added. The table is as before.
 #[derive(Clone, Copy, Debug, PartialEq, Eq)]
 pub enum AddFault {
     /// The string would take the table's cost above its limit.
@@ -23,14 +23,16 @@ pub enum AddFault {
     Memory,
 }
 
-/// A place in a table to go back to: how many strings there were, and what they cost.
+/// A state of a table to go back to.
 #[derive(Clone, Copy, Debug, PartialEq, Eq)]
 pub struct Mark {
+    /// How many strings there were.
     pub count: u32,
+    /// What they cost together, in bytes.
     pub used: u32,
 }
 
-/// The strings of one direction of a session. String i has the identifier 2i + 1.
+/// The session strings of one direction (MC-NBFSE). String i has the identifier 2i + 1.
 #[derive(Drop)]
 pub struct SessionTable {
     texts: Texts,
@@ -53,8 +55,8 @@ impl Model for SessionTable {
 }
 
 impl SessionTable {
-    /// A table without strings, whose cost stays within `limit` bytes. It keeps the order of its
-    /// texts, by which `id` finds one.
+    /// A writer's table without strings, whose cost stays within `limit` bytes. It keeps its texts
+    /// in order, by which [`id`](Self::id) finds one.
     pub fn new(alloc: Global, limit: u32) -> Self
         requires { limit ≤ 2 ^ 30 }
         ensures { result ≡ record { strings = []; limit = limit } }
@@ -62,8 +64,8 @@ impl SessionTable {
         Self::empty(alloc, limit, Some(TextOrder::new(alloc)))
     }
 
-    /// The same for a reader, which asks for texts by their identifiers alone: no order is kept, so
-    /// `add` takes less time, and `id` walks through all texts.
+    /// The same for a reader, which looks texts up by their identifiers alone: no order is kept, so
+    /// [`add`](Self::add) takes less time, and [`id`](Self::id) goes through all texts.
     pub fn for_reading(alloc: Global, limit: u32) -> Self
         requires { limit ≤ 2 ^ 30 }
         ensures { result ≡ record { strings = []; limit = limit } }
@@ -84,7 +86,7 @@ impl SessionTable {
         }
     }
 
-    /// The string that an identifier names.
+    /// The string that a session identifier names; None where the table has none for it.
     pub fn text(&self, id: u32) -> Option<&str>
         ensures { option_map (λ s. s.now) result ≡ session_text self.now.strings id }
     {
@@ -94,7 +96,7 @@ impl SessionTable {
         self.texts.get(id as usize / 2)
     }
 
-    /// The least identifier of a text.
+    /// The least session identifier of a text; None where no string is that text.
     pub fn id(&self, text: &str) -> Option<u32>
         ensures least { result ≡ least_session_id self.now.strings text.now }
         ensures found { IfSome result (IsLeastName (session_text self.now.strings) text.now) }
@@ -105,7 +107,7 @@ impl SessionTable {
         Some(2 * position + 1)
     }
 
-    /// What the strings cost together, in bytes.
+    /// What the strings cost together: the bytes of each, and 1 for an empty one.
     pub fn used(&self) -> u32
         ensures cost { result ≡ used_cost self.now.strings }
         ensures within { result ≤ self.now.limit }
@@ -129,8 +131,8 @@ impl SessionTable {
         self.texts.is_empty()
     }
 
-    /// Appends a string and answers its identifier. A refusal leaves the table as it was: `Full` is
-    /// that the string would take the cost above the limit.
+    /// Appends a string and answers its identifier. It fails with `Full` where the string would
+    /// take the cost above the limit, or without memory; then the table is as before.
     pub fn add(&mut self, text: &str) -> Result<u32, AddFault>
         ensures id { IfOk result (λ id. id ≡ 2 * length self.old.strings + 1) }
         ensures small { IfOk result (λ id. id < 2 ^ 31) }
@@ -155,7 +157,7 @@ impl SessionTable {
         }
     }
 
-    /// The place that the table has come to.
+    /// The present state of the table, for [`back_to`](Self::back_to).
     pub fn mark(&self) -> Mark
         ensures { result
             ≡ record { count = length self.now.strings; used = used_cost self.now.strings } }
@@ -166,7 +168,7 @@ impl SessionTable {
         }
     }
 
-    /// Cuts the table back to the strings before a mark of its own.
+    /// Cuts off the strings that were added after this mark of the table was made.
     pub fn back_to(&mut self, mark: Mark)
         requires { IsMarkOf mark self.old.strings }
         ensures { self.new ≡ record self.old { strings = take mark.count self.old.strings } }
@@ -175,8 +177,9 @@ impl SessionTable {
         self.used = mark.used;
     }
 
-    /// Appends the strings after a mark of its own to `out`, each as a String: its length as an
-    /// integer, and its bytes. A refusal leaves `out` as it was.
+    /// Appends the strings that were added after a mark of this table to `out`, each as a String of
+    /// MC-NBFX, as the string table of an MC-NBFSE document has them. Without memory it fails, and
+    /// `out` is as before.
     pub fn put_strings(&self, mark: Mark, out: &mut Vec<u8>) -> Result<(), Memory>
         requires { IsMarkOf mark self.now.strings }
         ensures written { OnOk result (out.new.items

@@ -16,18 +16,18 @@ use session_dictionary::SessionTable;
 use static_dictionary::StaticTable;
 use std::alloc::Global;
 
-/// Why a document isn't carried.
+/// Why a document isn't carried from one end to the other.
 #[derive(Clone, Copy, Debug, PartialEq, Eq)]
 pub enum CarryFault {
-    /// It isn't written. Both ends are as before.
+    /// The document isn't written. Both ends are as before.
     Unsent(EncodeFault),
-    /// It is written, and the writer has the strings after it. The reader ran out of memory, and
-    /// has failed for good.
+    /// The document was written, and the writer has the strings after it. The reader ran out of
+    /// memory, and fails from now on.
     Memory,
 }
 
-/// Both ends of a direction without strings so far, under the same static strings. The reader's
-/// quotas admit as much as the writer's.
+/// Both ends of a direction without session strings so far, with the same static strings. The
+/// reader's quotas are at least the writer's.
 pub fn new_ends<'s>(
     alloc: Global,
     statics: &'s StaticTable,
@@ -48,7 +48,7 @@ pub fn new_ends<'s>(
     (encoder, decoder)
 }
 
-/// The tables of both ends, which have the same strings.
+/// The session tables of both ends, which have the same strings.
 pub fn tables<'a>(
     encoder: &'a Encoder<'_>,
     decoder: &'a Decoder<'_>,
@@ -61,10 +61,10 @@ pub fn tables<'a>(
     (encoder.table(), decoder.table())
 }
 
-/// Writes a document into the buffer, in place of what it holds, and reads it at the other end,
-/// which gives the document. Both ends have the same strings afterwards, and what they are set to
-/// stays. A document that doesn't fit is refused as [`Encoder::encode`] does, and the reader
-/// refuses none.
+/// Writes the payload of a document into the buffer, in place of what it holds, and reads it at the
+/// other end, which gives the document. Both ends have the same session strings afterwards. A
+/// document that doesn't fit is refused as [`Encoder::encode`] does, and then nothing changes; the
+/// reader refuses none.
 pub fn carry(
     encoder: &mut Encoder<'_>,
     decoder: &mut Decoder<'_>,
@@ -88,7 +88,7 @@ pub fn carry(
     if let Err(fault) = encoder.encode(doc, room) {
         return Err(CarryFault::Unsent(fault));
     }
-    // Nothing is taken of a payload before its first byte, and its bytes are one.
+    // Before its first byte no byte of a payload was read, and the bytes written are one payload.
     let _taken = decoder.taken();
     nbfx_decoder::laws::payloads();
     nbfx_decoder::laws::answers();

@@ -59,7 +59,7 @@ fn put_items(alloc: Global, items: &mut Items, number: u32, drawn: u32) -> Resul
     items.push(Item::Close)
 }
 
-// That document, in the room of items that are done with.
+// That document, in the memory of items that are no longer needed.
 pub(crate) fn document(alloc: Global, room: Items, number: u32, drawn: u32) -> Result<Doc, Memory>
     ensures { IfOk result (λ doc. doc ≡ document number drawn) }
 {

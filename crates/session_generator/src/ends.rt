@@ -1,4 +1,4 @@
-//! Both ends of a session, and why there are none.
+//! Both ends of a session that was generated, and why one isn't.
 
 use nbfx_encoder::Sender;
 use nbfx_values::Offence;
@@ -21,7 +21,7 @@ pub struct Ends<'s> {
 /// Why a session isn't generated.
 #[derive(Clone, Copy, Debug, PartialEq, Eq)]
 pub enum GenFault {
-    /// It has more bytes than the session quota, which its reader refuses so.
+    /// It has more bytes than the session quota, and its reader refuses it with this offence.
     SessionTooLong(Offence),
     /// Out of memory.
     Memory,

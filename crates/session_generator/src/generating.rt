@@ -18,9 +18,10 @@ use session_dictionary::SessionTable;
 use static_dictionary::StaticTable;
 use std::alloc::Global;
 
-/// Sends and reads the session of the documents that follow the seed, one after the other, in
-/// duplex mode (MC-NMF, MC-NBFSE): both ends of it. Each document fits under all valid quotas, so a
-/// session fails only where it is longer than the session quota, or out of memory.
+/// Sends and reads the session of the `count` documents that follow the seed, one after the other,
+/// in duplex mode (MC-NMF, MC-NBFSE), and answers both ends of it. Each document fits under all
+/// valid quotas, so it fails only where the session is longer than the session quota, or without
+/// memory.
 pub fn generate<'s>(
     alloc: Global,
     statics: &'s StaticTable,
@@ -48,7 +49,7 @@ pub fn generate<'s>(
     session.close()
 }
 
-/// The tables of both ends, which have the same strings.
+/// The session tables of both ends, which have the same strings.
 pub fn tables<'a>(ends: &'a Ends<'_>) -> (&'a SessionTable, &'a SessionTable)
     requires { AreLevel ends.now }
     ensures sent { result.0.now.strings ≡ (names_in ends.now.sender).strings }

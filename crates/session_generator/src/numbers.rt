@@ -3,12 +3,12 @@
 ghost use Rattle.std.specs.Prelude.{◌≡◌};
 ghost use Rattle.session_generator.specs.Documents.{drawn, stepped};
 
-// Of the linear congruence that Knuth gives in MMIX.
+// The multiplier and the increment of the linear congruential generator that Knuth gives for MMIX.
 const FACTOR: u64 = 6_364_136_223_846_793_005;
 
 const INCREMENT: u64 = 1_442_695_040_888_963_407;
 
-// The number behind another.
+// The number after another.
 pub(crate) fn stepped(x: u64) -> u64
     ensures { result ≡ stepped x }
 {

@@ -9,7 +9,7 @@ ghost use Rattle.session_generator.specs.UnderWay.{IsReadSo};
 use crate::ends::GenFault;
 use receiver_machine::{ReadRefusal, Receiver, Step};
 
-// Has the receiver read these bytes, of which the last alone may complete an event.
+// Has the receiver read these bytes, of which only the last may complete an event.
 pub(crate) fn read(receiver: &mut Receiver<'_>, bytes: &[u8]) -> Result<(), GenFault>
     ensures settings { settings_of receiver.new ≡ settings_of receiver.old }
     ensures answered { WhereItStands receiver.old (λ p.

@@ -19,12 +19,12 @@ use std::alloc::Global;
 /// What became of the line of a generated session.
 #[derive(Clone, Copy, Debug, PartialEq, Eq)]
 pub enum Summary {
-    /// It is written.
+    /// The line is written.
     Written,
-    /// The session has more bytes than the session quota, which its reader refuses so. Nothing is
-    /// written.
+    /// The session has more bytes than the session quota, and its reader refuses it with this
+    /// offence. Nothing is written.
     TooLong(Offence),
-    /// The output failed.
+    /// A write met an I/O error.
     WriteFault,
     /// Out of memory.
     Memory,
@@ -44,12 +44,16 @@ impl Summary {
     }
 }
 
-/// What a session measures.
+/// The numbers of a session's line.
 #[derive(Clone, Copy, Debug, PartialEq, Eq)]
 pub struct Measured {
+    /// How many documents were sent and read.
     pub documents: u64,
+    /// How many bytes the session has.
     pub bytes: u64,
+    /// How many session strings it has.
     pub strings: u32,
+    /// What these cost together.
     pub used: u32,
 }
 
@@ -81,7 +85,7 @@ fn put_summary<O: Sink>(measured: Measured, output: &mut O) -> Result<(), SinkFa
     output.flush()
 }
 
-// By the answer of putting the line.
+// What became of the line, by the answer of its put.
 fn summary_by(put: Result<(), SinkFault>) -> Summary
     ensures { result ≡ summary_by put }
 {
@@ -112,8 +116,8 @@ fn measure(
     })
 }
 
-/// Makes the session of so many documents that follow the seed, and writes a line of what it
-/// measures. Answers what became of that with the output.
+/// Makes the session of the `count` documents that follow the seed, and writes its line. Answers
+/// what became of that, with the output.
 pub fn summarize<O: Sink>(
     alloc: Global,
     statics: &StaticTable,

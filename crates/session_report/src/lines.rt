@@ -22,7 +22,7 @@ fn mode_name(mode: Mode) -> &'static str
     }
 }
 
-/// Puts the line of a preamble.
+/// Puts the line of an initiator's preamble. It fails as the output does, as the others here.
 pub fn put_open<K: Sink>(mode: Mode, kind: Kind, via: &str, output: &mut K) -> Result<(), SinkFault>
     ensures { Puts K.written K.held K.faults K.may_want output.old output.new
         (open_line mode kind via.now) result }
@@ -35,7 +35,7 @@ pub fn put_open<K: Sink>(mode: Mode, kind: Kind, via: &str, output: &mut K) -> R
     put_words("open", &words, output)
 }
 
-/// Puts the line of an Ack.
+/// Puts the line of a receiver's Preamble Ack.
 pub fn put_accepted<K: Sink>(output: &mut K) -> Result<(), SinkFault>
     ensures { Puts K.written K.held K.faults K.may_want output.old output.new accepted_line
         result }
@@ -64,7 +64,7 @@ fn put_strings<K: Sink>(received: &Received, output: &mut K) -> Result<(), SinkF
     put_labelled(" used ", u64::from(received.used), output)
 }
 
-/// Puts the line of an envelope.
+/// Puts the line of an envelope, without its document's.
 pub fn put_message<K: Sink>(received: &Received, output: &mut K) -> Result<(), SinkFault>
     ensures { Puts K.written K.held K.faults K.may_want output.old output.new
         (received_line received.now) result }
@@ -76,7 +76,7 @@ pub fn put_message<K: Sink>(received: &Received, output: &mut K) -> Result<(), S
     put_plain("\n", output)
 }
 
-/// Puts the line of a session's end, after so many bytes.
+/// Puts the line of a session that ended after so many bytes.
 pub fn put_ended<K: Sink>(taken: u64, output: &mut K) -> Result<(), SinkFault>
     ensures { Puts K.written K.held K.faults K.may_want output.old output.new
         (ended_line taken) result }
@@ -84,7 +84,7 @@ pub fn put_ended<K: Sink>(taken: u64, output: &mut K) -> Result<(), SinkFault>
     put_words("ended", &[Word::Natural(u128::from(taken))], output)
 }
 
-/// Puts the line of a receiver's Fault, after so many bytes.
+/// Puts the line of a receiver's Fault Record, whose last byte is the one with this number, from 1.
 pub fn put_fault<K: Sink>(taken: u64, text: &str, output: &mut K) -> Result<(), SinkFault>
     ensures { Puts K.written K.held K.faults K.may_want output.old output.new
         (fault_line taken text.now) result }

@@ -1,4 +1,4 @@
-//! What reads a stream of either side, and says its events with all that their lines need.
+//! A reader of the stream of either side, whose events have all that their lines need.
 
 ghost use Rattle.std.specs.Prelude.{◌≡◌, ◌<◌, ◌^◌, ℕ, List, [], IfOk};
 ghost use Rattle.unit_streams.specs.Grammar.{standing};
@@ -17,34 +17,35 @@ use stream_loop::{FeedFault, ReadingEnd};
 use stream_reader::{ReadRefusal, Side, StreamReader, StreamStep};
 use unit_streams::Memory;
 
-/// An envelope.
+/// An envelope with its document.
 #[derive(Debug, Drop)]
 pub struct Received {
-    /// Counted from 0.
+    /// Its number, from 0.
     pub number: u64,
-    /// Bytes of its payload, of all chunks.
+    /// How many bytes its payload has, of all chunks.
     pub size: u32,
     /// The content of its document.
     pub content: u64,
-    /// How many strings the direction has after it.
+    /// How many session strings the direction has after it.
     pub strings: u32,
     /// What these cost together: their bytes, and 1 for an empty one.
     pub used: u32,
+    /// Its document.
     pub doc: Doc,
 }
 
-/// What the bytes of a stream complete.
+/// The event that the bytes of a stream completed.
 #[derive(Debug, Drop)]
 pub enum Event {
-    /// An initiator's preamble.
+    /// An initiator's preamble, up to its Preamble End Record.
     Opened { mode: Mode, kind: Kind, via: Txt },
-    /// A receiver's Ack.
+    /// A receiver's Preamble Ack Record.
     Accepted,
-    /// An envelope.
+    /// An envelope with its document.
     Message(Received),
-    /// The session, of this many bytes.
+    /// An End Record, which ends the session of this many bytes.
     Ended { bytes: u64 },
-    /// A receiver's Fault, which ends the session of this many bytes.
+    /// A receiver's Fault Record with this text, which ends the session of this many bytes.
     PeerFault { bytes: u64, text: Txt },
 }
 
@@ -68,7 +69,7 @@ fn envelope(number: u64, size: u32, strings: u32, used: u32, doc: Doc) -> Receiv
     }
 }
 
-/// Reads a stream, and owns the texts of its events.
+/// Reads the stream of one side, and owns the texts of its events.
 #[derive(Drop)]
 pub struct StreamEnd<'s> {
     alloc: Global,
@@ -77,7 +78,8 @@ pub struct StreamEnd<'s> {
 }
 
 impl<'s> StreamEnd<'s> {
-    /// Before the first byte.
+    /// A reader before the first byte. It fails without memory for what it needs before the first
+    /// envelope.
     pub fn new(
         alloc: Global,
         statics: &'s StaticTable,

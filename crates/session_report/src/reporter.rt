@@ -16,11 +16,11 @@ use stream_loop::Reporter;
 /// How a session has ended by its events.
 #[derive(Clone, Copy, Debug, PartialEq, Eq)]
 pub enum Outcome {
-    /// It hasn't.
+    /// No event has ended it yet.
     Open,
-    /// With End.
+    /// With an End Record.
     Ended,
-    /// With a receiver's Fault.
+    /// With a receiver's Fault Record.
     Faulted,
 }
 
@@ -76,7 +76,7 @@ fn put_last<K: Sink>(outcome: Outcome, output: &mut K) -> Result<(), SinkFault>
     }
 }
 
-/// Writes the lines of a stream, and keeps how its session has ended.
+/// Writes the report of a stream, and remembers how its session ended.
 #[derive(Debug, Drop)]
 pub struct LineReporter {
     /// What is shown of each document.
@@ -86,7 +86,7 @@ pub struct LineReporter {
 }
 
 impl LineReporter {
-    /// Before the first event.
+    /// A reporter before the first event.
     pub fn new(detail: Detail) -> LineReporter
         ensures { result ≡ record { detail = detail; outcome = Outcome.Open } }
     {

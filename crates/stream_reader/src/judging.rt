@@ -1,4 +1,4 @@
-//! Why a record is refused in the stream of either side, and what it says that isn't.
+//! Why a record is refused: by where it comes in the stream of either side, or by what it says.
 
 ghost use Rattle.std.specs.Prelude.{◌≡◌, ◌==◌, ◌||◌, Some, None, if◌then◌else◌};
 ghost use Rattle.stream_reader.specs.Stream.{Settings, reason_of, unexpected, is_binary, is_mode, mode_of, kind_of, too_large};
@@ -9,7 +9,7 @@ use nbfx_values::{Kind, Mode, Quotas, Reason};
 use nmf_records::record_types::{EXTENSIBLE_ENCODING, UPGRADE_REQUEST};
 use nmf_records::{Due, FrameFault};
 
-/// Why bytes are refused that are no record which may come where this is due.
+/// The reason to refuse bytes that can't be what is due here.
 pub(crate) fn reason_of(due: Due, fault: FrameFault) -> Reason
     ensures { result ≡ reason_of due fault }
 {
@@ -44,7 +44,7 @@ fn unexpected(due: Due, kind: u8) -> Reason
     }
 }
 
-/// Why a Mode record with this byte is refused.
+/// The reason to refuse a Mode Record with this byte, if it is refused.
 pub(crate) fn bad_mode(byte: u8) -> Option<Reason>
     ensures { result ≡ (if is_mode byte then None else Some Reason.BadMode) }
 {
@@ -58,7 +58,7 @@ pub(crate) fn bad_mode(byte: u8) -> Option<Reason>
     }
 }
 
-/// The mode that a Mode record with this byte names.
+/// The mode that a Mode Record with this byte names.
 pub(crate) fn mode_of(byte: u8) -> Mode
     ensures { result ≡ mode_of byte }
 {
@@ -71,7 +71,7 @@ pub(crate) fn mode_of(byte: u8) -> Mode
     }
 }
 
-/// Why a known encoding is refused.
+/// The reason to refuse a Known Encoding Record with this byte, if it is refused.
 pub(crate) fn bad_encoding(encoding: u8) -> Option<Reason>
     ensures { result ≡ (if is_binary encoding then None else Some Reason.BadEncoding) }
 {
@@ -82,7 +82,7 @@ pub(crate) fn bad_encoding(encoding: u8) -> Option<Reason>
     }
 }
 
-/// What payloads are under this known encoding.
+/// The encoding that a Known Encoding Record with this byte names.
 pub(crate) fn kind_of(encoding: u8) -> Kind
     ensures { result ≡ kind_of encoding }
 {
@@ -93,7 +93,8 @@ pub(crate) fn kind_of(encoding: u8) -> Kind
     }
 }
 
-/// Why a size is refused, with which a payload has so many bytes in all.
+/// The reason to refuse a size by which a payload would have so many bytes in all, if it is
+/// refused.
 pub(crate) fn too_large(quotas: &Quotas, size: u64) -> Option<Reason>
     ensures { (x : Settings) → x.limits ≡ limits_of quotas.now → result ≡ too_large x size }
 {

@@ -1,4 +1,4 @@
-//! A stream, in any pieces.
+//! A reader of one side's stream, in any pieces.
 
 ghost use Rattle.std.specs.Prelude.{◌≡◌, ℕ, ◌+◌, ◌≤◌, List, [], ◌++◌, length, take, IfOk, IfErr, OnOk, IsErrOf, Ok, Err, Some, None, false, true};
 ghost use Rattle.unit_streams.specs.Grammar.{standing};
@@ -21,53 +21,57 @@ use static_dictionary::StaticTable;
 use std::alloc::Global;
 use unit_streams::Memory;
 
-/// What the bytes that were fed have completed.
+/// The event that the bytes completed.
 #[derive(Debug, Drop)]
 pub enum StreamStep {
-    /// Nothing yet.
+    /// None yet: more bytes are needed.
     More,
-    /// An initiator's preamble; [`StreamReader::text`] is its Via.
+    /// An initiator's preamble, up to its Preamble End Record. Its Via is [`StreamReader::text`].
     Opened {
+        /// Of the Mode Record.
         mode: Mode,
+        /// Of the Known Encoding Record.
         kind: Kind,
     },
-    /// A receiver's Ack.
+    /// A receiver's Preamble Ack Record.
     Accepted,
-    /// An envelope.
+    /// An envelope with its document.
     Message {
-        /// Counted from 0.
+        /// The envelope's number, from 0.
         number: u64,
-        /// Bytes of its payload, of all chunks.
+        /// How many bytes its payload has, of all chunks.
         size: u32,
+        /// What the payload says.
         doc: Doc,
-        /// How many strings the direction has after it, which are those of [`StreamReader::table`].
+        /// How many session strings the direction has after it: those of [`StreamReader::table`].
         strings: u32,
         /// What these cost together: their bytes, and 1 for an empty one.
         used: u32,
     },
-    /// The session, of this many bytes.
+    /// An End Record, which ends the session.
     Ended {
+        /// How many bytes the session has.
         bytes: u64,
     },
-    /// A receiver's Fault, which ends the session of this many bytes; [`StreamReader::text`] is its
-    /// text.
+    /// A receiver's Fault Record, which ends the session. Its text is [`StreamReader::text`].
     PeerFault {
+        /// How many bytes the session has.
         bytes: u64,
     },
 }
 
-/// Why a stream isn't read on.
+/// Why a stream isn't read on. A reader that has failed answers the same from then on.
 #[derive(Clone, Copy, Debug, PartialEq, Eq)]
 pub enum ReadRefusal {
-    /// Why the stream is refused.
+    /// The stream is refused: where, and why.
     Offence(Offence),
     /// Out of memory.
     Memory,
 }
 
 /// Reads the stream of one side (MC-NMF), in whatever pieces its bytes come. It holds of an
-/// envelope's payload what a [`Decoder`] does: the items of the whole records, and the bytes of the
-/// unfinished one.
+/// envelope's payload what a [`Decoder`] does: the items of the complete records, and the bytes of
+/// the incomplete one.
 #[derive(Drop)]
 pub struct StreamReader<'s> {
     pub(crate) alloc: Global,
@@ -97,7 +101,8 @@ impl<'s> StreamReader<'s> {
     ghost use Rattle.stream_reader.specs.Saying.{Says, Repeats, said_at_end};
     ghost use Rattle.stream_reader.specs.StreamReaderState.{settings_of, taken_of, held_of, content_held_of, messages_of, failure_of, StandsFor, FailedBehind, ShowsText, ShowsStrings, WhereItStands, WhereItFailed, FailsBy, HasPayloads, begun_in, items_in};
 
-    /// A reader before the first byte. It allocates all that it needs before the first envelope.
+    /// A reader before the first byte. It allocates all that it needs before the first envelope,
+    /// and fails without that memory.
     pub fn new(
         alloc: Global,
         statics: &'s StaticTable,
@@ -131,8 +136,9 @@ impl<'s> StreamReader<'s> {
     }
 
     /// Uses the bytes of the piece up to and including the one that completes the next event, and
-    /// says how many they are. After a refusal it is refused the same way; after the session's end
-    /// it uses nothing, and repeats the event that ended it.
+    /// answers how many they are, and the event. It fails at the first byte that shows why the
+    /// stream is refused, or without memory, and in the same way from then on. After the session's
+    /// end it uses nothing, and repeats the event that ended it.
     pub fn feed(&mut self, piece: &[u8]) -> Result<(usize, StreamStep), ReadRefusal>
         ensures within { IfOk result (λ answer. answer.0 ≤ length piece.now) }
         // The answer is decided at the first byte that completes an event or shows a refusal.
@@ -191,8 +197,9 @@ impl<'s> StreamReader<'s> {
         Ok((used, StreamStep::More))
     }
 
-    /// Says that the input is over, which is valid exactly after the session's end, and after a
-    /// receiver's Ack in simplex mode where no byte of another record has come.
+    /// Says that the input is over. It fails with `Truncated`, and from then on, unless the session
+    /// has ended, or a receiver's Ack in simplex mode is all that has come. A reader that has
+    /// failed before fails in the same way.
     pub fn end_of_input(&mut self) -> Result<(), ReadRefusal>
         ensures answers { WhereItStands self.old (λ p.
             result ≡ said_at_end (ending_at (stream (settings_of self.old)) p)) }
@@ -227,8 +234,7 @@ impl<'s> StreamReader<'s> {
         self.decoder.reuse(doc);
     }
 
-    /// The text of the last Via or Fault record, once all of it was read, and before that the empty
-    /// text.
+    /// The text of the last complete Via or Fault Record; empty before the first one.
     pub fn text(&self) -> &str
         ensures shown { (text : List ℕ) → ShowsText self.now text → result.now ≡ text }
         ensures stands { WhereItStands self.now (λ p.
@@ -239,8 +245,8 @@ impl<'s> StreamReader<'s> {
         self.frames.text()
     }
 
-    /// How many bytes were used; after an offence of `feed`, how many show it; after running out of
-    /// memory, how many the calls before used.
+    /// How many bytes were used; after a refusal by `feed`, how many show it; after memory ran out,
+    /// how many the calls before used.
     pub fn taken(&self) -> u64
         ensures counted { result ≡ taken_of self.now }
         ensures stands { WhereItStands self.now (λ p. result ≡ length p) }
@@ -251,7 +257,7 @@ impl<'s> StreamReader<'s> {
         self.taken
     }
 
-    /// The refusal that it answers from now on, once there is one.
+    /// The refusal that it answers from now on, if it has failed.
     pub fn failure(&self) -> Option<ReadRefusal>
         ensures { result ≡ failure_of self.now }
     {
@@ -269,7 +275,8 @@ impl<'s> StreamReader<'s> {
         self.messages
     }
 
-    /// The strings of the direction so far; after a refusal in a payload, those read before it.
+    /// The session strings of the direction so far; after a refusal in a payload, those read before
+    /// it.
     pub fn table(&self) -> &SessionTable
         ensures shown { (strings : List (List ℕ)) → ShowsStrings self.now strings
             → result.now.strings ≡ strings }
@@ -285,8 +292,8 @@ impl<'s> StreamReader<'s> {
         self.decoder.table()
     }
 
-    /// What it holds of the input: in bytes, the framing's text and the unfinished unit of the
-    /// payload, and the content of the document so far.
+    /// What it holds of the input: the bytes of a framing record's text and of the payload's
+    /// incomplete record, and the content of the document so far.
     #[tactic(auto, unfolding(crate::specs::StreamReaderState::held_of, crate::specs::StreamReaderState::content_held_of))]
     pub fn kept(&self) -> Kept
         ensures held { result.raw ≡ held_of self.now }

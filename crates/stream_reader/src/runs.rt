@@ -1,5 +1,5 @@
-//! Short chunks, whose sizes are one byte each: those that lie whole in a piece are taken at once,
-//! so that their content comes to the decoder in one piece too.
+//! Short chunks, whose sizes have one byte each: those that lie whole in a piece are taken
+//! together, so that the decoder gets their content in one piece.
 
 ghost use Rattle.std.specs.Prelude.{◌≡◌, ℕ, ◌+◌, ◌≤◌, ◌<◌, List, length, take, IfOk, IfErr, IfSome, Some, None, false};
 ghost use Rattle.std.specs.List.{concat};

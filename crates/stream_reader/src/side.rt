@@ -8,12 +8,12 @@ ghost use Rattle.stream_reader.specs.Stream.{direction_of, first_mode, first_kin
 use nbfx_values::{Kind, Mode, Txt};
 use nmf_records::Direction;
 
-/// Which Via is served. Vias are compared byte by byte.
+/// Which Vias are served. They are compared byte by byte.
 #[derive(Debug, Drop)]
 pub enum Endpoint {
-    /// Any.
+    /// All of them.
     Any,
-    /// This one alone; another is refused as `EndpointNotFound`.
+    /// This one; any other is refused as `EndpointNotFound`.
     Only(Txt),
 }
 
@@ -31,13 +31,14 @@ impl Endpoint {
 /// Whose stream it is.
 #[derive(Debug, Drop)]
 pub enum Side {
-    /// An initiator's, to the Via that is served. Its records name the mode and the encoding.
+    /// An initiator's, to a Via that is served. Its records name the mode and the encoding.
     Initiator(Endpoint),
     /// A receiver's, in the mode and with the encoding that its initiator named.
     Receiver { mode: Mode, kind: Kind },
 }
 
 impl Side {
+    /// Whether the initiator or the receiver sends it.
     pub fn direction(&self) -> Direction
         ensures { result ≡ direction_of (side_of self.now) }
     {

@@ -75,7 +75,7 @@ impl<'s> StreamReader<'s> {
         }
     }
 
-    // Fails for good by a record that begins at this offset.
+    // Fails from now on, by a record that begins at this offset.
     pub(crate) fn refuse(&mut self, from: u64, reason: Reason) -> ReadRefusal
         ensures offence { result ≡ ReadRefusal.Offence (offence_at from reason) }
         ensures failure { self.new.failure ≡ Some result }
@@ -86,7 +86,7 @@ impl<'s> StreamReader<'s> {
         self.fail(ReadRefusal::Offence(Offence { place, reason }))
     }
 
-    // Fails for good by a payload.
+    // Fails from now on, by a payload.
     pub(crate) fn refuse_payload(&mut self, fault: DecodeFault) -> ReadRefusal
         ensures told { result ≡ refusal_told self.old.messages fault }
         ensures failure { self.new.failure ≡ Some result }
@@ -103,7 +103,8 @@ impl<'s> StreamReader<'s> {
         }
     }
 
-    // A refusal in a call before which so many bytes were used; for want of memory no others count.
+    // The refusal of a call before which so many bytes were used. Where memory ran out, those of
+    // the call don't count as used.
     pub(crate) fn refused_since(&mut self, before: u64, refusal: ReadRefusal) -> ReadRefusal
         ensures same { result ≡ refusal }
         ensures failure { self.new.failure ≡ self.old.failure }
@@ -369,7 +370,7 @@ impl<'s> StreamReader<'s> {
         }
     }
 
-    // Goes on after a record of no payload.
+    // Goes on after a record that has no payload.
     fn behind_bare(&mut self, frame: Frame) -> StreamStep
         ensures moves { IsMoved self.old frame self.new result }
     {
@@ -410,7 +411,7 @@ impl<'s> StreamReader<'s> {
         }
     }
 
-    // What a record of no payload completes.
+    // The event that a record completes which has no payload.
     fn bare_step(&self, frame: Frame) -> StreamStep
         ensures { result ≡ bare_step self.now frame }
     {

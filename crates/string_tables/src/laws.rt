@@ -3,7 +3,7 @@
 
 ghost use Rattle.string_tables.specs.Laws.{FindsNamed, FindsEntries, FindsStrings, HasStaticIds, NamesOneText, FindsLeast, FindsLeastStatic, FindsLeastSession, FindsChosen, NamesChosen, NamesSmall, KeepsNames, NamesOneMore, KeepsLeast, KeepsChosen, NamesFirst, ChoosesAppended, AddsCosts, CountsWithin};
 
-/// A look-up of an identifier finds the text that it names, in each half and in both, and an
+/// Looking an identifier up finds the text that it names, in each half and in both, and an
 /// identifier names one text at most. A static identifier is even and below 2^31.
 pub fn names()
     ensures both { FindsNamed }
@@ -43,7 +43,8 @@ pub fn appended_strings()
     ensures chosen { ChoosesAppended }
 {}
 
-/// Lists that are joined cost what each costs, and there are at most as many strings as they cost.
+/// Joined lists cost the sum of what each costs, and there are at most as many strings as they
+/// cost.
 pub fn costs()
     ensures added { AddsCosts }
     ensures count { CountsWithin }

@@ -14,30 +14,32 @@ pub fn standings_go_on()
     ensures { (g : Grammar ℕ ℕ ℕ ℕ) → IsReadable g → StandingsGoOn g }
 {}
 
-/// The answer to a piece is the first event or refusal that a byte of it brings, or that there is
-/// none.
+/// The answer to a piece is the first event or refusal that a byte of it brings, or that no byte
+/// brings one.
 pub fn answers_are_first()
     ensures { (g : Grammar ℕ ℕ ℕ ℕ) → AnswersAreFirst g }
 {}
 
-/// How the bytes are cut into pieces changes nothing: two as one are answered as the first is, or,
-/// where that decides nothing, as the second is after it, counted from the beginning of the first.
+/// How the bytes are cut into pieces changes nothing: two pieces joined are answered as the first
+/// alone is or, where that decides nothing, as the second after it, with offsets from the beginning
+/// of the first.
 pub fn cuts_change_nothing()
     ensures { (g : Grammar ℕ ℕ ℕ ℕ) → CutsChangeNothing g }
 {}
 
-/// A stream's events and then its offence are what a reader is answered, piece by piece.
+/// A stream's history, which is its events and then its offence, is what a reader answers, piece by
+/// piece.
 pub fn history_is_answers()
     ensures { (g : Grammar ℕ ℕ ℕ ℕ) → HistoryIsAnswers g }
 {}
 
-/// Where no prefix of a stream is refused and nothing of it ends it, its history is the events of
-/// its prefixes, and then what its end is refused as, if it is.
+/// Where no prefix of a stream is refused or ends it, its history is the events of its prefixes,
+/// and then the refusal of its end, if it may not end there.
 pub fn pending_histories()
     ensures { (g : Grammar ℕ ℕ ℕ ℕ) → PendingHistories g }
 {}
 
-/// No unit begins a longer one that may come in its place.
+/// No unit is the beginning of a longer unit that may come in its place.
 pub fn no_unit_goes_on()
     ensures { (g : Grammar ℕ ℕ ℕ ℕ) → IsReadable g → NoUnitGoesOn g }
 {}
@@ -47,14 +49,14 @@ pub fn ends_are_closed()
     ensures { (g : Grammar ℕ ℕ ℕ ℕ) → IsReadable g → IsQuietWhenOver g → EndsAreClosed g }
 {}
 
-/// A stream's offence is what refuses the shortest prefix that is refused, or else what its end is
-/// refused as: it has one at most.
+/// A stream's offence is the refusal of its shortest refused prefix, or else that of its end: it
+/// has one at most.
 pub fn offences_are_first()
     ensures { (g : Grammar ℕ ℕ ℕ ℕ) → OffencesAreFirst g }
 {}
 
-/// A prefix is refused by what its last whole unit says, by bytes that are no unit which may come,
-/// or by its length.
+/// A prefix is refused by what its last whole unit says, by bytes that can be no unit which may
+/// come, or by its length.
 pub fn refusals_are_three()
     ensures { (g : Grammar ℕ ℕ ℕ ℕ) → IsReadable g → RefusalsAreThree g }
 {}
@@ -65,14 +67,14 @@ pub fn accepted_or_offended()
     ensures { (g : Grammar ℕ ℕ ℕ ℕ) → IsReadable g → AcceptedOrOffended g }
 {}
 
-/// What a piece adds to what is written of a stream depends on its answer. An event that ends the
-/// stream, or a refusal, ends what is written, whatever follows.
+/// What a piece adds to what is written of a stream depends only on its answer. Nothing is written
+/// after an event that ends the stream, or after a refusal, whatever follows.
 pub fn pieces_add()
     ensures { (g : Grammar ℕ ℕ ℕ ℕ) (t : Teller ℕ ℕ ℕ) (ends : ℕ → Bool) → Closes g ends
         → PiecesAdd g t ends }
 {}
 
-/// What the end of the input adds is what is written of the refusal that it is, or of none.
+/// What the end of the input adds to what is written is the lines of its refusal, or of none.
 pub fn ends_add()
     ensures { (g : Grammar ℕ ℕ ℕ ℕ) (t : Teller ℕ ℕ ℕ) → EndsAdd g t }
 {}

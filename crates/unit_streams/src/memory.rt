@@ -1,10 +1,11 @@
-//! Want of memory.
+//! The error of a call that runs out of memory.
 
 ghost use Rattle.std.specs.Prelude.{◌≡◌};
 
 use std::alloc::{AllocError, AllocFailed};
 
-/// Out of memory. No other error is reported as this one.
+/// Out of memory: an allocation failed. It is an answer of its own, and says nothing of a stream or
+/// of the outside.
 #[derive(Clone, Copy, Debug, PartialEq, Eq)]
 pub struct Memory;
 
