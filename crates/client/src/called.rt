@@ -12,13 +12,13 @@ use stream_loop::Outbound as Reported;
 /// What became of a call.
 #[derive(Clone, Copy, Debug, PartialEq, Eq)]
 pub enum Called {
-    /// In singleton mode there isn't one document in all. No connection was asked for.
+    /// In singleton mode there isn't exactly one document. No connection was asked for.
     WrongCount,
-    /// There was no memory to begin. No connection was asked for.
+    /// There was no memory to begin with. No connection was asked for.
     Starved,
     /// The wire made no connection.
     Unconnected,
-    /// A peer was called over a connection, which is closed.
+    /// A peer was called over a connection, which is closed now.
     Closed(CallOutcome),
 }
 
@@ -48,7 +48,7 @@ fn reason_status(reason: Reason) -> u8
     }
 }
 
-// By how the peer's stream ended.
+// The status by how the peer's stream ended.
 fn inbound_status(inbound: ClientIn) -> u8
     ensures { result ≡ inbound_status inbound }
 {
@@ -76,8 +76,8 @@ fn outcome_status(outcome: &CallOutcome) -> u8
 }
 
 impl Called {
-    /// The status of a run that ends so: running out of memory goes first, then a failed end of the
-    /// connection, a document that doesn't fit, a failed output, and what the peer sent.
+    /// The status of a run that ends so. Lack of memory goes first, then a failed end of the
+    /// connection, a document that doesn't fit, a failed output, and last what the peer sent.
     pub fn status(&self) -> u8
         ensures { result ≡ status_of self.now }
     {
@@ -89,8 +89,8 @@ impl Called {
         }
     }
 
-    /// The fault of the documents that is the cause of the status, and that a note says. Where there
-    /// is none, the note goes with the status by itself.
+    /// The refusal of the documents that is the cause of the status, which a note says. Without one
+    /// the note is that of the status.
     pub fn fault(&self) -> Option<InputFault>
         ensures { result ≡ fault_of self.now }
     {
@@ -105,7 +105,7 @@ impl Called {
     }
 }
 
-// The document that doesn't fit, where nothing goes before that.
+// The document that doesn't fit, unless another cause goes before it.
 fn unfit_in(outcome: &CallOutcome) -> Option<InputFault>
     ensures { result ≡ fault_of (Called.Closed outcome.now) }
 {

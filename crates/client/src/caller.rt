@@ -1,6 +1,6 @@
-//! What hears the events of the peer's stream, and answers and reports them.
+//! The listener that answers and reports the events of the peer's stream.
 
-ghost use Rattle.std.specs.Prelude.{◌≡◌, List, [], ℕ, ⊤, true, false, Result};
+ghost use Rattle.std.specs.Prelude.{◌≡◌, List, [], ◌++◌, ℕ, ⊤, true, false, Result};
 ghost use Rattle.stream_loop.specs.Writing.{Goes, TellsAlike, Writes, Wrote, outbound_by};
 ghost use Rattle.io_edges.specs.declared.SinkFault.{SinkFault as Fault};
 ghost use Rattle.command_words.specs.declared.task.Detail.{Detail as Shown};
@@ -23,28 +23,37 @@ use unit_streams::Memory;
 /// Whether the peer's Preamble Ack was read.
 #[derive(Clone, Copy, Debug, PartialEq, Eq)]
 pub enum Ack {
+    /// Not yet.
     Awaited,
+    /// It was: the envelopes are sent.
     Read,
 }
 
-/// Where a call writes to: the peer, and the report.
+/// What a call writes to.
 #[derive(Drop)]
 pub struct Outputs<'k, 'o, K, O> {
+    /// The peer.
     pub sink: &'k mut K,
+    /// The report of what the peer sends.
     pub report: &'o mut O,
 }
 
-/// Answers and reports the events of the peer's stream, and keeps what has become of the writing.
+/// Sends the envelopes when it hears the Ack, reports the events of the peer's stream, and keeps
+/// how both writings stand.
 #[derive(Drop)]
 pub struct Caller<'s> {
+    /// What is sent after the opening.
     pub outgoing: Outgoing<'s>,
     // How the writing of the opening ended.
     opened: Outbound,
     ack: Ack,
-    // How the peer's session has ended by its events.
+    /// How the peer's session has ended by its events so far.
     pub reached: Outcome,
+    /// How many envelopes were written, each whole.
     pub sent: u64,
+    /// How the writing to the peer stands.
     pub outbound: ClientOut,
+    /// How the writing of the report stands.
     pub report: Outbound,
 }
 
@@ -59,7 +68,7 @@ fn reached_after(reached: Outcome, event: &Event) -> Outcome
     }
 }
 
-// What becomes of the writing at a put that was answered so.
+// How the writing stands after a put that was answered so.
 fn outbound_by(answer: Result<(), SinkFault>) -> Outbound
     ensures { result ≡ outbound_by answer }
 {
@@ -84,7 +93,7 @@ fn put_lines<O: Sink>(reached: Outcome, event: &Event, output: &mut O) -> Outbou
     outbound_by(reporter.put_event(event, output))
 }
 
-// Puts the last line, where there is one: a stream that isn't judged has none.
+// Puts the last line of the report; there is none if the stream was neither accepted nor refused.
 fn put_last<O: Sink>(ending: Ending<Offence>, reached: Outcome, output: &mut O) -> Outbound
     ensures goes { Goes O.written O.held O.faults O.may_want result (closing_of ending reached)
         output.old output.new }
@@ -101,7 +110,7 @@ fn put_last<O: Sink>(ending: Ending<Offence>, reached: Outcome, output: &mut O) 
 }
 
 impl<'s> Caller<'s> {
-    /// Before the first event, where the writing of the opening ended so.
+    /// Before the first event, when the writing of the opening stands so.
     pub fn new(outgoing: Outgoing<'s>, opened: Outbound) -> Self
         ensures outgoing { result.outgoing ≡ outgoing.entry }
         ensures opened { result.opened ≡ opened }
@@ -233,7 +242,7 @@ impl<'s> Caller<'s> {
         }
     }
 
-    /// Puts the last line and writes what the output holds, unless the writing of the report has
+    /// Puts the last line, and writes what the output holds, unless the writing of the report has
     /// ended.
     pub fn close<O: Sink>(&mut self, ending: Ending<Offence>, output: &mut O)
         ensures closed { (first : O) (events : List Heard)
@@ -261,14 +270,19 @@ impl<'s, 'k, 'o, K: Sink, O: Sink> Listener<Event, Outputs<'k, 'o, K, O>> for Ca
     ghost use Rattle.stream_loop.specs.Writing.{TellsAlike};
     ghost use Rattle.stream_loop.specs.declared.outbound.Outbound.{Outbound as Stands};
 
+    type Halt = Memory;
+
     ghost Settings = { Due × Stands };
 
     ghost settings = { λ caller. (caller.outgoing, caller.opened) };
 
-    ghost heard = { λ first events caller now. IsAlong K.written K.held K.faults K.may_want
-        O.written O.held O.faults O.may_want first events caller now };
+    ghost heard = { λ first paused since caller now. IsAlong K.written K.held K.faults K.may_want
+        O.written O.held O.faults O.may_want first (paused ++ since) caller now };
 
-    ghost may_take_memory = { λ caller. ⊥ };
+    ghost halted = { λ first paused since at halt caller now. IsAlong K.written K.held K.faults
+        K.may_want O.written O.held O.faults O.may_want first (paused ++ since) caller now };
+
+    ghost may_halt = { λ caller. ⊥ };
 
     ghost may_wait = { λ caller now. MayWait K.ended O.held caller now };
 
@@ -285,8 +299,9 @@ impl<'s, 'k, 'o, K: Sink, O: Sink> Listener<Event, Outputs<'k, 'o, K, O>> for Ca
         Ok(event)
     }
 
-    fn pause(&mut self, outputs: &mut Outputs<'k, 'o, K, O>) {
+    fn pause(&mut self, outputs: &mut Outputs<'k, 'o, K, O>) -> Result<(), Memory> {
         self.write_lines(outputs.report);
         self.end_sending(outputs.sink);
+        Ok(())
     }
 }

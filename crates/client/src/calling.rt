@@ -108,7 +108,7 @@ fn follow_answers<S: Source, K: Sink, O: Sink>(
 }
 
 /// Calls the peer whose bytes the source gives and the sink takes, as [`call_one`] does, with
-/// documents whose envelopes were made before. They are put together, a part at a time.
+/// documents whose envelopes were made before. These are put together, a part at a time.
 pub fn call_prepared<S: Source, K: Sink, O: Sink>(
     alloc: Global,
     source: &mut S,
@@ -153,16 +153,16 @@ fn outgoing_of<'s>(alloc: Global, settings: CallSettings<'s>, docs: &Docs) -> Ou
     envelopes.finish()
 }
 
-/// Calls the peer whose bytes the source gives and the sink takes: writes the opening of a session
-/// to this Via, reads to the peer's Preamble Ack, writes an envelope for each document and an End
-/// record, and reads to the end. The report of what is read goes to the output, with its documents;
-/// the lines of what came are written before more is taken. The envelopes of all documents are made
-/// before the opening is written, and are in memory until the call ends.
+/// Calls the peer whose bytes the source gives and the sink takes (MC-NMF): writes the opening of a
+/// session to this Via, reads to the peer's Preamble Ack, writes an envelope for each document and
+/// an End record, and reads to the end. The report of what is read goes to the output, with its
+/// documents; the lines of what came are written before more is read. The envelopes of all
+/// documents are made before the opening is written, and are in memory until the call ends.
 ///
-/// Where no Ack is read nothing is written after the opening. After a failed write to the peer, at
-/// a document that doesn't fit, or when out of memory while writing, nothing more is put to the
-/// sink, and reading goes on. After a write to the output that failed nothing more is put to the
-/// output, and all else goes on.
+/// If no Ack is read, nothing is written after the opening. After a failed write to the peer, at a
+/// document that doesn't fit, or when out of memory while writing, nothing more is put to the sink,
+/// and reading goes on. After a failed write to the output nothing more is put to the output, and
+/// all else goes on.
 pub fn call_one<S: Source, K: Sink, O: Sink>(
     alloc: Global,
     source: &mut S,

@@ -1,4 +1,4 @@
-//! The documents of a call, as they come.
+//! A keeper of the documents of a call, of which it keeps the envelopes.
 
 ghost use Rattle.std.specs.Prelude.{◌≡◌, ◌++◌, ◌∷◌, [], List, OnOk};
 ghost use Rattle.nbfx_values.specs.declared.content.Item.{Item as Part};
@@ -9,7 +9,7 @@ use nbfx_values::{Doc, Docs};
 use std::alloc::Global;
 use unit_streams::Memory;
 
-/// Makes the envelope of each document of a call, which it keeps, and counts the documents.
+/// Makes and keeps the envelope of each document of a call, and counts the documents.
 #[derive(Drop)]
 pub struct EnvelopeKeeper<'s> {
     pub(crate) envelopes: Envelopes<'s>,

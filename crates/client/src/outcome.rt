@@ -10,13 +10,13 @@ use stream_loop::Outbound;
 /// How the reading of the peer's stream ended.
 #[derive(Clone, Copy, Debug, PartialEq, Eq)]
 pub enum ClientIn {
-    /// The session ended with End, or with the Ack alone where messages are one-way.
+    /// The session ended with End, or in simplex mode with the Ack alone.
     Ended,
-    /// Why the stream is refused.
+    /// The stream is refused: where, and why.
     Offended(Offence),
     /// The peer sent a Fault record, which ends the session.
     PeerFault,
-    /// A read failed.
+    /// A read met an I/O error.
     ReadFault,
     /// Out of memory while reading.
     Memory,
@@ -25,12 +25,12 @@ pub enum ClientIn {
 /// How the writing to the peer ended.
 #[derive(Clone, Copy, Debug, PartialEq, Eq)]
 pub enum ClientOut {
-    /// All that was due is written: the session, or its opening alone where no Ack was read.
+    /// All that was due is written: the session, or its opening alone if no Ack was read.
     Done,
     /// The document with this number, from 0, doesn't fit. Nothing is written after the envelopes
     /// before it. The fault isn't `Memory`.
     Unfit { number: u64, fault: EncodeFault },
-    /// A write failed.
+    /// A write met an I/O error.
     WriteFault,
     /// Out of memory while writing.
     Memory,
@@ -50,10 +50,12 @@ pub(crate) fn client_out(outbound: Outbound) -> ClientOut
 /// What became of a call.
 #[derive(Clone, Copy, Debug, PartialEq, Eq)]
 pub struct CallOutcome {
-    /// How many envelopes were written, each whole. Where a write failed, first bytes of the next
-    /// one may be written too. Of a sink that holds bytes back they are those that it took.
+    /// How many envelopes were written, each whole. After a failed write first bytes of the next
+    /// one may be written too. If the sink holds bytes back, they are the envelopes that it took.
     pub sent: u64,
+    /// How the reading of the peer's stream ended.
     pub inbound: ClientIn,
+    /// How the writing to the peer ended.
     pub outbound: ClientOut,
     /// How the writing of the report ended.
     pub report: Outbound,

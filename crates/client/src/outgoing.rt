@@ -11,19 +11,24 @@ use static_dictionary::StaticTable;
 use std::alloc::Global;
 use unit_streams::Memory;
 
-/// How documents are sent, and how what the peer answers is read.
+/// How documents are sent, and how the peer's stream is read.
 #[derive(Clone, Copy)]
 pub struct CallSettings<'s> {
+    /// The static strings.
     pub statics: &'s StaticTable,
+    /// The quotas of writing and reading.
     pub quotas: Quotas,
+    /// The mode of the session.
     pub mode: Mode,
+    /// The encoding of its envelopes.
     pub kind: Kind,
 }
 
-/// The envelopes of a call's documents, which are made as these come. After the first document that
-/// has none no other is made.
+/// The envelopes of a call's documents, which are made as the documents come. After the first
+/// document that has no envelope no other is made.
 #[derive(Drop)]
 pub struct Envelopes<'s> {
+    /// How they are made.
     pub settings: CallSettings<'s>,
     pub(crate) sender: Sender<'s>,
     pub(crate) bytes: Vec<u8>,
@@ -33,10 +38,11 @@ pub struct Envelopes<'s> {
     pub(crate) fault: Option<EncodeFault>,
 }
 
-/// What a call sends after its opening: the envelopes of all its documents and an End record, or the
-/// envelopes before the first document that has none.
+/// What a call sends after its opening: the envelopes of all its documents and an End record, or
+/// the envelopes before the first document that has none.
 #[derive(Drop)]
 pub struct Outgoing<'s> {
+    /// How they were made, and how the peer's stream is read.
     pub settings: CallSettings<'s>,
     pub(crate) bytes: Vec<u8>,
     pub(crate) ends: Vec<usize>,
@@ -95,9 +101,9 @@ impl<'s> Envelopes<'s> {
         }
     }
 
-    /// Makes the envelope of the next document, where each before it has one. A document that
-    /// doesn't fit has none, which is no error here. Where there is no memory for it, it has none
-    /// either, and the call is an error.
+    /// Makes the envelope of the next document, if each before it has one. A document that doesn't
+    /// fit has none, which is no error here. Without memory for its envelope it has none either,
+    /// and the call fails.
     pub fn add(&mut self, doc: &Doc) -> Result<(), Memory>
         ensures added { (documents : List (List Part)) → HasAdded documents self.old
             → HasAdded (documents ++ doc.now ∷ []) self.new }
@@ -120,7 +126,7 @@ impl<'s> Envelopes<'s> {
         }
     }
 
-    /// What is to be sent, when all documents were added.
+    /// What is to be sent, once all documents were added.
     pub fn finish(self) -> Outgoing<'s>
         ensures carries { (documents : List (List Part)) → HasAdded documents self.entry
             → MayBeSent self.entry.settings.mode documents → Carries documents result }

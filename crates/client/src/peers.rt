@@ -1,4 +1,4 @@
-//! A peer that is called over a connection.
+//! A call of a peer over a connection.
 
 ghost use Rattle.std.specs.Prelude.{◌≡◌, ◌≤◌, List, [], OnOk, length};
 ghost use Rattle.io_edges.specs.Puts.{Puts};
@@ -19,12 +19,14 @@ use io_edges::{GatheringSink, Sink, SinkFault, Source};
 use std::alloc::Global;
 use stream_loop::Outbound as Reported;
 
-/// What a peer is called with: what is sent to the Via, of documents of which so many were in the
-/// first of two lists and so many in the second.
+/// What a peer is called with.
 #[derive(Drop)]
 pub struct Call<'c> {
+    /// The Via of the session.
     pub via: &'c str,
+    /// What is sent after the opening.
     pub outgoing: Outgoing<'c>,
+    /// How many documents each of two lists has, of which these are the envelopes.
     pub counts: Counts,
 }
 
@@ -45,7 +47,7 @@ fn put_due<O: Sink>(
     }
 }
 
-// Puts it behind the report, and writes what the output holds.
+// Puts that line after the report, and writes what the output holds.
 fn put_line<O: Sink>(
     inbound: ClientIn,
     counts: Counts,
@@ -112,8 +114,8 @@ fn call_peer<S: Source, K: Sink, O: Sink>(
     }
 }
 
-/// Calls the peer whose bytes the source gives and the sink takes, and writes the report of that,
-/// which is gathered in a buffer. Answers what became of it with the output.
+/// Calls the peer whose bytes the source gives and the sink takes, and writes the report of what it
+/// sends, which is gathered in a buffer. Answers what became of it, with the output.
 pub fn call_gathered<S: Source, K: Sink, O: Sink>(
     alloc: Global,
     call: Call<'_>,

@@ -1,4 +1,4 @@
-//! A place that is called over a wire.
+//! A call of a place over a wire.
 
 ghost use Rattle.std.specs.Prelude.{◌≡◌, ◌≤◌, ◌<◌, ◌^◌, ◌++◌, List, true, false, length};
 ghost use Rattle.nbfx_values.specs.declared.content.Item.{Item as Part};
@@ -66,8 +66,8 @@ fn call_over<W: Wire, O: Sink>(
 
 /// Calls the place with the documents of both lists, one after the other: makes a connection, sends
 /// a session to the Via, and writes the report of what the peer sends, with a last line of what was
-/// sent. The connection is closed however that ends. Where the documents may not be sent in one
-/// session, no connection is asked for. Answers what became of it with the output.
+/// sent. The connection is closed however that ends. If the documents may not be sent in one
+/// session, no connection is asked for. Answers what became of it, with the output.
 pub fn call_place<W: Wire, O: Sink>(
     alloc: Global,
     wire: &mut W,

@@ -24,6 +24,7 @@ use unit_streams::Memory;
 pub struct Sent {
     /// How many envelopes were written, each whole.
     pub count: u64,
+    /// How the writing to the peer stands.
     pub outbound: ClientOut,
 }
 
@@ -38,7 +39,7 @@ fn write_bytes<K: Sink>(bytes: &[u8], sink: &mut K) -> Outbound
     flush(sink)
 }
 
-/// Writes the opening.
+/// Writes the opening of a session (MC-NMF): an initiator's preamble.
 pub fn send_opening<K: Sink>(
     alloc: Global,
     mode: Mode,
@@ -96,7 +97,7 @@ fn end_writing<K: Sink>(fault: Option<EncodeFault>, count: u64, sink: &mut K) ->
     }
 }
 
-/// Writes the envelopes, and the End record where there is one.
+/// Writes the envelopes, and the End record if there is one.
 pub fn send_envelopes<K: Sink>(outgoing: &Outgoing<'_>, sink: &mut K) -> Sent
     ensures sends { (documents : List (List Part)) (first : K) (before : List ℕ)
         → Carries documents outgoing.now

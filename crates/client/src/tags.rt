@@ -16,7 +16,9 @@ const SECOND: u8 = 1;
 /// How many documents two lists have.
 #[derive(Clone, Copy, Debug, PartialEq, Eq)]
 pub struct Counts {
+    /// How many the first has.
     pub first: u64,
+    /// How many the second has.
     pub second: u64,
 }
 
@@ -46,7 +48,8 @@ fn put_tags<K: Sink>(counts: Counts, sent: u64, output: &mut K) -> Result<(), Si
     put_letters(SECOND, second, output)
 }
 
-/// Puts the line of how many documents were sent, and of which list each was.
+/// Puts the line of how many documents were sent, and of which list each was. It fails as the
+/// output does.
 pub fn put_sent<K: Sink>(counts: Counts, sent: u64, output: &mut K) -> Result<(), SinkFault>
     ensures { Puts K.written K.held K.faults K.may_want output.old output.new
         (sent_line counts.first counts.second sent) result }

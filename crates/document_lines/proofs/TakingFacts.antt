@@ -1,10 +1,11 @@
 -- What was taken of a source, by how the taking ended.
-use Rattle.std.proofs.Common.{◌≡◌, ℕ, ◌⊎◌, List, [], ◌++◌, Some, Ok, Err, Result, sym, refl, ap}
-use Rattle.std.proofs.Common.{◌∙◌, subst, inl, inr, append-nil}
+use Rattle.std.proofs.Common.{◌≡◌, ℕ, ◌⊎◌, ◌↔◌, List, [], ◌∷◌, ◌++◌, length, Some, Ok, Err, Result}
+use Rattle.std.proofs.Common.{sym, refl, ap, ◌∙◌, subst, inl, inr, append_assoc, append-nil, arith}
 use Rattle.{std.specs.Prelude.⊤, nbfx_values.specs.declared.content.Item.Item}
-use Rattle.io_edges.specs.{Faults.CountsFaults, Faults.one_more, Flow.Told}
-use Rattle.stream_loop.{proofs.LoopSteps.LeftSince, proofs.LoopSteps.TakenSince, specs.Edges.Input}
-use Rattle.stream_loop.proofs.Writing.{counted_none, counted_with, known_told, told_some}
+use Rattle.io_edges.specs.{declared.Failed.Failed, Faults.CountsFaults, Faults.one_more, Flow.Told}
+use Rattle.stream_loop.proofs.{Reading.told_both, Reading.told_then}
+use Rattle.stream_loop.proofs.Writing.{counted_none, counted_with, told_some}
+use Rattle.stream_loop.specs.{Edges.Fills, Edges.Input}
 use Rattle.line_notation.specs.{Between.IsUnrefused, LineReaderState.standing, Lines.cut}
 use Rattle.document_lines.specs.declared.reading.{ListFault.ListFault, ListReader.ListReader}
 use Rattle.document_lines.specs.declared.reading.ListFault.TheVariants.{Memory, ReadFault, Refused}
@@ -16,21 +17,68 @@ module _ {D : Type 0} (kept : List (List Item) → D → Type 0) (quota : ℕ) (
     (new : ListReader D) where
   -- these bytes were taken, and that is how it ended
   pub taken_lines : (bytes : List ℕ) (result : Result ⊤ ListFault)
-      → LeftSince i.left i'.left (λ rest. bytes ++ rest)
-      → TakenSince i.taken i'.taken bytes
+      → Told i.left i'.left (λ all rest. all ≡ bytes ++ rest)
+      → Told i.taken i'.taken (λ t t'. t' ≡ t ++ bytes)
       → HasTaken kept quota bytes (Told i.left i'.left (λ all rest. rest ≡ [])) new result
       → (i'.empty_takes ≡ i.empty_takes) ⊎ (i'.empty_takes ≡ one_more i.empty_takes)
       → CountsFaults i.faults i'.faults (result ≡ Err ReadFault)
       → TakesLines kept quota i i' new result
   taken_lines bytes result left taken has asked counted = record {
     bytes = bytes;
-    stream = known_told (λ all rest. all ≡ bytes ++ rest) i.left i'.left left;
-    took = known_told (λ t t'. t' ≡ t ++ bytes) i.taken i'.taken
-        (λ t e. (t ++ bytes, taken t e, refl));
+    stream = left;
+    took = taken;
     has_taken = has;
     asked_once = asked;
     counted = counted;
   }
+
+-- what was taken with the bytes that came into a buffer
+module _ (i i1 i2 : Input) (p bytes : List ℕ) (answer : Result ℕ Failed)
+    (f : Fills i1 i2 bytes answer) where
+  pub left_then : Told i.left i1.left (λ all rest. all ≡ p ++ rest)
+      → Told i.left i2.left (λ all rest. all ≡ (p ++ bytes) ++ rest)
+  left_then left = told_then (λ all rest. all ≡ p ++ rest) (λ l l'. l ≡ bytes ++ l')
+      (λ all rest. all ≡ (p ++ bytes) ++ rest) i.left i1.left i2.left left f.moved
+      (λ all rest rest' e k. e ∙ ap (λ l. p ++ l) k ∙ sym (append_assoc p bytes rest'))
+
+  pub taken_then : Told i.taken i1.taken (λ t t'. t' ≡ t ++ p)
+      → Told i.taken i2.taken (λ t t'. t' ≡ t ++ (p ++ bytes))
+  taken_then taken = told_then (λ t t'. t' ≡ t ++ p) (λ t t'. t' ≡ t ++ bytes)
+      (λ t t'. t' ≡ t ++ (p ++ bytes)) i.taken i1.taken i2.taken taken f.taken
+      (λ t t' t'' e k. k ∙ ap (λ l. l ++ bytes) e ∙ append_assoc t p bytes)
+
+  -- where none came
+  module _ (none : bytes ≡ []) where
+    none_more : p ++ bytes ≡ p
+    none_more = ap (λ l. p ++ l) none ∙ append-nil p
+
+    pub left_still : Told i.left i1.left (λ all rest. all ≡ p ++ rest)
+        → Told i.left i2.left (λ all rest. all ≡ p ++ rest)
+    left_still left = subst (λ (b : List ℕ). Told i.left i2.left (λ all rest. all ≡ b ++ rest))
+        none_more (left_then left)
+
+    pub taken_still : Told i.taken i1.taken (λ t t'. t' ≡ t ++ p)
+        → Told i.taken i2.taken (λ t t'. t' ≡ t ++ p)
+    taken_still taken = subst (λ (b : List ℕ). Told i.taken i2.taken (λ t t'. t' ≡ t ++ b))
+        none_more (taken_then taken)
+
+none_of : (bytes : List ℕ) → length bytes ≡ 0 → bytes ≡ []
+none_of [] none = refl
+none_of (b ∷ bytes) none = absurd (omega (arith, none))
+
+-- at the end of the source
+module _ (i1 i2 : Input) (bytes : List ℕ) (n : ℕ) (f : Fills i1 i2 bytes (Ok n)) (zero : n ≡ 0)
+  where
+    pub none_came : bytes ≡ []
+    none_came = none_of bytes (sym f.size ∙ zero)
+
+    pub over_then : (i : Input) (p : List ℕ) → Told i.left i1.left (λ all rest. all ≡ p ++ rest)
+        → Told i.left i2.left (λ all rest. rest ≡ [])
+    over_then i p left = told_then (λ all rest. all ≡ p ++ rest)
+        (λ l l'. (l ≡ bytes ++ l') × ((n ≡ 0) ↔ (l ≡ []))) (λ all rest. rest ≡ []) i.left i1.left
+        i2.left left (told_both (λ l l'. l ≡ bytes ++ l') (λ l l'. (n ≡ 0) ↔ (l ≡ [])) i1.left
+        i2.left f.moved f.ended)
+        (λ all rest rest' e k. ap (λ l. l ++ rest') (sym none_came) ∙ sym k.0 ∙ k.1.0 zero)
 
 module _ {D : Type 0} (kept : List (List Item) → D → Type 0) where
   -- bytes of which no line is refused

@@ -4,7 +4,7 @@ ghost use Rattle.std.specs.Prelude.{◌≡◌};
 
 use std::marker::Model;
 
-/// The bytes of an envelope (MC-NMF), which contracts see as their list.
+/// The bytes of an envelope record of MC-NMF, which contracts see as their list.
 #[derive(Debug, Drop)]
 pub struct Envelope {
     bytes: Vec<u8>,
@@ -26,7 +26,7 @@ impl Envelope {
         Envelope { bytes }
     }
 
-    /// The bytes.
+    /// The bytes of the envelope.
     pub fn as_slice(&self) -> &[u8]
         ensures { result.now ≡ self.now }
     {

@@ -1,4 +1,4 @@
-//! Documents out of the lines of a shelf's file.
+//! Documents from the lines of a shelf's file.
 
 ghost use Rattle.std.specs.Prelude.{◌≡◌, IsErrOf};
 ghost use Rattle.io_edges.specs.Faults.{CountsFaults, one_more};
@@ -10,20 +10,22 @@ use io_edges::{Shelf, ShelfFault};
 use nbfx_values::Docs;
 use std::alloc::Global;
 
-/// Why a file gives no documents.
+/// Why a file of documents isn't read.
 #[derive(Clone, Copy, Debug, PartialEq, Eq)]
 pub enum FileFault {
     /// The shelf has no file of that name.
     Missing,
-    /// Its lines are refused so.
+    /// Its lines are refused, for this reason.
     Refused(InputFault),
-    /// The shelf failed.
+    /// The fetch met an I/O error.
     Failed,
     /// Out of memory.
     Memory,
 }
 
-/// Reads the documents of the shelf's file of that name.
+/// Fetches the shelf's file of that name and reads the documents of its lines. It fails where there
+/// is no such file, where the fetch met an I/O error, where a line is refused or the lines end
+/// within a document, or without memory.
 pub fn fetch_documents<F: Shelf>(
     alloc: Global,
     shelf: &mut F,

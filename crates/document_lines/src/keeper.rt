@@ -1,4 +1,4 @@
-//! What becomes of the documents of lines.
+//! What is done with the documents of lines.
 
 ghost use Rattle.std.specs.Prelude.{◌≡◌, List, [], ◌∷◌, ◌++◌, OnOk};
 ghost use Rattle.std.proofs.Common.{sym};
@@ -13,7 +13,8 @@ pub trait Keeper: Drop {
     /// Since it was as `first`, it has kept these documents, in this order; it is as `keeper` now.
     ghost kept: { (first : Self) → (documents : List (List Item)) → (keeper : Self) → Type 0 };
 
-    /// Takes one document more, and may give one back whose memory the reader may use again.
+    /// Takes one document more, and may give one back whose memory the reader may use again. It
+    /// fails without memory.
     fn keep(&mut self, doc: Doc) -> Result<Option<Doc>, Memory>
         ensures { (first : Self) (documents : List (List Item)) → kept first documents self.old
             → OnOk result (kept first (documents ++ doc ∷ []) self.new) };

@@ -23,20 +23,20 @@ pub fn accepted_is_built()
 {}
 
 /// What is written of any input is the envelopes of the documents of its first lines, in their
-/// order, and an End record where nothing is refused: in singleton mode there is one document then.
-/// A refused line is the next one, by its number from 1, and its kind says why: it is refused for
-/// what it says or for its place, it begins a second document in singleton mode, or there is none
-/// and the input ends, too early or without a document. A document that doesn't fit is the next one
-/// too, by its number from 0, and the refusal says which quota it is above, or that a QName of it
-/// gets no identifier; want of memory is none.
-/// And input is too long where it has as many bytes as the session quota.
+/// order, and an End record if nothing is refused; in singleton mode there is then one document. A
+/// refused line is the next one, by its number from 1, and its kind says why: it is refused for
+/// what it says or for its place, it begins a second document in singleton mode, or the input ends
+/// within a document, or without one in singleton mode. A document that doesn't fit is the next one
+/// too, by its number from 0, and the refusal says which quota it exceeds, or that a QName of it
+/// gets no identifier; lack of memory is no such refusal. Input is too long if it has as many bytes
+/// as the session quota.
 pub fn input_is_written()
     ensures written { InputIsWritten }
     ensures no_memory { RefusesNoMemory }
 {}
 
 /// Lines of documents that can be written, of which there is one in singleton mode, aren't refused
-/// where they have fewer bytes than the session quota.
+/// if they have fewer bytes than the session quota.
 pub fn fitting_is_accepted()
     ensures { FittingIsAccepted }
 {

@@ -47,9 +47,9 @@ pub use taking::take_documents;
 /// Why lines of documents are refused.
 #[derive(Clone, Copy, Debug, PartialEq, Eq)]
 pub enum InputFault {
-    /// The line with this number, from 1, and why.
+    /// The line with this number, from 1, for this reason.
     Line { line: u64, kind: LineKind },
-    /// The document with this number, from 0, can't be written, and why.
+    /// The document with this number, from 0, can't be written, for this reason.
     Unfit { number: u64, why: EncodeFault },
     /// As many bytes as the session quota were read, and the input hasn't ended.
     TooLong,

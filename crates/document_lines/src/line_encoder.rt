@@ -18,7 +18,8 @@ use std::alloc::Global;
 use std::mem;
 use stream_loop::FeedFault;
 
-// A line with this number begins a second document in singleton mode, or would be the first of one.
+// The refusal of the line with this number for the number of documents: it begins a second one in
+// singleton mode, or none has come.
 fn wrong_count(line: u64) -> InputFault
     ensures { result ≡ InputFault.Line line LineKind.WrongCount }
 {
@@ -36,12 +37,16 @@ fn refused(fault: InputFault) -> Result<Option<Envelope>, FeedFault<InputFault>>
     Err(FeedFault::Refused(fault))
 }
 
-/// Reads whole lines, and writes the document that a line completes.
+/// Reads complete lines, and writes the envelope of a document at its last line.
 #[derive(Drop)]
 pub struct LineEncoder<'s> {
+    /// Where memory is allocated.
     pub alloc: Global,
+    /// The reader of lines.
     pub lines: LineReader,
+    /// The sending half of the session.
     pub sender: Sender<'s>,
+    /// The session's mode.
     pub mode: Mode,
     /// How many documents were completed.
     pub documents: u64,
@@ -87,8 +92,9 @@ impl<'s> LineEncoder<'s> {
         }
     }
 
-    /// Reads a line, which is given without its line feed, and writes the document that it
-    /// completes, if it completes one.
+    /// Reads a line, which is given without its line feed, and answers the envelope of the document
+    /// that it completes, if any. It fails where the line is refused or the document doesn't fit,
+    /// or without memory.
     #[inline(always)]
     pub fn line(&mut self, line: &[u8]) -> Result<Option<Envelope>, FeedFault<InputFault>>
         requires lines { HasReadFew self.old.lines }
@@ -137,7 +143,7 @@ impl<'s> LineEncoder<'s> {
         }
     }
 
-    // The room of an envelope, in which nothing stands.
+    // The buffer of an envelope, which is empty.
     fn take_room(&mut self) -> Vec<u8>
         ensures nothing { result.items ≡ [] }
         ensures kept { KeepsAll self.old self.new }

@@ -1,4 +1,4 @@
-//! Lines of documents, in any pieces.
+//! A reader of lines of documents, in any pieces.
 #![tactic(auto, unfolding(crate::specs::DocumentReaderState::StandsFor, crate::specs::DocumentReaderState::failure_of, crate::specs::DocumentReaderState::settings_of))]
 
 ghost use Rattle.std.specs.Prelude.{◌≡◌, ℕ, ◌+◌, ◌<◌, ◌≤◌, List, [], ◌++◌, length, take, IfOk, IfErr, OnOk, Some, Err};
@@ -19,9 +19,9 @@ use stream_loop::FeedFault;
 
 const LINE_FEED: u8 = b'\n';
 
-/// Reads lines of documents, in whatever pieces their bytes come, and writes an envelope for each
-/// document that they complete. Of the input it holds the bytes of the unfinished line, and the
-/// items of the unfinished document.
+/// Reads lines of documents, in whatever pieces their bytes come, and answers an envelope (MC-NMF)
+/// for each document that they complete. Of the input it holds the bytes of the incomplete line,
+/// and the items of the incomplete document.
 #[derive(Drop)]
 pub struct DocumentReader<'s> {
     quotas: Quotas,
@@ -42,7 +42,7 @@ impl<'s> DocumentReader<'s> {
     ghost use Rattle.document_lines.specs.DocumentReaderState.{IsAt, KeepsSet, LineAnswers, StandsFor, UnitAnswers, WhereItStands, failure_of, said_at_end, settings_of};
 
     /// A reader before the first byte, of documents that are written within these quotas, in a
-    /// session of this mode whose payloads are of this kind.
+    /// session of this mode and encoding.
     pub fn new(
         alloc: Global,
         statics: &'s StaticTable,
@@ -68,8 +68,9 @@ impl<'s> DocumentReader<'s> {
     }
 
     /// Uses the bytes of the piece up to and including the one that completes the next document,
-    /// and says how many they are, with its envelope; where none completes one, all of the piece.
-    /// After a refusal it is refused the same way.
+    /// and answers how many they are, and its envelope; or all of the piece, where no byte
+    /// completes one. It fails at the line feed of the first bad line or of the first document that
+    /// doesn't fit, at the session quota, or without memory, and in the same way from then on.
     pub fn feed(&mut self, piece: &[u8]) -> Result<(usize, Option<Envelope>), FeedFault<InputFault>>
         ensures within { IfOk result (λ answer. answer.0 ≤ length piece.now) }
         // The answer is decided at the first byte that completes a document or shows a refusal.
@@ -106,8 +107,8 @@ impl<'s> DocumentReader<'s> {
         Ok((used, None))
     }
 
-    /// Says that the input is over, which it may not be within a line or a document, nor in
-    /// singleton mode without a document.
+    /// Says that the input is over. It fails within a line or a document, and in singleton mode
+    /// without a document.
     pub fn end_of_input(&mut self) -> Result<(), FeedFault<InputFault>>
         ensures answers { WhereItStands self.old (λ p.
             result ≡ said_at_end (ending_at (lines_of_documents (settings_of self.old)) p)) }
@@ -155,7 +156,7 @@ impl<'s> DocumentReader<'s> {
         len.min(left as usize)
     }
 
-    // Fails for good.
+    // Fails from now on.
     fn fail(&mut self, fault: FeedFault<InputFault>) -> FeedFault<InputFault>
         ensures same { result ≡ fault }
         ensures failure { failure_of self.new ≡ Some fault }
@@ -187,7 +188,7 @@ impl<'s> DocumentReader<'s> {
         }
     }
 
-    // Takes bytes of the unfinished line.
+    // Takes bytes of the incomplete line.
     fn begin(&mut self, bytes: &[u8]) -> Result<(), FeedFault<InputFault>>
         requires { self.old.taken + length bytes.now ≤ self.old.quotas.session }
         ensures begun { OnOk result (self.new.begun.items ≡ self.old.begun.items ++ bytes.now) }
@@ -204,7 +205,7 @@ impl<'s> DocumentReader<'s> {
         }
     }
 
-    // Reads the line that ends with these bytes, behind which its line feed stands.
+    // Reads the line that ends with these bytes, after which its line feed comes.
     fn end_line(&mut self, bytes: &[u8]) -> Result<Option<Envelope>, FeedFault<InputFault>>
         requires { self.old.taken + length bytes.now + 1 ≤ self.old.quotas.session }
         ensures answers { (x : Settings) (z : Situation) → IsAt x z self.old.encoder

@@ -22,29 +22,30 @@ const LINE_FEED: u8 = b'\n';
 /// More bytes than there are in memory.
 const NO_QUOTA: u64 = 1 << 63;
 
-/// Why there are no documents.
+/// Why the documents of lines aren't read.
 #[derive(Clone, Copy, Debug, PartialEq, Eq)]
 pub enum ListFault {
-    /// Their lines are refused so, or are too long.
+    /// The lines are refused, or too long.
     Refused(InputFault),
-    /// A read failed.
+    /// A read met an I/O error.
     ReadFault,
     /// Out of memory.
     Memory,
 }
 
-/// Reads documents out of lines, in whatever pieces their bytes come, and hands each to a keeper as
-/// soon as its last line is read. Of the bytes it holds those of the unfinished line.
+/// Reads documents from lines, in whatever pieces their bytes come, and hands each to a keeper as
+/// soon as its last line is read. Of the input it holds the bytes of the incomplete line.
 #[derive(Drop)]
 pub struct ListReader<D> {
-    /// As many bytes are too long.
+    /// So many bytes are too many.
     pub quota: u64,
     /// How many bytes were read.
     pub taken: u64,
+    /// The reader of lines.
     pub lines: LineReader,
-    /// The bytes of the unfinished line.
+    /// The bytes of the incomplete line.
     pub begun: Vec<u8>,
-    /// What keeps the documents.
+    /// What takes the documents.
     pub keeper: D,
     ghost few: { quota ≤ 2 ^ 63 },
     ghost within: { taken ≤ quota },
@@ -70,7 +71,8 @@ impl<D: Keeper> ListReader<D> {
         }
     }
 
-    /// Reads a piece, as far as the quota admits.
+    /// Reads a piece, as far as the quota admits. It fails at the first bad line, at the quota, or
+    /// without memory.
     pub fn read_piece(&mut self, piece: &[u8]) -> Result<(), ListFault>
         ensures reads { (first : D) (p : List ℕ) → HasRead (D.kept first) self.old p
             → ReadsPiece (D.kept first) self.old.quota self.new p piece.now result }
@@ -87,7 +89,7 @@ impl<D: Keeper> ListReader<D> {
         Ok(())
     }
 
-    /// The keeper of the documents, where the bytes may end here.
+    /// The keeper of the documents. It fails where the input may not end here.
     pub fn finish(self) -> Result<D, ListFault>
         ensures says { (first : D) (p : List ℕ) → HasRead (D.kept first) self p
             → length p < self.quota
@@ -121,7 +123,7 @@ impl<D: Keeper> ListReader<D> {
         self.begin(rest)
     }
 
-    // Takes bytes of the unfinished line.
+    // Takes bytes of the incomplete line.
     fn begin(&mut self, bytes: &[u8]) -> Result<(), ListFault>
         requires { self.old.taken + length bytes.now ≤ self.old.quota }
         ensures reads { (first : D) (p : List ℕ) → HasRead (D.kept first) self.old p
@@ -138,7 +140,7 @@ impl<D: Keeper> ListReader<D> {
         }
     }
 
-    // Reads the line that ends with these bytes, behind which its line feed stands.
+    // Reads the line that ends with these bytes, after which its line feed comes.
     fn end_line(&mut self, bytes: &[u8]) -> Result<(), ListFault>
         requires { self.old.taken + length bytes.now < self.old.quota }
         ensures reads { (first : D) (p : List ℕ) → HasRead (D.kept first) self.old p
@@ -160,8 +162,8 @@ impl<D: Keeper> ListReader<D> {
     }
 }
 
-// The first line of some bytes, without its line feed, and what comes behind that; or none, where
-// no line ends in them.
+// The first line of some bytes, without its line feed, and what follows that; None where no line
+// ends in them.
 fn split_line(bytes: &[u8]) -> Option<(&[u8], &[u8])>
     ensures split { IfSome result (λ parts. (bytes.now ≡ parts.0.now ++ 10 ∷ parts.1.now)
         × (has_no_feed parts.0.now ≡ true)) }
@@ -173,7 +175,7 @@ fn split_line(bytes: &[u8]) -> Option<(&[u8], &[u8])>
     Some((&bytes[..end], &bytes[end + 1..]))
 }
 
-// Reads a line, and hands on the document that it completes.
+// Reads a line, and gives the keeper the document that it completes.
 fn read_line<D: Keeper>(
     lines: &mut LineReader,
     keeper: &mut D,
@@ -197,9 +199,9 @@ fn read_line<D: Keeper>(
     }
 }
 
-// Hands a document on. The next one is read into the memory of one that is given back; where none
-// is, room is made for one as long: grown item by item it would be moved, and have room for twice
-// as many.
+// Gives the keeper a document. The next one is read into the memory of one that the keeper gives
+// back; without one, memory is allocated for one as long: a list that grew item by item would be
+// moved, and have memory for twice as many.
 fn hand_on<D: Keeper>(lines: &mut LineReader, keeper: &mut D, doc: Doc) -> Result<(), Memory>
     ensures kept { (first : D) (documents : List (List Item)) → D.kept first documents keeper.old
         → OnOk result (D.kept first (documents ++ doc ∷ []) keeper.new) }
@@ -215,7 +217,8 @@ fn hand_on<D: Keeper>(lines: &mut LineReader, keeper: &mut D, doc: Doc) -> Resul
     }
 }
 
-/// Reads the documents of all these lines.
+/// Reads the documents of all these lines. It fails at the first bad line, where they end within a
+/// line or a document, or without memory.
 pub fn read_documents(alloc: Global, text: &[u8]) -> Result<Docs, ListFault>
     ensures says { Says (documents_in text.now) result }
     ensures read { result ≡ Err ListFault.ReadFault → ⊥ }

@@ -1,4 +1,4 @@
-//! Documents out of the lines that a source gives.
+//! Documents from the lines that a source gives.
 
 ghost use Rattle.std.specs.Prelude.{◌≡◌, ◌<◌, List, [], IfOk};
 ghost use Rattle.nbfx_values.specs.QuotasOf.{limits_of};
@@ -13,9 +13,7 @@ use crate::reading::{ListFault, ListReader};
 use io_edges::Source;
 use nbfx_values::Quotas;
 use std::alloc::Global;
-
-/// How many bytes are taken at most at a time.
-const MOST_TAKEN: usize = 65_536;
+use stream_loop::InputBuffer;
 
 // Takes lines from the source to their end, and has them read by a reader that has read none.
 fn take_lines<S: Source, D: Keeper>(
@@ -30,23 +28,25 @@ fn take_lines<S: Source, D: Keeper>(
         (input_at S.left S.taken S.faults S.empty_takes source.new) reader.new result }
     ensures quota { reader.new.quota ≡ reader.old.quota }
 {
-    let Ok(mut room) = vec![in alloc; 0u8; MOST_TAKEN] else {
+    let Ok(mut buffer) = InputBuffer::new(alloc) else {
         return Err(ListFault::Memory);
     };
     loop {
-        let Ok(n) = source.take(&mut room) else {
+        let Ok(n) = buffer.fill(source) else {
             return Err(ListFault::ReadFault);
         };
         if n == 0 {
             return Ok(());
         }
-        reader.read_piece(&room[..n])?;
+        reader.read_piece(buffer.bytes())?;
+        buffer.clear();
     }
 }
 
-/// Takes lines from the source to their end, or to the first that is refused, and hands each of
-/// their documents to the keeper as soon as it is read. Bytes that are as many as the session quota
-/// are too long. The buffer for a piece, of 64 KiB, is allocated once.
+/// Takes lines from the source to their end, and hands each of their documents to the keeper as
+/// soon as it is read. It fails where a line is refused or the lines end within a document, at as
+/// many bytes as the session quota, where a read met an I/O error, or without memory. The buffer
+/// for a piece, of 64 KiB, is allocated once.
 pub fn take_documents<S: Source, D: Keeper>(
     alloc: Global,
     quotas: &Quotas,

@@ -1,57 +1,65 @@
--- What a piece of a stream brings to the events so far: an event, the end, a refusal, or nothing
--- yet.
+-- What bytes that are fed to a reading end bring behind the events so far: an event, the end, a
+-- refusal, or nothing yet.
 use Rattle.std.proofs.Common.{◌≡◌, ℕ, ◌<◌, ◌≤◌, Bool, true, false, List, [], ◌∷◌, ◌++◌, length}
-use Rattle.std.proofs.Common.{take, Some, None, Ok, Err, Option, Result, sym, refl, ap, ◌∙◌, subst}
-use Rattle.std.proofs.Common.{append_assoc, append-nil, take-append-drop}
-use Rattle.std.proofs.lemmas.List.{take_rest}
-use Rattle.unit_streams.proofs.{Pending.open_history, Pending.pending_history, Pieces.rest_of}
-use Rattle.unit_streams.specs.{Going.IsOpenAt, Going.IsPending, Grammar.Grammar}
-use Rattle.unit_streams.specs.Judging.{answer, ending_at, events, events_of, History, history}
-use Rattle.unit_streams.specs.Judging.{history_from, offence}
-use Rattle.unit_streams.specs.Tellers.{Closes, state_at, state_behind, Teller}
-use Rattle.stream_loop.specs.declared.reading_end.FeedFault.{FeedFault, TheVariants.Refused}
-use Rattle.stream_loop.specs.{Answers.Says, Hearing.HasRead, Reported.last_state}
+use Rattle.std.proofs.Common.{take, drop, Some, None, Ok, Err, Option, Result, sym, refl, ap, ◌∙◌}
+use Rattle.std.proofs.Common.{append-nil, arith, take_all}
+use Rattle.unit_streams.proofs.{Answers.answers_are_first, Cuts.cuts_change_nothing}
+use Rattle.unit_streams.proofs.Histories.{completed_events, events_in_none, history_is_answers}
+use Rattle.unit_streams.proofs.Histories.{led_by_append}
+use Rattle.unit_streams.proofs.Pending.{events_of_append, open_completes, open_going_on}
+use Rattle.unit_streams.proofs.Pending.{open_goes_on, open_history, over_behind, pending_history}
+use Rattle.unit_streams.proofs.Telling.{closed_behind}
+use Rattle.unit_streams.specs.Going.{history_by, IsOpenAt, IsPending}
+use Rattle.unit_streams.specs.{Grammar.Grammar, Laws.raised, Laws.unless_decided}
+use Rattle.unit_streams.specs.Judging.{Answer, answer, completes, ending_at, events, events_of}
+use Rattle.unit_streams.specs.Judging.{goes_on, History, history, history_from, is_over_at, led_by}
+use Rattle.unit_streams.specs.{Judging.offends, Tellers.Closes}
+use Rattle.stream_loop.specs.declared.reading_end.FeedFault.{FeedFault}
+use Rattle.stream_loop.specs.declared.reading_end.FeedFault.TheVariants.{Memory, Refused}
+use Rattle.stream_loop.specs.{Answers.said, Answers.Says}
 use Rattle.stream_loop.specs.Followed.{AreFirst, IsWhole}
-use Rattle.stream_loop.proofs.PieceSteps.{event_read, read_more, refusal_read}
 
--- what remembers all events, and tells nothing
-abbrev collector : {E R : Type 0} → Teller (List E) E R
-collector = record {
-  start = [];
-  told = λ s e. [];
-  next = λ s e. s ++ e ∷ [];
-  ends = λ s o. [];
-}
+-- the parts of what is said
+module _ {E V R : Type 0} (f : E → V) where
+  ok_parts : (m n : ℕ) (a b : Option V) → ◌≡◌ {A = Result (ℕ × Option V) (FeedFault R)} (Ok (m, a))
+      (Ok (n, b)) → (m ≡ n) × (a ≡ b)
+  ok_parts m n a b e = let pair : ◌≡◌ {A = ℕ × Option V} (m, a) (n, b) = cc in
+      (ap (λ (q : ℕ × Option V). q.0) pair, ap (λ (q : ℕ × Option V). q.1) pair)
 
-collected : {E : Type 0} (R : Type 0) (es s : List E)
-    → state_behind (collector {E = E} {R = R}) s es ≡ s ++ es
-unfolding state_behind
-collected R [] s = sym (append-nil s)
-collected R (e ∷ es) s = collected R es (s ++ e ∷ []) ∙ append_assoc s (e ∷ []) es
+  said_more : (len n : ℕ) (a : Answer E R) → Ok (n, None) ≡ said f len a → (n ≡ len) × (a ≡ goes_on)
+  said_more len n goes_on e = ((ok_parts n len None None e).0, refl)
+  said_more len n (completes k event) e = let parts = (ok_parts n k None (Some (f event)) e).1 in cc
+  said_more len n (offends k r) e = cc
+
+  said_event : (len n : ℕ) (v : V) (a : Answer E R) → Ok (n, Some v) ≡ said f len a → (event : E)
+      × (a ≡ completes n event) × (v ≡ f event)
+  said_event len n v goes_on e = let parts = (ok_parts n len (Some v) None e).1 in cc
+  said_event len n v (completes k event) e =
+      let parts = ok_parts n k (Some v) (Some (f event)) e in
+      let same : v ≡ f event = (let p = parts.1 in cc) in
+      (event, ap (λ m. completes m event) (sym parts.0), same)
+  said_event len n v (offends k r) e = cc
+
+  said_refusal : (len : ℕ) (r : R) (a : Answer E R) → Err (Refused r) ≡ said f len a → (k : ℕ)
+      × (a ≡ offends k r)
+  said_refusal len r goes_on e = cc
+  said_refusal len r (completes k event) e = cc
+  said_refusal len r (offends k given) e = (k, cc)
+
+  module _ (len : ℕ) (a : Answer E R) where
+    says_ok : (r : Result (ℕ × Option V) (FeedFault R)) (v : ℕ × Option V) → r ≡ Ok v
+        → Says f len a r → Ok v ≡ said f len a
+    says_ok (Ok w) v is says = sym is ∙ says
+    says_ok (Err (Refused r)) v is says = cc
+    says_ok (Err Memory) v is says = cc
+
+    says_refused : (r : Result (ℕ × Option V) (FeedFault R)) (refusal : R)
+        → r ≡ Err (Refused refusal) → Says f len a r → Err (Refused refusal) ≡ said f len a
+    says_refused (Ok w) refusal is says = cc
+    says_refused (Err (Refused r)) refusal is says = sym is ∙ says
+    says_refused (Err Memory) refusal is says = cc
 
 module _ {Z U E R : Type 0} (g : Grammar Z U E R) where
-  abbrev t : Teller (List E) E R
-  t = collector
-
-  state_is : (p : List ℕ) → state_at g t p ≡ events_of g p
-  unfolding state_at
-  state_is p = collected R (events_of g p) []
-
-  last_is : (bytes : List ℕ) → last_state g t bytes ≡ events g bytes
-  last_is bytes = collected R (events g bytes) []
-
-  -- by its parts
-  whole_by : (es : List E) (o : Option R) (bytes : List ℕ) → offence g bytes ≡ o
-      → events g bytes ≡ es → IsWhole g es o bytes
-  unfolding offence events
-  whole_by es o bytes judged heard =
-      let behind : List E → History E R = λ l. record {
-        events = l;
-        offence = (history g bytes).offence;
-      } in
-      let judged_so : Option R → History E R = λ v. record { events = es; offence = v } in
-      ap behind heard ∙ ap judged_so judged
-
   -- where the input ends
   pub whole_at_end : (p : List ℕ) → IsPending g p → IsWhole g (events_of g p) (ending_at g p) p
   whole_at_end p pending =
@@ -68,82 +76,92 @@ module _ {Z U E R : Type 0} (g : Grammar Z U E R) where
   }
 
 module _ {Z U E V R : Type 0} (g : Grammar Z U E R) (f : E → V) (ends : E → Bool)
-    (p piece : List ℕ) (used : ℕ) where
-  -- an event that n more bytes of a piece complete, of which so many were used
+    (c : Closes g ends) (p y : List ℕ) (on : IsOpenAt g p) (r : Result (ℕ × Option V) (FeedFault R))
+    (says : is_over_at g p ≡ false → Says f (length y) (answer g p y) r) where
+  says_so : Says f (length y) (answer g p y) r
+  says_so = says (open_going_on g p on)
+
+  longer : (a : Answer E R) (more : List ℕ) → answer g p y ≡ a
+      → answer g p (y ++ more) ≡ unless_decided a (raised (length y) (answer g (p ++ y) more))
+  longer a more e = cuts_change_nothing g p y more
+      ∙ ap (λ a. unless_decided a (raised (length y) (answer g (p ++ y) more))) e
+
+  -- what comes behind p, by the answer to y, whatever follows
+  history_so : (a : Answer E R) (more : List ℕ) → answer g p (y ++ more) ≡ a
+      → history g (p ++ (y ++ more)) ≡ led_by (events_of g p) (history_by g p (y ++ more) a)
+  history_so a more long = open_history g p (y ++ more) on ∙ ap (led_by (events_of g p))
+      (history_is_answers g p (y ++ more) ∙ ap (history_by g p (y ++ more)) long)
+
+  -- nothing more
+  pub brings_none : (n : ℕ) → r ≡ Ok (n, None) → (take n y ≡ y) × IsPending g (p ++ y)
+      × (events_of g (p ++ y) ≡ events_of g p)
+  brings_none n is =
+      let so = said_more f (length y) n (answer g p y) (says_ok f (length y) (answer g p y) r
+      (n, None) is says_so) in
+      let m = (answers_are_first g p y goes_on).0 so.1 in (
+        take_all n y (omega (arith, so.0)),
+        open_goes_on g c.readable ends c.tells p y on m.0 m.1,
+        events_of_append g p y
+            ∙ ap (λ es. events_of g p ++ es) (events_in_none g y p m.0.eventless)
+            ∙ append-nil (events_of g p),
+      )
+
+  -- a refusal
+  pub brings_refusal : (refusal : R) → r ≡ Err (Refused refusal) → (more : List ℕ)
+      → IsWhole g (events_of g p) (Some refusal) (p ++ (y ++ more))
+  brings_refusal refusal is more =
+      let so = said_refusal f (length y) refusal (answer g p y) (says_refused f (length y)
+      (answer g p y) r refusal is says_so) in
+      let judged : List E → History E R = λ l. record { events = l; offence = Some refusal } in
+      history_so (offends so.0 refusal) more (longer (offends so.0 refusal) more so.1)
+      ∙ ap judged (append-nil (events_of g p))
+
+  -- an event that n bytes more complete
   pub record BringsEvent (n : ℕ) (v : V) : Type 0 where
     pub event : E
     pub is : v ≡ f event
     pub some : 0 < n
-    pub within : n ≤ length (rest_of piece used)
-    pub heard : events_of g ((p ++ take used piece) ++ take n (rest_of piece used))
-        ≡ events_of g (p ++ take used piece) ++ event ∷ []
-    pub stays_open : ends event ≡ false
-        → IsOpenAt g ((p ++ take used piece) ++ take n (rest_of piece used))
+    pub within : n ≤ length y
+    pub events_are : events_of g (p ++ take n y) ≡ events_of g p ++ event ∷ []
+    pub stays_open : ends event ≡ false → IsOpenAt g (p ++ take n y)
+    pub first : (more : List ℕ) → AreFirst g (events_of g p ++ event ∷ []) (p ++ (y ++ more))
     -- after the event that ends the stream it is judged
     pub last : ends event ≡ true → (more : List ℕ)
-        → IsWhole g (events_of g (p ++ take used piece) ++ event ∷ []) None ((p ++ piece) ++ more)
+        → IsWhole g (events_of g p ++ event ∷ []) None (p ++ (y ++ more))
 
-  abbrev q : List ℕ
-  q = p ++ take used piece
-
-  abbrev y : List ℕ
-  y = rest_of piece used
-
-  -- what is used and the rest are the piece, whatever follows
-  stream_of : (more : List ℕ) → q ++ (y ++ more) ≡ (p ++ piece) ++ more
-  stream_of more =
-      sym (append_assoc q y more)
-      ∙ ap (λ l. l ++ more) (append_assoc p (take used piece) y
-      ∙ ap (λ l. p ++ l) (ap (λ l. take used piece ++ l) (take_rest piece used)
-      ∙ take-append-drop used piece))
-
-  module _ (on : IsOpenAt g (p ++ take used piece)) where
-    pub first_brought : (more : List ℕ)
-        → AreFirst g (events_of g (p ++ take used piece)) ((p ++ piece) ++ more)
-    first_brought more = subst (AreFirst g (events_of g q)) (stream_of more)
-        (first_of_open g q on (y ++ more))
-
-    module _ (c : Closes g ends) where
-      -- nothing more
-      pub more_brought : (stands : List ℕ → Type 0) (r : Result (ℕ × Option V) (FeedFault R))
-          (n : ℕ)
-          → r ≡ Ok (n, None) → Says f (length (rest_of piece used))
-          (answer g (p ++ take used piece) (rest_of piece used)) r
-          → stands ((p ++ take used piece) ++ take n (rest_of piece used))
-          → HasRead g stands (p ++ piece) × IsPending g (p ++ piece)
-          × (events_of g (p ++ take used piece) ≡ events_of g (p ++ piece))
-      more_brought stands r n is says here =
-          let h = read_more g (t g) f ends c p piece used on stands (state_at g (t g) q) r n is says
-          here refl in (
-            record { stands_for = h.0.stands_for; on = h.0.on },
-            h.1,
-            sym (state_is g q) ∙ h.0.state_is ∙ state_is g (p ++ piece),
-          )
-
-      pub event_brought : (r : Result (ℕ × Option V) (FeedFault R)) (n : ℕ) (v : V)
-          → r ≡ Ok (n, Some v) → Says f (length (rest_of piece used))
-          (answer g (p ++ take used piece) (rest_of piece used)) r → BringsEvent n v
-      event_brought r n v is says =
-          let h = event_read g (t g) f ends c p piece used on r n v is says in record {
-            event = h.event;
-            is = h.is;
-            some = h.tells.some;
-            within = h.tells.within;
-            heard = sym (state_is g (q ++ take n y)) ∙ h.tells.state
-                ∙ ap (λ l. l ++ h.event ∷ []) (state_is g q);
-            stays_open = h.tells.stays_open;
-            last = λ is_end more.
-                let all = (h.last is_end more).0 in
-                whole_by g _ None ((p ++ piece) ++ more) all.0
-                (sym (last_is g ((p ++ piece) ++ more))
-                ∙ sym all.1 ∙ ap (λ l. l ++ h.event ∷ []) (state_is g q));
-          }
-
-      pub refusal_brought : (answered : Result (ℕ × Option V) (FeedFault R)) (r : R)
-          → answered ≡ Err (Refused r) → Says f (length (rest_of piece used))
-          (answer g (p ++ take used piece) (rest_of piece used)) answered → (more : List ℕ)
-          → IsWhole g (events_of g (p ++ take used piece)) (Some r) ((p ++ piece) ++ more)
-      refusal_brought answered r is says more =
-          let all = (refusal_read g (t g) f ends c p piece used on answered r is says more).0 in
-          whole_by g (events_of g q) (Some r) ((p ++ piece) ++ more) all.0
-          (sym (last_is g ((p ++ piece) ++ more)) ∙ sym all.1 ∙ state_is g q)
+  pub brings_event : (n : ℕ) (v : V) → r ≡ Ok (n, Some v) → BringsEvent n v
+  unfolding events
+  brings_event n v is =
+      let so = said_event f (length y) n v (answer g p y) (says_ok f (length y) (answer g p y) r
+      (n, Some v) is says_so) in
+      let e = so.0 in
+      let m = (answers_are_first g p y (completes n e)).0 so.1 in
+      record {
+        event = e;
+        is = so.2;
+        some = m.1;
+        within = m.0.within;
+        events_are = events_of_append g p (take n y)
+            ∙ ap (λ es. events_of g p ++ es) (completed_events g p y n e m.0 m.1 m.2);
+        stays_open = open_completes g c.readable ends c.tells p y on n e m.0 m.1 m.2;
+        first = λ more. record {
+          others = (history_from g (p ++ take n (y ++ more)) (drop n (y ++ more))).events;
+          joined = ap (λ (h : History E R). h.events) (behind e so.1 more
+              ∙ sym (led_by_append (events_of g p) (e ∷ [])
+              (history_from g (p ++ take n (y ++ more)) (drop n (y ++ more)))));
+        };
+        last = λ is_end more.
+            let long : answer g p (y ++ more) ≡ completes n e = longer (completes n e) more so.1 in
+            let means = (answers_are_first g p (y ++ more) (completes n e)).0 long in
+            let none = closed_behind g ends c (p ++ take n (y ++ more)) e means.2 is_end
+            (over_behind g c.readable ends c.tells p (y ++ more) on n e means.0 means.1 means.2
+            ∙ is_end) (drop n (y ++ more)) in
+            let judged : List E → History E R = λ l. record { events = l; offence = None } in
+            behind e so.1 more
+            ∙ ap (λ h. led_by (events_of g p) (led_by (e ∷ []) h)) none
+            ∙ ap judged (refl);
+      } where
+        behind : (e : E) → answer g p y ≡ completes n e → (more : List ℕ)
+            → history g (p ++ (y ++ more)) ≡ led_by (events_of g p) (led_by (e ∷ [])
+            (history_from g (p ++ take n (y ++ more)) (drop n (y ++ more))))
+        behind e so more = history_so (completes n e) more (longer (completes n e) more so)

@@ -7,13 +7,13 @@ use Rattle.{std.specs.Prelude.⊤, io_edges.proofs.Putting.PutsAll-then}
 use Rattle.std.proofs.{Math.Seq.take-append-add, lemmas.Bool.cases_lt, lemmas.List.take-append-le}
 use Rattle.io_edges.specs.{declared.SinkFault.SinkFault, Faults.CountsFaults, Puts.PutsAll}
 use Rattle.io_edges.specs.Flow.{GrowsByPrefix, Passes, Told}
-use Rattle.unit_streams.{proofs.Telling.told_nothing, specs.Grammar.Grammar}
+use Rattle.unit_streams.proofs.{Pending.pending_open, Pieces.told_due, Telling.told_nothing}
+use Rattle.unit_streams.specs.{Going.IsPending, Grammar.Grammar}
 use Rattle.unit_streams.specs.Tellers.{AreDue, report, Teller, told_so_far}
 use Rattle.stream_loop.specs.{declared.reporting.Ending.Ending, Edges.Input, Edges.Output}
 use Rattle.stream_loop.specs.LoopParts.{done, ended_by, HasReported, IsAllRead, ReportsAs}
 use Rattle.stream_loop.specs.Reported.{AsksOnce, Breaks, Decides, EndsAs, Grows, IsJudged, Judges}
 use Rattle.stream_loop.specs.Reported.{Reaches, Reports, Writes}
-use Rattle.stream_loop.proofs.LoopSteps.{lines_due}
 use Rattle.stream_loop.proofs.Writing.{counted_with, grown_within, known_told, put_either}
 use Rattle.stream_loop.proofs.Writing.{puts_grow, told_as, told_some}
 use Rattle.io_edges.specs.declared.SinkFault.TheVariants as faults
@@ -118,6 +118,10 @@ module _ {R : Type 0} where
   stopped_failed faults.Memory e = cc
 
 module _ {Z U E R S : Type 0} (g : Grammar Z U E R) (t : Teller S E R) where
+  -- the lines of what was read are due, whatever follows
+  lines_due : (p : List ℕ) → IsPending g p → AreDue g t (p ++ []) [] (told_so_far g t p)
+  lines_due p pending = told_due g t p (pending_open g p pending)
+
   -- the first bytes of what was held and of lines
   prefix_writes : (h lines w w' : List ℕ) → GrowsByPrefix w w' (h ++ lines) → Writes g t h [] w w'
   prefix_writes h lines w w' p =

@@ -1,19 +1,22 @@
 -- streams of a few bytes, by computation
 mod Worked
--- what a piece adds to what is read and written, and the end of the input (src/pieces.rt)
-pub mod Closings
-pub mod PieceSteps
--- what is known between two pieces, what is written then, and how it all ends (src/reporting.rt)
-pub mod Writing
+-- what is left in a buffer
+pub mod Buffered
+-- what bytes bring that are fed, and how far the reading has come then (src/resuming.rt)
+pub mod Bringing
+pub mod Reading
 pub mod LoopSteps
+-- what is told before and afterwards, and what counts say
+pub mod Writing
+-- what a reporter puts of events (src/report.rt), what is reported then, and how it all ends
+-- (src/reporting.rt)
+pub mod Lines
+pub mod Reports
 pub mod Finishing
 -- what holds however a report ends (specs/Laws)
 pub mod Fronts
--- for callers: two ways to say what is written, which are one; bytes that aren't too many
+-- for callers: two ways to say what is written, which are one
 pub mod Alike
-pub mod Bounds
--- what a piece brings to the events so far that a listener hears (src/hearing.rt)
-pub mod Bringing
 -- what was taken of the stream, and heard of it, when the loop ends (src/following.rt)
 pub mod Taking
 -- what puts leave of what is written

@@ -1,136 +1,153 @@
--- What was taken of a stream, and what was heard of it then.
-use Rattle.std.proofs.Common.{◌≡◌, ℕ, ◌≤◌, ◌⊎◌, List, [], ◌++◌, length, Some, None, Option, Result}
-use Rattle.std.proofs.Common.{sym, refl, ap, ◌∙◌, subst, inl, inr, append_assoc, append-nil, arith}
-use Rattle.std.specs.{Prelude.⊤, Result.result_err}
-use Rattle.io_edges.specs.{Faults.one_more, Flow.Told}
+-- What was read of a stream that is followed to its end, and what was heard of it then.
+use Rattle.std.proofs.Common.{◌≡◌, ℕ, ◌⊎◌, List, [], ◌∷◌, ◌++◌, map, Some, None, Option, sym, refl}
+use Rattle.std.proofs.Common.{ap, ◌∙◌, subst, inl, inr, append_assoc, append-nil, arith}
+use Rattle.std.proofs.lemmas.List.{map-append}
+use Rattle.io_edges.specs.Flow.{Told}
 use Rattle.unit_streams.{proofs.Pending.pending_open, specs.Going.IsPending, specs.Grammar.Grammar}
-use Rattle.unit_streams.specs.Judging.{ending_at, events_of}
-use Rattle.stream_loop.specs.declared.{following.Ending.Ending, hearing.Progress.Progress}
+use Rattle.unit_streams.specs.Judging.{events_of}
+use Rattle.stream_loop.specs.declared.following.Ending.{Ending}
 use Rattle.stream_loop.specs.declared.following.Ending.TheVariants.{Judged, Memory, ReadFault}
-use Rattle.stream_loop.specs.{Answers.said_at_end, Edges.Input}
-use Rattle.stream_loop.specs.Followed.{Breaks, Decides, Follows, IsWhole, Starves}
-use Rattle.stream_loop.specs.Hearing.{HasRead, HearsAll, HearsFirst, HearsOf}
-use Rattle.stream_loop.proofs.{Bringing.first_of_open, Bringing.whole_at_end, Writing.known_told}
-use Rattle.stream_loop.proofs.LoopSteps.{LeftSince, TakenSince}
+use Rattle.stream_loop.specs.{Edges.Input, Resumed.Came, Resumed.IsOver, Resumed.IsUnasked}
+use Rattle.stream_loop.specs.Followed.{AreFirst, AreHeard, Breaks, Decides, Follows, IsWhole}
+use Rattle.stream_loop.specs.{Followed.Starves, Resumed.RanOut, Resumed.then_at, Resumed.WasCut}
+use Rattle.stream_loop.specs.{Resumed.WasHalted, Resumed.WasJudged}
+use Rattle.stream_loop.proofs.{Bringing.first_of_open, Reading.told_both, Writing.known_told}
+use Rattle.stream_loop.proofs.Writing.{told_as}
 
--- by the grammar that the end has now, which is the first one
-pub hears_at : {Z U E R : Type 0} (now g : Grammar Z U E R) → now ≡ g
-    → (stands stands' : List ℕ → Type 0) (Before Heard : List E → Type 0) (p y : List ℕ)
-    (r : Progress R) → ((p : List ℕ) → HasRead now stands p → Before (events_of now p)
-    → HearsOf now stands' Heard p y r)
-    → HasRead g stands p → Before (events_of g p) → HearsOf g stands' Heard p y r
-hears_at now g same stands stands' Before Heard p y r hears = subst (λ s. HasRead s stands p
-    → Before (events_of s p) → HearsOf s stands' Heard p y r) same (hears p)
+module _ {Z U E V R : Type 0} (g : Grammar Z U E R) (f : E → V) (H : List V → List V → Type 0)
+    (i i' : Input) where
+  abbrev HeardBy : List E → List E → Type 0
+  HeardBy paused since = H (map f paused) (map f since)
 
-module _ {Z U E R : Type 0} (g : Grammar Z U E R) (Heard : List E → Type 0) (i i' : Input)
-    (p y : List ℕ) where
-  -- the input, after some bytes and these
-  abbrev pub Left : Type 0
-  Left = LeftSince i.left i'.left (λ rest. p ++ y ++ rest)
+  -- what was taken of the input, as one list
+  all_taken : (before piece : List ℕ) → Came g i i' before piece
+      → Told i.taken i'.taken (λ t t'. t' ≡ t ++ (before ++ piece))
+  all_taken before piece came = told_as (λ t t'. t' ≡ t ++ before ++ piece)
+      (λ t t'. t' ≡ t ++ (before ++ piece)) i.taken i'.taken came.took
+      (λ t t' e. e ∙ append_assoc t before piece)
 
-  abbrev pub Took : Type 0
-  Took = TakenSince i.taken i'.taken (p ++ y)
-
-  -- a piece that decides the stream
-  pub decided : (judged : Option R) → Left → Took → i'.empty_takes ≡ i.empty_takes
-      → HearsAll g Heard (p ++ y) judged → Decides g Heard i i' judged
-  decided judged moved took unasked all = record {
-    bytes = p ++ y;
-    events = all.events;
-    heard = all.heard;
-    whole = subst (IsWhole g all.events judged) (append-nil (p ++ y)) (all.whole []);
-    settled = inr (all.whole, unasked);
-    stream = known_told (λ bytes rest. (bytes ≡ (p ++ y) ++ rest) × ((rest ≡ [])
-        ⊎ ((more : List ℕ) → IsWhole g all.events judged ((p ++ y) ++ more)))) i.left i'.left
-        (λ bytes e. let m = moved bytes e in (
-          m.0,
-          m.1,
-          (m.2, inr all.whole),
-        ));
-    took = known_told (λ t t'. t' ≡ t ++ (p ++ y)) i.taken i'.taken
-        (λ t e. (t ++ (p ++ y), took t e, refl));
-  }
-
-  -- memory ran out within a piece
-  pub starved : IsPending g p → length y ≤ 65536 → Left → Took → i'.empty_takes ≡ i.empty_takes
-      → HearsFirst g Heard (p ++ y) → Starves g Heard i i'
-  starved pending short moved took unasked first = record {
-    before = p;
-    piece = y;
-    pending = pending;
-    short = short;
-    events = first.events;
-    heard = first.heard;
-    first = first.first;
-    stream = known_told (λ all rest. all ≡ p ++ y ++ rest) i.left i'.left moved;
-    took = known_told (λ t t'. t' ≡ t ++ p ++ y) i.taken i'.taken
-        (λ t e. (t ++ (p ++ y), took t e, sym (append_assoc t p y)));
-    unasked = unasked;
-  }
-
-module _ {Z U E R : Type 0} (g : Grammar Z U E R) (Heard : List E → Type 0) (i i' : Input)
-    (p : List ℕ) (pending : IsPending g p) (moved : Left g Heard i i' p [])
-    (took : Took g Heard i i' p []) (heard : Heard (events_of g p)) where
-  -- nothing more came, and the input is over
-  pub ended : (judged : Option R) → ending_at g p ≡ judged
-      → Told i.left i'.left (λ all rest. rest ≡ []) → i'.empty_takes ≡ one_more i.empty_takes
-      → Decides g Heard i i' judged
-  ended judged is over once = record {
-    bytes = p;
-    events = events_of g p;
-    heard = heard;
-    whole = subst (λ v. IsWhole g (events_of g p) v p) is (whole_at_end g p pending);
-    settled = inl (pending, once);
-    stream = known_told (λ all rest. (all ≡ p ++ rest) × ((rest ≡ [])
-        ⊎ ((more : List ℕ) → IsWhole g (events_of g p) judged (p ++ more)))) i.left i'.left
-        (λ bytes e. let m = moved bytes e in (m.0, m.1, (rest_is bytes e, inl (nothing bytes e))));
-    took = known_told (λ t t'. t' ≡ t ++ p) i.taken i'.taken (λ t e. (t ++ p, took_of t e, refl));
+  -- a stream that was judged
+  pub decided : (judged : Option R) → WasJudged g i i' HeardBy judged
+      → Decides g (AreHeard f H) i i' judged
+  decided judged w = record {
+    bytes = w.before ++ w.piece;
+    events = events_of g w.before ++ w.since;
+    heard = record {
+      paused = events_of g w.before;
+      since = w.since;
+      joined = refl;
+      heard = w.heard;
+    };
+    whole = w.whole;
+    settled = elim w.settled [
+      | inl over ↦ inl (pending over, over.once)
+      | inr all ↦ inr all
+    ];
+    stream = elim w.settled [
+      | inl over ↦ told_as (λ all rest. (all ≡ w.before ++ w.piece ++ rest) × (rest ≡ []))
+          (λ all rest. (all ≡ (w.before ++ w.piece) ++ rest) × Ends rest) i.left i'.left
+          (told_both (λ all rest. all ≡ w.before ++ w.piece ++ rest) (λ all rest. rest ≡ [])
+          i.left i'.left w.came.stream over.over) (λ all rest e. (e.0, inl e.1))
+      | inr all ↦ told_as (λ all rest. all ≡ w.before ++ w.piece ++ rest)
+          (λ all rest. (all ≡ (w.before ++ w.piece) ++ rest) × Ends rest) i.left i'.left
+          w.came.stream (λ bytes rest e. (e, inr all.0))
+    ];
+    took = all_taken w.before w.piece w.came;
   } where
-    took_of : TakenSince i.taken i'.taken p
-    took_of t e = took t e ∙ ap (λ l. Some (t ++ l)) (append-nil p)
+    Ends : List ℕ → Type 0
+    Ends rest = (rest ≡ []) ⊎ ((more : List ℕ) → IsWhole g (events_of g w.before ++ w.since) judged
+        ((w.before ++ w.piece) ++ more))
 
-    rest_is : (bytes : List ℕ) (e : i.left ≡ Some bytes) → bytes ≡ p ++ (moved bytes e).0
-    rest_is bytes e =
-        (moved bytes e).2 ∙ ap (λ l. l ++ (moved bytes e).0) (append-nil p)
+    pending : IsOver g i i' w.piece → IsPending g (w.before ++ w.piece)
+    pending over = subst (λ (y : List ℕ). IsPending g (w.before ++ y)) (sym over.nothing)
+        (subst (IsPending g) (sym (append-nil w.before)) w.came.pending)
 
-    told_rest : (old new : Option (List ℕ)) (l l' : List ℕ) → old ≡ Some l → new ≡ Some l'
-        → Told old new (λ all rest. rest ≡ []) → l' ≡ []
-    told_rest old new l l' was is told = rw (was, is) at told
+  -- a read failed
+  pub broken : (Waits : Type 0) → WasCut g i i' HeardBy Waits → Breaks g (AreHeard f H) i i'
+  broken Waits w = record {
+    bytes = w.before;
+    pending = w.came.pending;
+    heard = record {
+      paused = events_of g w.before;
+      since = [];
+      joined = sym (append-nil (events_of g w.before));
+      heard = w.heard;
+    };
+    stream = told_as (λ all rest. all ≡ w.before ++ [] ++ rest) (λ all rest. all ≡ w.before ++ rest)
+        i.left i'.left w.came.stream
+        (λ all rest e. e ∙ ap (λ l. l ++ rest) (append-nil w.before));
+    took = told_as (λ t t'. t' ≡ t ++ w.before ++ []) (λ t t'. t' ≡ t ++ w.before) i.taken i'.taken
+        w.came.took (λ t t' e. e ∙ append-nil (t ++ w.before));
+    unasked = w.unasked;
+  }
 
-    nothing : (bytes : List ℕ) (e : i.left ≡ Some bytes) → (moved bytes e).0 ≡ []
-    nothing bytes e =
-        told_rest i.left i'.left bytes (moved bytes e).0 e (moved bytes e).1 over
-
-  -- reading failed
-  pub broken : i'.empty_takes ≡ i.empty_takes → Breaks g Heard i i'
-  broken unasked = record {
-    bytes = p;
-    pending = pending;
-    heard = heard;
-    stream = known_told (λ all rest. all ≡ p ++ rest) i.left i'.left (λ bytes e.
-        let m = moved bytes e in (m.0, m.1, m.2 ∙ ap (λ l. l ++ m.0) (append-nil p)));
-    took = known_told (λ t t'. t' ≡ t ++ p) i.taken i'.taken (λ t e.
-        (t ++ p, took t e ∙ ap (λ l. Some (t ++ l)) (append-nil p), refl));
+  -- memory ran out
+  starved_at : (before piece : List ℕ) (since : List E) → Came g i i' before piece
+      → HeardBy (events_of g before) since
+      → ((more : List ℕ) → AreFirst g (events_of g before ++ since) ((before ++ piece) ++ more))
+      → IsUnasked g i i' → Starves g (AreHeard f H) i i'
+  starved_at before piece since came heard first unasked = record {
+    before = before;
+    piece = piece;
+    pending = came.pending;
+    short = came.short;
+    events = events_of g before ++ since;
+    heard = record {
+      paused = events_of g before;
+      since = since;
+      joined = refl;
+      heard = heard;
+    };
+    first = first;
+    stream = came.stream;
+    took = came.took;
     unasked = unasked;
   }
+
+  pub starved : RanOut g i i' HeardBy → Starves g (AreHeard f H) i i'
+  starved w = starved_at w.before w.piece w.since w.came w.heard w.first w.unasked
+
+  -- the listener stopped, and hasn't heard the event
+  pub starved_hearing : (stands : List ℕ → Type 0) (Halts : Option E → List E → List E → Type 0)
+      (y : List ℕ) → ((at : Option E) (paused since : List E) → Halts at paused since
+      → HeardBy paused since) → WasHalted g i i' stands Halts y → Starves g (AreHeard f H) i i'
+  starved_hearing stands Halts y unheard w =
+      starved_at w.before w.piece w.since w.came
+      (unheard w.at (events_of g w.before) w.since w.halted)
+      (λ more. fewer w.at ((w.before ++ w.piece) ++ more) (w.first more)) w.unasked where
+        fewer : (at : Option E) (bytes : List ℕ)
+            → AreFirst g (then_at (events_of g w.before ++ w.since) at) bytes
+            → AreFirst g (events_of g w.before ++ w.since) bytes
+        fewer None bytes first = first
+        fewer (Some event) bytes first = record {
+          others = event ∷ first.others;
+          joined = first.joined
+              ∙ append_assoc (events_of g w.before ++ w.since) (event ∷ []) first.others;
+        }
 
 -- no memory to begin with
 pub unbegun : {Z U E R : Type 0} (g : Grammar Z U E R) (Heard : List E → Type 0) (i : Input)
     → IsPending g [] → Heard (events_of g []) → Starves g Heard i i
-unbegun g Heard i pending heard =
-    starved g Heard i i [] [] pending (omega arith) (λ bytes e. (bytes, e, refl))
-    (λ t e. e ∙ ap Some (sym (append-nil t))) refl
-    (record {
-      events = events_of g [];
-      heard = heard;
-      first = first_of_open g [] (pending_open g [] pending);
-    })
+unbegun g Heard i pending heard = record {
+  before = [];
+  piece = [];
+  pending = pending;
+  short = omega arith;
+  events = events_of g [];
+  heard = heard;
+  first = first_of_open g [] (pending_open g [] pending);
+  stream = known_told (λ all rest. all ≡ [] ++ [] ++ rest) i.left i.left
+      (λ bytes e. (bytes, e, refl));
+  took = known_told (λ t t'. t' ≡ t ++ [] ++ []) i.taken i.taken
+      (λ t e. (t, e, sym (append-nil (t ++ []) ∙ append-nil t)));
+  unasked = refl;
+}
 
--- what the end of the input is answered with says what it is
-pub ending_is : {R : Type 0} (e : Option R) (u : Result ⊤ R) (o : Option R) → u ≡ said_at_end e
-    → o ≡ result_err u → e ≡ o
-ending_is None u o said is = sym (is ∙ ap result_err said)
-ending_is (Some r) u o said is = sym (is ∙ ap result_err said)
+-- what was heard before the last pause and since then was heard
+pub heard_whole : {E V : Type 0} (f : E → V) (P : List V → Type 0) (events : List E)
+    → AreHeard f (λ paused since. P (paused ++ since)) events → P (map f events)
+heard_whole f P events h =
+    subst P (sym (ap (map f) h.joined ∙ map-append f h.paused h.since)) h.heard
 
 -- what was heard says what follows from it
 pub follows_as : {Z U E R : Type 0} (g : Grammar Z U E R) (Heard Said : List E → Type 0)

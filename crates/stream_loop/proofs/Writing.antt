@@ -1,7 +1,7 @@
 -- What is told before and afterwards, what counts say, and what is written after what was.
 use Rattle.std.proofs.Common.{◌≡◌, ℕ, Bool, true, List, [], ◌++◌, length, take, OnOk, OnErr, Some}
 use Rattle.std.proofs.Common.{None, Ok, Err, Option, Result, IsErrOf, sym, refl, ap, ◌∙◌, subst}
-use Rattle.std.proofs.Common.{inl, inr, append-nil, arith, take_all}
+use Rattle.std.proofs.Common.{inl, inr, append_assoc, append-nil, arith, take_all}
 use Rattle.std.{specs.Prelude.⊤, proofs.lemmas.Bool.cases_lt, proofs.lemmas.List.take-append-le}
 use Rattle.io_edges.proofs.Putting.{flush_puts, PutsAll-then}
 use Rattle.io_edges.specs.{declared.SinkFault.SinkFault, Faults.CountsFaults, Puts.PutsAll}
@@ -28,6 +28,11 @@ pub told_as : (P Q : List ℕ → List ℕ → Type 0) (old new : Option (List �
 told_as P Q None new told weaker = tt
 told_as P Q (Some l) None told weaker = absurd told
 told_as P Q (Some l) (Some l') told weaker = weaker l l' told
+
+-- what holds whatever is answered
+pub on_ok : {A E P : Type 0} (r : Result A E) → P → OnOk r P
+on_ok (Ok a) p = p
+on_ok (Err e) p = tt
 
 -- a count that stood still, and what a call left of it then
 counted_later : (a b c : ℕ) (failed : Type 0) → b ≡ a → CountsFaults b c failed
@@ -96,6 +101,19 @@ puts_grow {lines = lines} (Ok u) {w = w} {w' = w'} {h = h} {h' = h'} p = told_as
     (λ l l' k. record { more = k.put; grown = k.grown })
 puts_grow {lines = lines} (Err fault) {w = w} {w' = w'} {h = h} p = prefix_grows (h ++ lines) w w'
     p.refused
+
+-- more is written after what was
+pub grows_more : (front : List ℕ → List ℕ) (w w1 w2 : Option (List ℕ))
+    → Told w w1 (λ w w'. Grows (front w) w') → Told w1 w2 Grows
+    → Told w w2 (λ w w'. Grows (front w) w')
+grows_more front None w1 w2 h more = tt
+grows_more front (Some w) None w2 h more = absurd h
+grows_more front (Some w) (Some w1) None h more = absurd more
+grows_more front (Some w) (Some w1) (Some w2) h more = record {
+  more = h.more ++ more.more;
+  grown = more.grown ∙ ap (λ l. l ++ more.more) h.grown
+      ∙ append_assoc (front w) h.more more.more;
+}
 
 -- what was put, and then written
 pub after_flush : {lines : List ℕ} (r : Result ⊤ SinkFault) {w w1 w2 : Option (List ℕ)}

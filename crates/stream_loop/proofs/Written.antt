@@ -13,12 +13,6 @@ use Rattle.stream_loop.proofs.Grown.{all_written, cut_behind, cut_grew, ends_emp
 use Rattle.stream_loop.proofs.Writing.{grown_within, known_told, told_as}
 use Rattle.io_edges.specs.declared.SinkFault.TheVariants as sinks
 
--- the writing goes on or has ended
-pub outbound_cases : (o : Outbound) → (o ≡ Done) ⊎ (o ≡ Done → ⊥)
-outbound_cases Done = inl refl
-outbound_cases WriteFault = inr (λ e. cc)
-outbound_cases Memory = inr (λ e. cc)
-
 -- the sink is out of memory
 pub out_of_memory : (fault : SinkFault) → outbound_of fault ≡ Memory → fault ≡ sinks.Memory
 out_of_memory sinks.Failed is = cc
@@ -55,31 +49,6 @@ module _ {K : Type 0} (written : K → Option (List ℕ)) (held : K → List ℕ
   cut_starved next old new puts emptied =
       record { bytes = []; front = inl refl; ends = inr (puts, refl, emptied) }
 
-  -- nothing is put
-  pub goes_nowhere : (now : K) → Goes written held faults may_want Done [] now now
-  goes_nowhere now = PutsAll-nothing _ _ _ _
-
-  -- the writing that ended didn't go on
-  pub cut_goes : (o : Outbound) (next : List ℕ) (old new : K)
-      → IsCut written held faults may_want o next old new
-      → Goes written held faults may_want o next old new
-  cut_goes Done next old new cut = absurd cut.ends
-  cut_goes WriteFault next old new cut = cut
-  cut_goes Memory next old new cut = cut
-
-  pub goes_cut : (o : Outbound) (next : List ℕ) (old new : K) → (o ≡ Done → ⊥)
-      → Goes written held faults may_want o next old new
-      → IsCut written held faults may_want o next old new
-  goes_cut Done next old new never goes = absurd (never refl)
-  goes_cut WriteFault next old new never goes = goes
-  goes_cut Memory next old new never goes = goes
-
-  pub cut_stopped : (o : Outbound) (next : List ℕ) (old new : K)
-      → IsCut written held faults may_want o next old new → o ≡ Done → ⊥
-  cut_stopped Done next old new cut is = cut.ends
-  cut_stopped WriteFault next old new cut is = cc
-  cut_stopped Memory next old new cut is = cc
-
   -- a flush that was answered so
   pub goes_by : (answer : Result (Unit {0}) SinkFault) (bytes : List ℕ) (old new : K)
       → PutsTo written held faults may_want old new bytes answer
@@ -103,14 +72,6 @@ module _ {K : Type 0} (written : K → Option (List ℕ)) (held : K → List ℕ
   done_well (Ok u) o bytes old new is done puts = puts
   done_well (Err sinks.Failed) o bytes old new is done puts = cc
   done_well (Err sinks.Memory) o bytes old new is done puts = cc
-
-  pub stopped_cut : (answer : Result (Unit {0}) SinkFault) (o : Outbound) (next : List ℕ)
-      (old new : K) → o ≡ outbound_by answer → (o ≡ Done → ⊥)
-      → PutsTo written held faults may_want old new [] answer
-      → IsCut written held faults may_want o next old new
-  stopped_cut (Ok u) o next old new is never puts = absurd (never is)
-  stopped_cut (Err fault) o next old new is never puts =
-      rw is (cut_of fault next [] old new puts (inl refl))
 
   -- one more follows
   more_follow : {E : Type 0} (rest : List E) (e : E) → rest ++ e ∷ [] ≡ [] → ⊥

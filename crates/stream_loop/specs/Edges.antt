@@ -1,7 +1,7 @@
 -- What is seen of the ends between which a stream is reported, at one moment.
-use Rattle.std.specs.Prelude.{◌≡◌, ℕ, ◌<◌, ◌≤◌, ◌↔◌, List, [], ◌++◌, length, take, IfOk, OnErr}
+use Rattle.std.specs.Prelude.{◌≡◌, ℕ, ◌≤◌, ◌↔◌, List, [], ◌++◌, length, IfOk, OnErr}
 use Rattle.std.specs.Prelude.{IsErr, Ok, Option, Result}
-use Rattle.io_edges.specs.{declared.Failed.Failed, Flow.Moves, Flow.Told}
+use Rattle.io_edges.specs.{declared.Failed.Failed, Flow.Told}
 use Rattle.io_edges.specs.Faults.{CountsFaults, CountsOne}
 
 -- of where a stream comes from: the bytes to come and those handed out, where these are told, how
@@ -38,14 +38,13 @@ output_at written held faults output = record {
   faults = faults output;
 }
 
--- what a take of bytes into a buffer leaves of a source and of the buffer
-pub record Takes (i i' : Input) (room room' : List ℕ) (answer : Result ℕ Failed) : Type 0 where
-  pub within : IfOk answer (λ n. n ≤ length room')
-  pub moved : IfOk answer (λ n. Told i.left i'.left (λ l l'. Moves l l' room' n))
-  pub taken : IfOk answer (λ n. Told i.taken i'.taken (λ t t'. t' ≡ t ++ take n room'))
-  pub ended : IfOk answer (λ n. 0 < length room
-      → Told i.left i'.left (λ l _. (n ≡ 0) ↔ (l ≡ [])))
+-- what a take of bytes into an empty buffer leaves of a source, and in the buffer
+pub record Fills (i i' : Input) (bytes : List ℕ) (answer : Result ℕ Failed) : Type 0 where
+  pub size : IfOk answer (λ n. n ≡ length bytes)
+  pub none : OnErr answer (bytes ≡ [])
+  pub short : length bytes ≤ 65536
+  pub moved : Told i.left i'.left (λ l l'. l ≡ bytes ++ l')
+  pub taken : Told i.taken i'.taken (λ t t'. t' ≡ t ++ bytes)
+  pub ended : IfOk answer (λ n. Told i.left i'.left (λ l _. (n ≡ 0) ↔ (l ≡ [])))
   pub counted : CountsFaults i.faults i'.faults (IsErr answer)
   pub empty : CountsOne i.empty_takes i'.empty_takes (answer ≡ Ok 0)
-  pub failed_left : OnErr answer (Told i.left i'.left (λ l l'. l' ≡ l))
-  pub failed_taken : OnErr answer (Told i.taken i'.taken (λ t t'. t' ≡ t))

@@ -1,10 +1,19 @@
 -- What was read of a stream that is followed to its end, and which of its events were heard.
-use Rattle.std.specs.Prelude.{◌≡◌, ℕ, ◌≤◌, ◌⊎◌, List, [], ◌++◌, length, Option}
+use Rattle.std.specs.Prelude.{◌≡◌, ℕ, ◌≤◌, ◌⊎◌, List, [], ◌++◌, length, map, Option}
 use Rattle.io_edges.specs.{Faults.one_more, Flow.Told}
 use Rattle.unit_streams.specs.{Going.IsPending, Grammar.Grammar}
 use Rattle.unit_streams.specs.Judging.{events, events_of, history}
 use Rattle.stream_loop.specs.{declared.following.Ending.Ending, Edges.Input}
 use Rattle.stream_loop.specs.declared.following.Ending.TheVariants.{Judged, Memory, ReadFault}
+
+-- These events were heard by the values that they are said with, by a relation of two lists: those
+-- heard before the last pause, and the others.
+pub record AreHeard {E V : Type 0} (event_for : E → V) (Heard : List V → List V → Type 0)
+    (events : List E) : Type 0 where
+  pub paused : List E
+  pub since : List E
+  pub joined : events ≡ paused ++ since
+  pub heard : Heard (map event_for paused) (map event_for since)
 
 module _ {Z U E R : Type 0} (g : Grammar Z U E R) where
   -- these events and this judgement are the history of the bytes

@@ -1,17 +1,20 @@
 -- Public contracts cite these: how a reading end's answers are its grammar's (Answers), what is
 -- seen of the input and the output (Edges), what was read and reported (Reported), and what follows
--- (Laws); what was read of a stream and which of its events were heard (Followed); what has become
--- of the writing about it (Writing), also where it is gathered (Gathering).
+-- (Laws); what was read of a stream and which of its events were heard (Followed), also where the
+-- reading stops and goes on (Resumed); what has become of the writing about it (Writing), also where
+-- it is gathered (Gathering).
 pub mod Answers
 pub mod Edges
 pub mod Reported
 pub mod Laws
 pub mod Followed
+pub mod Resumed
 pub mod Writing
 pub mod Gathering
--- Private calls cite these: what the parts of the loop answer, and what one piece of a stream
--- brings to a listener.
+-- Private calls cite these: what a step of the loop brings, what a reporter has put so far, and
+-- what a report has put before its last bytes are written.
+pub mod Steps
+pub mod Report
 pub mod LoopParts
-pub mod Hearing
 -- Worked examples cite this one.
 pub mod Toy

@@ -1,10 +1,9 @@
--- What the parts of the loop answer.
-use Rattle.std.specs.Prelude.{◌≡◌, ℕ, ◌⊎◌, List, [], ◌++◌, Ok, Err, Option, Result, ⊤}
+-- What a report has put before its last bytes are written.
+use Rattle.std.specs.Prelude.{◌≡◌, ℕ, ◌⊎◌, List, [], ◌++◌, Ok, Err, Result, ⊤}
 use Rattle.io_edges.specs.{declared.SinkFault.SinkFault, Faults.one_more, Flow.Told}
-use Rattle.unit_streams.specs.{Going.IsOpenAt, Going.IsPending, Grammar.Grammar}
-use Rattle.unit_streams.specs.Tellers.{AreDue, report, state_at, Teller, told_so_far}
-use Rattle.stream_loop.specs.declared.{pieces.Progress.Progress, reporting.Ending.Ending}
-use Rattle.stream_loop.specs.declared.pieces.Progress.TheVariants.{Going, Judged, Starved}
+use Rattle.unit_streams.specs.Grammar.{Grammar}
+use Rattle.unit_streams.specs.Tellers.{AreDue, report, Teller, told_so_far}
+use Rattle.stream_loop.specs.declared.reporting.Ending.{Ending}
 use Rattle.stream_loop.specs.{Edges.Input, Edges.Output, Reported.IsJudged, Reported.Reaches}
 use Rattle.io_edges.specs.declared.SinkFault.TheVariants as faults
 use Rattle.stream_loop.specs.declared.reporting.Ending.TheVariants as endings
@@ -20,31 +19,6 @@ ended_by faults.Failed = endings.WriteFault
 ended_by faults.Memory = endings.Memory
 
 module _ {Z U E R S : Type 0} (g : Grammar Z U E R) (t : Teller S E R) where
-  -- an end that stands so has read p, of which no shorter prefix is refused or ends the stream, and
-  -- a reporter in such a state has put what is written of its events
-  pub record HasRead (stands : List ℕ → Type 0) (state : S) (p : List ℕ) : Type 0 where
-    pub stands_for : stands p
-    pub on : IsOpenAt g p
-    pub state_is : state ≡ state_at g t p
-
-  -- what is known of a stream of which p is read, when the bytes y came, and what is put then
-  abbrev pub ReadsOf : (stands : List ℕ → Type 0) (state : S) (p y : List ℕ)
-      → Result (Progress R) SinkFault → List ℕ → Type 0
-  ReadsOf stands state p y (Ok Going) lines =
-      HasRead stands state (p ++ y) × IsPending g (p ++ y)
-      × (told_so_far g t (p ++ y) ≡ told_so_far g t p ++ lines)
-  ReadsOf stands state p y (Ok (Judged judged)) lines =
-      (more : List ℕ) → IsJudged g t judged state ((p ++ y) ++ more)
-      × (report g t ((p ++ y) ++ more) ≡ told_so_far g t p ++ lines)
-  ReadsOf stands state p y (Ok Starved) lines = AreDue g t (p ++ y) (told_so_far g t p) lines
-  ReadsOf stands state p y (Err fault) lines = AreDue g t (p ++ y) (told_so_far g t p) lines
-
-  -- what is known where the input is over after p, and what is put then
-  abbrev pub EndsOf : (state : S) (p : List ℕ) → Result (Option R) SinkFault → List ℕ → Type 0
-  EndsOf state p (Ok judged) lines =
-      IsJudged g t judged state p × (report g t p ≡ told_so_far g t p ++ lines)
-  EndsOf state p (Err fault) lines = report g t p ≡ told_so_far g t p ++ lines
-
   module _ (i i' : Input) (o o' : Output) where
     -- all of the stream was read before, one take gave nothing, and its report are the lines
     abbrev pub IsAllRead : (before piece lines : List ℕ) → Type 0

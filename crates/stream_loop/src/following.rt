@@ -1,19 +1,19 @@
-//! The loop over the pieces that an input gives to a listener.
+//! A stream that is read to its end whatever becomes of the writing.
 
-ghost use Rattle.std.specs.Prelude.{◌≡◌, ℕ, List, [], map};
+ghost use Rattle.std.specs.Prelude.{◌≡◌, List, [], Option};
 ghost use Rattle.io_edges.specs.Faults.{CountsFaults};
+ghost use Rattle.unit_streams.specs.declared.Memory.{Memory as Want};
 ghost use Rattle.stream_loop.specs.Answers.{EndsWithin};
-ghost use Rattle.stream_loop.specs.Edges.{Takes, input_at};
-ghost use Rattle.stream_loop.specs.Followed.{Follows};
+ghost use Rattle.stream_loop.specs.Edges.{input_at};
+ghost use Rattle.stream_loop.specs.Followed.{AreHeard, Follows};
 
-use crate::Listener;
-use crate::hearing::{self, Progress};
+use crate::input_buffer::InputBuffer;
+use crate::listener::Listener;
 use crate::reading_end::ReadingEnd;
-use io_edges::{Failed, Source};
+use crate::resuming::{ReadOn, read_on};
+use io_edges::Source;
 use std::alloc::Global;
-
-/// How many bytes are taken at most at a time.
-const MOST_TAKEN: usize = 65_536;
+use unit_streams::Memory;
 
 /// How the reading of a stream ended.
 #[derive(Clone, Copy, Debug, PartialEq, Eq, Drop)]
@@ -26,24 +26,11 @@ pub enum Ending<R> {
     Memory,
 }
 
-// Takes the next bytes of the input, where they may be waited for.
-fn take_more<I: Source, Event, O, L: Listener<Event, O>>(
-    listener: &L,
-    output: &O,
-    input: &mut I,
-    room: &mut [u8],
-) -> Result<usize, Failed>
-    requires may_wait { L.may_wait listener.now output.now }
-    ensures { Takes (input_at I.left I.taken I.faults I.empty_takes input.old)
-        (input_at I.left I.taken I.faults I.empty_takes input.new) room.old room.new result }
-{
-    input.take(room)
-}
-
 /// Reads the stream that the input gives to its end, by an end that has read nothing of it, and has
 /// each event heard by a listener that has heard none. The buffer for a piece, of 64 KiB, is
-/// allocated once.
-pub fn follow_stream<I: Source, E: ReadingEnd, O, L: Listener<E::Event, O>>(
+/// allocated once. The listener stops the reading only for want of memory, and hasn't heard the
+/// event then.
+pub fn follow_stream<I: Source, E: ReadingEnd, O, L: Listener<E::Event, O, Halt = Memory>>(
     alloc: Global,
     end: &mut E,
     listener: &mut L,
@@ -52,9 +39,12 @@ pub fn follow_stream<I: Source, E: ReadingEnd, O, L: Listener<E::Event, O>>(
 ) -> Ending<E::Refusal>
     requires ends { EndsWithin (E.grammar end.old) E.ends (E.most end.old) }
     requires fresh { E.stands end.old [] }
-    requires first { L.heard output.old [] listener.old output.old }
-    ensures follows { Follows (E.grammar end.old)
-        (λ events. L.heard output.old (map E.event_for events) listener.new output.new)
+    requires first { L.heard output.old [] [] listener.old output.old }
+    requires halts { (first now : O) (paused since : List E.Event) (at : Option E.Event)
+        (halt : Want) (listener' : L) → L.halted first paused since at halt listener' now
+        → L.heard first paused since listener' now }
+    ensures follows { Follows (E.grammar end.old) (AreHeard E.event_for
+        (λ paused since. L.heard output.old paused since listener.new output.new))
         (input_at I.left I.taken I.faults I.empty_takes input.old)
         (input_at I.left I.taken I.faults I.empty_takes input.new) result }
     ensures counted { CountsFaults (I.faults input.old) (I.faults input.new)
@@ -63,21 +53,13 @@ pub fn follow_stream<I: Source, E: ReadingEnd, O, L: Listener<E::Event, O>>(
     ensures grammar { E.grammar end.new ≡ E.grammar end.old }
     ensures settings { L.settings listener.new ≡ L.settings listener.old }
 {
-    let Ok(mut room) = vec![in alloc; 0u8; MOST_TAKEN] else {
+    let Ok(mut buffer) = InputBuffer::new(alloc) else {
         return Ending::Memory;
     };
-    loop {
-        listener.pause(output);
-        let Ok(n) = take_more::<I, E::Event, O, L>(listener, output, input, &mut room) else {
-            return Ending::ReadFault;
-        };
-        if n == 0 {
-            return Ending::Judged(end.end_of_input().err());
-        }
-        match hearing::hear_piece(end, listener, &room[..n], output) {
-            Progress::Going => {}
-            Progress::Judged(judged) => return Ending::Judged(judged),
-            Progress::Starved => return Ending::Memory,
-        }
+    match read_on(&mut buffer, end, listener, input, output) {
+        ReadOn::Judged(judged) => Ending::Judged(judged),
+        ReadOn::ReadFault => Ending::ReadFault,
+        ReadOn::Memory => Ending::Memory,
+        ReadOn::Halted(Memory) => Ending::Memory,
     }
 }

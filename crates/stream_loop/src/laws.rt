@@ -7,13 +7,13 @@ ghost use Rattle.unit_streams.specs.Grammar.{Grammar};
 ghost use Rattle.unit_streams.specs.Tellers.{Teller};
 ghost use Rattle.stream_loop.specs.Laws.{FrontsAreWritten, JudgedByBytes};
 
-/// However the reporting of a stream ends, what is written is its report or the first bytes of it,
-/// after what the output held before.
+/// However the reporting of a stream ends, its report or first bytes of it are written, after what
+/// the output held before.
 pub fn fronts_are_written()
     ensures { (g : Grammar ℕ ℕ ℕ ℕ) (t : Teller ℕ ℕ ℕ) → FrontsAreWritten g t }
 {}
 
-/// Where a stream is judged, the judgement and what the reporter remembers depend only on its
+/// Where a stream is accepted or refused, that and what the reporter remembers depend only on its
 /// bytes, and not on the pieces in which they came.
 pub fn judged_by_bytes()
     ensures { (g : Grammar ℕ ℕ ℕ ℕ) (t : Teller ℕ ℕ ℕ) → JudgedByBytes g t }

@@ -7,14 +7,14 @@ ghost use Rattle.stream_loop.specs.Writing.{outbound_by, outbound_of};
 
 use io_edges::{Sink, SinkFault};
 
-/// How the writing to a sink stands, or ended.
+/// How the writing to a sink stands, or how it ended.
 #[derive(Clone, Copy, Debug, PartialEq, Eq)]
 pub enum Outbound {
     /// All that was put is written or held.
     Done,
-    /// A write failed.
+    /// A write met an I/O error. Nothing more is written.
     WriteFault,
-    /// Out of memory while writing.
+    /// Out of memory while writing. Nothing more is written.
     Memory,
 }
 
@@ -37,7 +37,7 @@ fn outbound_of(fault: SinkFault) -> Outbound
     }
 }
 
-/// Puts bytes, where there are some.
+/// Puts bytes, if there are any, and answers how the writing stands.
 pub fn put_bytes<K: Sink>(bytes: &[u8], sink: &mut K) -> Outbound
     ensures goes { Goes K.written K.held K.faults K.may_want result bytes.now sink.old sink.new }
     ensures wanted { result ≡ Outbound.Memory → K.may_want sink.old ≡ true }
@@ -52,8 +52,8 @@ pub fn put_bytes<K: Sink>(bytes: &[u8], sink: &mut K) -> Outbound
     }
 }
 
-/// Puts bytes, a part at a time. Answers how many were put, and how the writing stands: all were,
-/// or a put failed at the others.
+/// Puts bytes, a part at a time. Answers how many were put, and how the writing stands: all were
+/// put, or a put failed at the next one.
 pub fn put_parts<K: Sink>(bytes: &[u8], sink: &mut K) -> (usize, Outbound)
     ensures puts { PutsParts K.written K.held K.faults K.may_want bytes.now sink.old sink.new
         result.0 result.1 }
@@ -69,7 +69,7 @@ pub fn put_parts<K: Sink>(bytes: &[u8], sink: &mut K) -> (usize, Outbound)
     (at, Outbound::Done)
 }
 
-/// Writes what the sink holds.
+/// Writes what the sink holds, and answers how the writing stands.
 pub fn flush<K: Sink>(sink: &mut K) -> Outbound
     ensures flushed { (flush : Result ⊤ Fault)
         × PutsTo K.written K.held K.faults K.may_want sink.old sink.new [] flush
@@ -83,7 +83,8 @@ pub fn flush<K: Sink>(sink: &mut K) -> Outbound
     }
 }
 
-/// Ends the writing since there was no memory for the next bytes. What the sink holds is written.
+/// Ends the writing since there is no memory for the next bytes. What the sink holds is written
+/// first.
 pub fn starve<K: Sink>(sink: &mut K) -> Outbound
     ensures cut { (next : List ℕ) → IsCut K.written K.held K.faults K.may_want result next
         sink.old sink.new }

@@ -5,19 +5,19 @@ ghost use Rattle.unit_streams.specs.Grammar.{Grammar};
 ghost use Rattle.unit_streams.specs.Judging.{answer, is_over_at, ending_at};
 ghost use Rattle.stream_loop.specs.Answers.{Says, said_at_end};
 
-/// Why a piece brought no answer.
+/// Why a piece isn't read on.
 #[derive(Clone, Copy, Debug, PartialEq, Eq, Drop)]
 pub enum FeedFault<R> {
-    /// Why the stream is refused.
+    /// The stream is refused, for this reason.
     Refused(R),
-    /// Out of memory, which may be answered in place of anything else.
+    /// Out of memory. It may be answered in place of anything else.
     Memory,
 }
 
 /// What reads a stream in whatever pieces its bytes come.
 ///
-/// It says each event of its grammar with a value of its own, which may hold less than that
-/// event does. Such a value owns what it brings.
+/// Its events are values of its own, which may have less than the grammar's events, and own what
+/// they have.
 pub trait ReadingEnd {
     /// An event of a stream, as it is reported.
     type Event: Drop;
@@ -53,9 +53,10 @@ pub trait ReadingEnd {
     /// Whether an event ends the stream.
     ghost ends: { Completed → Bool };
 
-    /// Reads the piece up to the byte that completes the next event, that byte too, and says how
-    /// many bytes these are. Where no byte completes one it reads all of the piece. What it answers
-    /// after an error isn't said.
+    /// Reads the piece up to and including the byte that completes the next event, and answers how
+    /// many bytes these are, and the event; or all of the piece, where no byte completes one. It
+    /// fails where a byte shows a refusal, or without memory. What it answers after it has failed
+    /// isn't promised.
     fn feed(
         &mut self,
         piece: &[u8],
@@ -68,7 +69,7 @@ pub trait ReadingEnd {
             → IfOk result (λ step. stands self.new (p ++ take step.0 piece.now)) }
         ensures grammar { grammar self.new ≡ grammar self.old };
 
-    /// Says that the input is over: an error is why it may not end here.
+    /// Says that the input is over. It fails, with the reason, where the stream may not end here.
     fn end_of_input(&mut self) -> Result<(), Self::Refusal>
         requires { (p : List ℕ) × stands self.old p }
         ensures answers { (p : List ℕ) → stands self.old p
@@ -80,7 +81,7 @@ pub trait ReadingEnd {
         ensures { (completed : Completed) → event.now ≡ event_for completed
             → result ≡ ends completed };
 
-    /// Takes back what an event brought; the next one reuses its memory.
+    /// Takes back an event that is no longer needed; the next one reuses its memory.
     fn hand_back(&mut self, event: Self::Event)
         ensures stands { (p : List ℕ) → stands self.old p → stands self.new p }
         ensures grammar { grammar self.new ≡ grammar self.old };

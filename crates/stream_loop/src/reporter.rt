@@ -20,7 +20,7 @@ pub trait Reporter<Event, Refusal> {
     /// What it remembers.
     ghost state: { Self → State };
 
-    /// Puts what is written of an event.
+    /// Puts what is written of an event. It fails as the output does.
     fn put_event<K: Sink>(&mut self, event: &Event, output: &mut K) -> Result<(), SinkFault>
         ensures puts { Puts K.written K.held K.faults K.may_want output.old output.new
             ((rules self.old).told (state self.old) event.now) result }
@@ -28,7 +28,8 @@ pub trait Reporter<Event, Refusal> {
             ≡ (rules self.old).next (state self.old) event.now) }
         ensures rules { rules self.new ≡ rules self.old };
 
-    /// Puts what is written at the end: of the refusal, or that the stream has ended well.
+    /// Puts what is written at the end: of the refusal, or of a stream that ended as it may. It
+    /// fails as the output does.
     fn put_ending<K: Sink>(
         &mut self,
         refusal: &Option<Refusal>,

@@ -1,50 +1,78 @@
-//! The loop over the pieces that an input gives to a reporter.
+//! A stream that is read and reported.
 
 ghost use Rattle.std.specs.Prelude.{◌≡◌, ⊤, Result, ℕ, ◌≤◌, List, [], ◌++◌, Option, Some, None, Err, IfOk, IfErr, OnOk, OnErr, IsErrOf};
 ghost use Rattle.io_edges.specs.Faults.{CountsFaults};
 ghost use Rattle.io_edges.specs.Puts.{Puts};
 ghost use Rattle.io_edges.specs.declared.SinkFault.{SinkFault as Fault};
 ghost use Rattle.stream_loop.specs.Answers.{EndsWithin, written_by};
-ghost use Rattle.stream_loop.specs.Edges.{Takes, input_at, output_at};
+ghost use Rattle.stream_loop.specs.Edges.{input_at, output_at};
 ghost use Rattle.stream_loop.specs.LoopParts.{HasReported, done, ended_by};
 ghost use Rattle.stream_loop.specs.Reported.{EndsAs};
 
-use crate::pieces::{self, Progress};
+use crate::input_buffer::InputBuffer;
+use crate::report::Reporting;
+use crate::resuming::{ReadOn, read_on};
 use crate::{ReadingEnd, Reporter};
-use io_edges::{Failed, Sink, SinkFault, Source};
+use io_edges::{Sink, SinkFault, Source};
 use std::alloc::Global;
-
-/// How many bytes are taken at most at a time.
-const MOST_TAKEN: usize = 65_536;
+use std::marker::PhantomData;
 
 /// How the reporting of a stream ended.
 #[derive(Clone, Copy, Debug, PartialEq, Eq, Drop)]
 pub enum Ending<R> {
-    /// The stream ended well, or this is why it is refused.
+    /// The stream ended as it may; or it is refused, for this reason.
     Judged(Option<R>),
-    /// The input failed.
+    /// A read met an I/O error.
     ReadFault,
-    /// The output failed.
+    /// A write met an I/O error.
     WriteFault,
     /// Out of memory.
     Memory,
 }
 
-// Takes the next bytes of the input. They may be long in coming, so the output holds nothing.
-fn take_more<I: Source, O: Sink>(
-    output: &O,
+// Reads the stream that the input gives by an end that has read nothing of it, and puts its report.
+// What is due for a piece is written before more is read.
+fn put_lines<I: Source, O: Sink, E: ReadingEnd, T: Reporter<E::Event, E::Refusal>>(
+    buffer: &mut InputBuffer,
+    end: &mut E,
+    reporting: &mut Reporting<'_, E::Refusal, T>,
     input: &mut I,
-    room: &mut [u8],
-) -> Result<usize, Failed>
-    requires written { O.held output.now ≡ [] }
-    ensures { Takes (input_at I.left I.taken I.faults I.empty_takes input.old)
-        (input_at I.left I.taken I.faults I.empty_takes input.new) room.old room.new result }
+    output: &mut O,
+) -> Result<Ending<E::Refusal>, SinkFault>
+    requires ends { EndsWithin (E.grammar end.old) E.ends (E.most end.old) }
+    requires fresh { E.stands end.old [] }
+    requires empty { buffer.old ≡ [] }
+    requires first { T.state reporting.old.reporter.now
+        ≡ (T.rules reporting.old.reporter.now).start }
+    ensures reports { (lines : List ℕ)
+        × Puts O.written O.held O.faults O.may_want output.old output.new lines (done result)
+        × HasReported (E.grammar end.old)
+        (written_by E.event_for (T.rules reporting.old.reporter.now))
+        (input_at I.left I.taken I.faults I.empty_takes input.old)
+        (input_at I.left I.taken I.faults I.empty_takes input.new)
+        (output_at O.written O.held O.faults output.old)
+        (output_at O.written O.held O.faults output.new)
+        (T.state reporting.new.reporter.now) result lines }
+    ensures counted { CountsFaults (I.faults input.old) (I.faults input.new)
+        (result ≡ Ok Ending.ReadFault) }
+    ensures grammar { E.grammar end.new ≡ E.grammar end.old }
+    ensures rules { T.rules reporting.new.reporter.now ≡ T.rules reporting.old.reporter.now }
+    ensures same_reporter { reporting.new.reporter.ghost_name
+        ≡ reporting.old.reporter.ghost_name }
 {
-    input.take(room)
+    output.flush()?;
+    match read_on(buffer, end, reporting, input, output) {
+        ReadOn::Judged(refusal) => {
+            reporting.reporter.put_ending(&refusal, output)?;
+            Ok(Ending::Judged(refusal))
+        }
+        ReadOn::ReadFault => Ok(Ending::ReadFault),
+        ReadOn::Memory => Ok(Ending::Memory),
+        ReadOn::Halted(fault) => Err(fault),
+    }
 }
 
-// Reads the stream that the input gives by an end that has read nothing of it, and puts its report.
-// What is written of what came is written before more is taken.
+// The same, with a buffer of its own.
 fn put_report<I: Source, O: Sink, E: ReadingEnd, T: Reporter<E::Event, E::Refusal>>(
     alloc: Global,
     end: &mut E,
@@ -55,36 +83,27 @@ fn put_report<I: Source, O: Sink, E: ReadingEnd, T: Reporter<E::Event, E::Refusa
     requires ends { EndsWithin (E.grammar end.old) E.ends (E.most end.old) }
     requires fresh { E.stands end.old [] }
     requires first { T.state reporter.old ≡ (T.rules reporter.old).start }
-    ensures reports { (lines : List ℕ)
+    ensures reports { (last : T) × (last ≡ reporter.new) × (lines : List ℕ)
         × Puts O.written O.held O.faults O.may_want output.old output.new lines (done result)
         × HasReported (E.grammar end.old) (written_by E.event_for (T.rules reporter.old))
         (input_at I.left I.taken I.faults I.empty_takes input.old)
         (input_at I.left I.taken I.faults I.empty_takes input.new)
         (output_at O.written O.held O.faults output.old)
         (output_at O.written O.held O.faults output.new)
-        (T.state reporter.new) result lines }
+        (T.state last) result lines }
     ensures counted { CountsFaults (I.faults input.old) (I.faults input.new)
         (result ≡ Ok Ending.ReadFault) }
     ensures grammar { E.grammar end.new ≡ E.grammar end.old }
     ensures rules { T.rules reporter.new ≡ T.rules reporter.old }
 {
-    let Ok(mut room) = vec![in alloc; 0u8; MOST_TAKEN] else {
+    let Ok(mut buffer) = InputBuffer::new(alloc) else {
         return Ok(Ending::Memory);
     };
-    loop {
-        output.flush()?;
-        let Ok(n) = take_more(output, input, &mut room) else {
-            return Ok(Ending::ReadFault);
-        };
-        if n == 0 {
-            return Ok(Ending::Judged(pieces::finish(end, reporter, output)?));
-        }
-        match pieces::read_piece(end, reporter, &room[..n], output)? {
-            Progress::Going => {}
-            Progress::Judged(judged) => return Ok(Ending::Judged(judged)),
-            Progress::Starved => return Ok(Ending::Memory),
-        }
-    }
+    let mut reporting = Reporting {
+        reporter,
+        refusals: PhantomData,
+    };
+    put_lines(&mut buffer, end, &mut reporting, input, output)
 }
 
 // Writes what the output holds, unless it has failed. Where a read failed it holds nothing.
@@ -109,7 +128,8 @@ fn written<R: Drop, O: Sink>(ending: Result<Ending<R>, SinkFault>, output: &mut 
 }
 
 /// Reads the stream that the input gives and writes its report, by an end that has read nothing and
-/// a reporter that has put nothing. What the output holds at the call is written first. The buffer
+/// a reporter that has put nothing. It ends with the stream or its refusal, or where a read or a
+/// write fails, or without memory. What the output holds at the call is written first. The buffer
 /// for a piece, of 64 KiB, is allocated once.
 pub fn report_stream<I: Source, O: Sink, E: ReadingEnd, T: Reporter<E::Event, E::Refusal>>(
     alloc: Global,

@@ -1,15 +1,15 @@
-use Rattle.std.proofs.Common.{◌≡◌, ℕ, ◌+◌, ◌-◌, ◌<◌, ◌≤◌, List, [], ◌++◌, length, take, Some, Ok}
-use Rattle.std.proofs.Common.{Err, sym, refl, ap, ◌∙◌, subst, inl, inr, append-nil, arith}
-use Rattle.std.proofs.{Common.length-take-le, lemmas.Result.err_from_is_err_and}
+use Rattle.std.proofs.Common.{◌≡◌, ℕ, ◌+◌, ◌-◌, ◌<◌, List, [], ◌++◌, length, Ok, Err, sym, refl, ap}
+use Rattle.std.proofs.Common.{◌∙◌, subst, inl, inr, append-nil, arith}
+use Rattle.std.proofs.lemmas.Result.{err_from_is_err_and}
 use Rattle.io_edges.specs.{Faults.one_more, Flow.Told}
 use Rattle.nbfx_values.specs.declared.content.Item.{Item}
-use Rattle.stream_loop.proofs.LoopSteps.{Came, end_left, end_over, end_taken, left_as, left_still}
-use Rattle.stream_loop.proofs.LoopSteps.{piece_came, room_is, taken_as, taken_still}
-use Rattle.stream_loop.proofs.Writing.{counted_none, counted_with}
+use Rattle.stream_loop.proofs.Writing.{counted_none, counted_with, known_told}
 use Rattle.stream_loop.specs.Edges.{Input, input_at}
 use Rattle.document_lines.specs.{declared.reading.ListReader.ListReader, ListReaderState.ReadsPiece}
 use Rattle.document_lines.proofs.ListReaderFacts.{piece_read}
-use Rattle.document_lines.proofs.TakingFacts.{piece_taken, taken_lines, unrefused_read}
+use Rattle.document_lines.proofs.TakingFacts.{left_still, left_then, none_came, over_then}
+use Rattle.document_lines.proofs.TakingFacts.{piece_taken, taken_lines, taken_still, taken_then}
+use Rattle.document_lines.proofs.TakingFacts.{unrefused_read}
 use Rattle.document_lines.proofs.taking.take_lines.{Given.Over, Goals.After-read_piece}
 use Rattle.document_lines.proofs.taking.take_lines.Goals as goal
 
@@ -22,109 +22,96 @@ module _ (g : Over) where
   abbrev kept_of : ListReader g.row.D.Denot → List (List Item) → g.row.D.Denot → Type 0
   kept_of reader = g.D.Keeper.kept reader.keeper
 
--- before the first piece nothing is read
+-- before the first byte
+module _ (i : Input) where
+  all_left : Told i.left i.left (λ all rest. all ≡ [] ++ rest)
+  all_left = known_told (λ all rest. all ≡ [] ++ rest) i.left i.left (λ all e. (all, e, refl))
+
+  none_taken : Told i.taken i.taken (λ t t'. t' ≡ t ++ [])
+  none_taken = known_told (λ t t'. t' ≡ t ++ []) i.taken i.taken
+      (λ t e. (t, e, sym (append-nil t)))
+
 pub loop-n-init : goal.loop-n-init
-loop-n-init g c = record {
-  room = omega (arith, c.in-Ok.ensures.len);
-  quota = refl;
-  faults = refl;
-  empty_takes = refl;
-  reads = (
-    [],
-    c.requires.fresh,
-    c.requires.positive,
-    λ bytes e. (bytes, e, refl),
-    λ t e. e ∙ ap Some (sym (append-nil t)),
-  );
-}
+loop-n-init g c =
+    let i : Input = input_of g c.args.source.now in
+    record {
+      empty = c.in-Ok.ensures;
+      quota = refl;
+      faults = refl;
+      empty_takes = refl;
+      reads = ([], c.requires.fresh, c.requires.positive, all_left i, none_taken i);
+    }
 
 -- there was no memory to begin with
 pub returns-in_default-clause-takes : goal.returns-in_default-clause-takes
 returns-in_default-clause-takes g c =
-    taken_lines (kept_of g c.args.reader.now) c.args.reader.now.quota (input_of g c.args.source.now)
-    (input_of g c.args.source.now) c.args.reader.now [] _ (λ bytes e. (bytes, e, refl))
-    (λ t e. e ∙ ap Some (sym (append-nil t))) tt (inl refl)
-    (counted_none _ _ _ refl (λ e. cc))
+    let i : Input = input_of g c.args.source.now in
+    taken_lines (kept_of g c.args.reader.now) c.args.reader.now.quota i i c.args.reader.now [] _
+    (all_left i) (none_taken i) tt (inl refl) (counted_none _ _ _ refl (λ e. cc))
 
 -- reading failed
-pub returns-in_default-take-clause-takes : goal.returns-in_default-take-clause-takes
-returns-in_default-take-clause-takes g c =
-    let i = c.loop-n.invariant.reads in
-    let p = i.0 in
-    taken_lines (kept_of g c.args.reader.now) c.args.reader.now.quota (input_of g c.args.source.now)
-    (input_of g c.take.new.self) c.loop-n.reader p _
-    (left_as _ _ (p ++ []) p (append-nil p) (λ bytes e. let k = left_still
-    (g.S.Source.left c.args.source.now) (g.S.Source.left c.loop-n.source)
-    (g.S.Source.left c.take.new.self) p i.3 c.in_default-take.ensures.failed_left bytes e in k))
-    (taken_as _ _ (p ++ []) p (append-nil p) (taken_still
-    (g.S.Source.taken c.args.source.now) (g.S.Source.taken c.loop-n.source)
-    (g.S.Source.taken c.take.new.self) p i.4 c.in_default-take.ensures.failed_taken))
-    (i.2, unrefused_read (kept_of g c.args.reader.now) c.loop-n.reader p i.1)
-    (inl (c.in_default-take.ensures.empty.same (λ e. cc) ∙ c.loop-n.invariant.empty_takes))
-    (counted_with _ _ _ _ _ c.loop-n.invariant.faults c.in_default-take.ensures.counted (λ e. cc)
-    (λ e. refl))
+pub returns-in_default-fill-clause-takes : goal.returns-in_default-fill-clause-takes
+returns-in_default-fill-clause-takes g c =
+    let inv = c.loop-n.invariant in
+    let p = inv.reads.0 in
+    let i : Input = input_of g c.args.source.now in
+    let i1 : Input = input_of g c.loop-n.source in
+    let i2 : Input = input_of g c.fill.new.input in
+    let f = c.in_default-fill.ensures in
+    taken_lines (kept_of g c.args.reader.now) c.args.reader.now.quota i i2 c.loop-n.reader p _
+    (left_still i i1 i2 p c.fill.new.self _ f f.none inv.reads.3)
+    (taken_still i i1 i2 p c.fill.new.self _ f f.none inv.reads.4)
+    (inv.reads.2, unrefused_read (kept_of g c.args.reader.now) c.loop-n.reader p inv.reads.1)
+    (inl (f.empty.same (λ e. cc) ∙ inv.empty_takes))
+    (counted_with _ _ _ _ _ inv.faults f.counted (λ e. cc) (λ e. refl))
 
 -- the source is over
 pub returns-then-n-eq0-clause-takes : goal.returns-then-n-eq0-clause-takes
 returns-then-n-eq0-clause-takes g c =
-    let i = c.loop-n.invariant.reads in
-    let p = i.0 in
-    taken_lines (kept_of g c.args.reader.now) c.args.reader.now.quota (input_of g c.args.source.now)
-    (input_of g c.take.new.self) c.loop-n.reader p _
-    (left_as _ _ (p ++ []) p (append-nil p) (end_left (g.S.Source.left c.args.source.now)
-    (g.S.Source.left c.loop-n.source) (g.S.Source.left c.take.new.self) p c.take.new.room
-    c.in-Ok-take.n c.if-n-eq0.true i.3 c.in-Ok-take.ensures.moved))
-    (taken_as _ _ (p ++ []) p (append-nil p) (end_taken (g.S.Source.taken c.args.source.now)
-    (g.S.Source.taken c.loop-n.source) (g.S.Source.taken c.take.new.self) p c.take.new.room
-    c.in-Ok-take.n c.if-n-eq0.true i.4 c.in-Ok-take.ensures.taken)) (
-      i.1,
-      i.2,
-      end_over (g.S.Source.left c.args.source.now) (g.S.Source.left c.loop-n.source)
-          (g.S.Source.left c.take.new.self) p c.take.new.room c.in-Ok-take.n c.if-n-eq0.true i.3
-          c.in-Ok-take.ensures.moved
-          (c.in-Ok-take.ensures.ended (let room = c.loop-n.invariant.room in
-          omega (arith, c.deref_mut.ensures.len, room))),
+    let inv = c.loop-n.invariant in
+    let p = inv.reads.0 in
+    let i : Input = input_of g c.args.source.now in
+    let i1 : Input = input_of g c.loop-n.source in
+    let i2 : Input = input_of g c.fill.new.input in
+    let f = c.in-Ok-fill.ensures in
+    let none = none_came i1 i2 c.fill.new.self c.in-Ok-fill.n f c.if-n-eq0.true in
+    taken_lines (kept_of g c.args.reader.now) c.args.reader.now.quota i i2 c.loop-n.reader p _
+    (left_still i i1 i2 p c.fill.new.self _ f none inv.reads.3)
+    (taken_still i i1 i2 p c.fill.new.self _ f none inv.reads.4) (
+      inv.reads.1,
+      inv.reads.2,
+      over_then i1 i2 c.fill.new.self c.in-Ok-fill.n f c.if-n-eq0.true i p inv.reads.3,
     )
-    (inr (c.in-Ok-take.ensures.empty.once (ap Ok c.if-n-eq0.true)
-    ∙ ap one_more c.loop-n.invariant.empty_takes))
-    (counted_none _ _ _ (c.in-Ok-take.ensures.counted.same (λ e. cc) ∙ c.loop-n.invariant.faults)
-    (λ e. cc))
+    (inr (f.empty.once (ap Ok c.if-n-eq0.true) ∙ ap one_more inv.empty_takes))
+    (counted_none _ _ _ (f.counted.same (λ e. cc) ∙ inv.faults) (λ e. cc))
 
 -- a piece that came is read
 module _ (g : Over) (f : After-read_piece g) where
-  abbrev y : List ℕ
-  y = take f.in-Ok-take.n f.deref.result.now
-
-  full : length f.take.new.room ≡ length f.loop-n.room.items
-  full = f.take.auto.room ∙ ap length f.deref_mut.ensures.value
-
-  size : length y ≡ f.in-Ok-take.n
-  size =
-      let is = f.deref.ensures.value ∙ room_is f.loop-n.room.items f.take.new.room
-      f.loop-n.room.len f.loop-n.room.ok.0 full in
-      length-take-le f.in-Ok-take.n f.deref.result.now (subst (λ (l : List ℕ). f.in-Ok-take.n
-      ≤ length l) (sym is) f.in-Ok-take.ensures.within)
-
-  -- the take gave something
-  unasked : g.S.Source.empty_takes f.take.new.self ≡ g.S.Source.empty_takes f.args.source.now
-  unasked = f.in-Ok-take.ensures.empty.same (λ e. f.if-n-eq0.false (let is = e in cc))
-      ∙ f.loop-n.invariant.empty_takes
-
   -- what was read before it
   abbrev p : List ℕ
   p = f.loop-n.invariant.reads.0
 
-  came : Came (g.S.Source.left f.args.source.now) (g.S.Source.left f.take.new.self)
-      (g.S.Source.taken f.args.source.now) (g.S.Source.taken f.take.new.self)
-      f.loop-n.room.items f.take.new.room p y f.in-Ok-take.n
-  came =
-      let inv = f.loop-n.invariant in
-      piece_came (g.S.Source.left f.args.source.now) (g.S.Source.left f.loop-n.source)
-      (g.S.Source.left f.take.new.self) (g.S.Source.taken f.args.source.now)
-      (g.S.Source.taken f.loop-n.source) (g.S.Source.taken f.take.new.self)
-      f.loop-n.room.items f.take.new.room f.deref.result.now f.loop-n.room.len f.in-Ok-take.n
-      inv.room f.loop-n.room.ok.0 full f.deref.ensures.value f.in-Ok-take.ensures.within p
-      inv.reads.3 inv.reads.4 f.in-Ok-take.ensures.moved f.in-Ok-take.ensures.taken
+  abbrev y : List ℕ
+  y = f.fill.new.self
+
+  abbrev i : Input
+  i = input_of g f.args.source.now
+
+  abbrev i2 : Input
+  i2 = input_of g f.fill.new.input
+
+  left : Told i.left i2.left (λ all rest. all ≡ (p ++ y) ++ rest)
+  left = left_then i (input_of g f.loop-n.source) i2 p y _ f.in-Ok-fill.ensures
+      f.loop-n.invariant.reads.3
+
+  taken : Told i.taken i2.taken (λ t t'. t' ≡ t ++ (p ++ y))
+  taken = taken_then i (input_of g f.loop-n.source) i2 p y _ f.in-Ok-fill.ensures
+      f.loop-n.invariant.reads.4
+
+  -- the take gave something
+  unasked : i2.empty_takes ≡ i.empty_takes
+  unasked = f.in-Ok-fill.ensures.empty.same (λ e. f.if-n-eq0.false (let is = e in cc))
+      ∙ f.loop-n.invariant.empty_takes
 
 -- more was taken, of what the quota admits
 less_left : (quota taken taken' n : ℕ) → taken' ≡ taken + n → (n ≡ 0 → ⊥) → taken' < quota
@@ -134,12 +121,12 @@ less_left quota taken taken' n more some within = omega arith
 -- a piece behind which more may come
 pub loop-n-smaller : goal.loop-n-smaller
 loop-n-smaller g c =
-    let f : After-read_piece g = (goal.at-loop-n-smaller g c).After-read_piece in
     let reads = c.in_ok-read_piece.ensures in
     let before = c.loop-n.reader.taken in
     let after = c.read_piece.new.self.taken in
-    let n = c.in-Ok-take.n in
-    let more : after ≡ before + n = subst (λ (m : ℕ). after ≡ before + m) (size g f) reads.taken in
+    let n = c.in-Ok-fill.n in
+    let more : after ≡ before + n = reads.taken
+    ∙ ap (λ m. before + m) (ap length c.bytes.ensures ∙ sym c.in-Ok-fill.ensures.size) in
     let quota = c.args.reader.now.quota in
     let same : c.read_piece.new.self.quota ≡ quota = reads.quota ∙ c.loop-n.invariant.quota in
     less_left quota before after n more c.if-n-eq0.false
@@ -149,20 +136,23 @@ pub loop-n-preserved : goal.loop-n-preserved
 loop-n-preserved g c =
     let f : After-read_piece g = (goal.at-loop-n-preserved g c).After-read_piece in
     record {
-      room = rw (room_is c.loop-n.room.items c.take.new.room c.loop-n.room.len
-          c.loop-n.room.ok.0 (full g f)) (omega (arith, full g f, c.loop-n.invariant.room));
+      empty = c.clear.ensures;
       quota = c.in_ok-read_piece.ensures.quota ∙ c.loop-n.invariant.quota;
-      faults = c.in-Ok-take.ensures.counted.same (λ e. cc) ∙ c.loop-n.invariant.faults;
+      faults = c.in-Ok-fill.ensures.counted.same (λ e. cc) ∙ c.loop-n.invariant.faults;
       empty_takes = unasked g f;
       reads =
           let first = c.args.reader.now.keeper in
           let before = c.loop-n.invariant.reads.1 in
-          let reads = c.in_ok-read_piece.ensures.reads first (p g f) before in (
+          let reads : ReadsPiece (g.D.Keeper.kept first) c.loop-n.reader.quota
+          c.read_piece.new.self (p g f) (y g f) (Ok c.in_ok-read_piece.field-0) =
+          subst (λ (b : List ℕ). ReadsPiece (g.D.Keeper.kept first) c.loop-n.reader.quota
+          c.read_piece.new.self (p g f) b (Ok c.in_ok-read_piece.field-0)) c.bytes.ensures
+          (c.in_ok-read_piece.ensures.reads first (p g f) before) in (
             p g f ++ y g f,
             reads.0,
             subst (λ (n : ℕ). length (p g f ++ y g f) < n) c.loop-n.invariant.quota reads.1,
-            (came g f).rest,
-            (came g f).handed,
+            left g f,
+            taken g f,
           );
     }
 
@@ -176,14 +166,17 @@ returns-in_err-read_piece-clause-takes g c =
     let new = c.read_piece.new.self in
     let before = p g f in
     let r = err_from_is_err_and c.from_residual.result c.from_residual.ensures.1 in
+    let read : ReadsPiece kept c.loop-n.reader.quota new before (y g f)
+    (Err c.in_err-read_piece.field-0.0) =
+    subst (λ (b : List ℕ). ReadsPiece kept c.loop-n.reader.quota new before b
+    (Err c.in_err-read_piece.field-0.0)) f.bytes.ensures
+    (c.in_err-read_piece.ensures.reads first before c.loop-n.invariant.reads.1) in
     let reads : ReadsPiece kept quota new before (y g f) (Err c.in_err-read_piece.field-0.0) =
     subst (λ (n : ℕ). ReadsPiece kept n new before (y g f) (Err c.in_err-read_piece.field-0.0))
-    c.loop-n.invariant.quota
-    (c.in_err-read_piece.ensures.reads first before c.loop-n.invariant.reads.1) in
-    rw (r.1, r.2) (taken_lines kept quota (input_of g f.args.source.now)
-    (input_of g f.take.new.self) new (before ++ y g f) _ (came g f).rest
-    (came g f).handed
+    c.loop-n.invariant.quota read in
+    rw (r.1, r.2) (taken_lines kept quota (i g f) (i2 g f) new (before ++ y g f) _ (left g f)
+    (taken g f)
     (piece_taken kept quota new before (y g f) (Told (g.S.Source.left f.args.source.now)
-    (g.S.Source.left f.take.new.self) (λ all rest. rest ≡ [])) _ reads) (inl (unasked g f))
-    (counted_none _ _ _ (c.in-Ok-take.ensures.counted.same (λ e. cc) ∙ c.loop-n.invariant.faults)
+    (g.S.Source.left f.fill.new.input) (λ all rest. rest ≡ [])) _ reads) (inl (unasked g f))
+    (counted_none _ _ _ (c.in-Ok-fill.ensures.counted.same (λ e. cc) ∙ c.loop-n.invariant.faults)
     (λ is. piece_read kept quota new before (y g f) _ reads (let same = is in cc))))

@@ -1,0 +1,113 @@
+-- How far the reading of a stream has come, and how it stopped: what was read of it, and which of
+-- its events were heard.
+use Rattle.std.specs.Prelude.{◌≡◌, ℕ, ◌≤◌, ◌⊎◌, List, [], ◌∷◌, ◌++◌, length, Some, None}
+use Rattle.std.specs.Prelude.{Option}
+use Rattle.io_edges.specs.{Faults.one_more, Flow.Told}
+use Rattle.unit_streams.specs.{Going.IsOpenAt, Going.IsPending, Grammar.Grammar}
+use Rattle.unit_streams.specs.Judging.{events_of}
+use Rattle.stream_loop.specs.declared.resuming.ReadOn.{ReadOn}
+use Rattle.stream_loop.specs.declared.resuming.ReadOn.TheVariants.{Halted, Judged, Memory}
+use Rattle.stream_loop.specs.declared.resuming.ReadOn.TheVariants.{ReadFault}
+use Rattle.stream_loop.specs.{Edges.Input, Followed.AreFirst, Followed.IsWhole}
+
+-- with an event behind them, where there is one
+abbrev pub then_at : {E : Type 0} → List E → Option E → List E
+then_at events None = events
+then_at events (Some event) = events ++ event ∷ []
+
+module _ {Z U E R : Type 0} (g : Grammar Z U E R) (i i' : Input) where
+  -- These bytes of a stream came from an input that was like i before the first of them and is like
+  -- i' now: whole pieces, of which no prefix is refused or ends the stream, and at most one piece
+  -- after them.
+  pub record Came (before piece : List ℕ) : Type 0 where
+    pub pending : IsPending g before
+    pub short : length piece ≤ 65536
+    pub stream : Told i.left i'.left (λ all rest. all ≡ before ++ piece ++ rest)
+    pub took : Told i.taken i'.taken (λ t t'. t' ≡ t ++ before ++ piece)
+
+  -- no take gave nothing
+  abbrev pub IsUnasked : Type 0
+  IsUnasked = i'.empty_takes ≡ i.empty_takes
+
+  -- of the pieces of a stream, the last of which is this: all that was to come has come, and one
+  -- take gave nothing
+  pub record IsOver (piece : List ℕ) : Type 0 where
+    pub nothing : piece ≡ []
+    pub over : Told i.left i'.left (λ all rest. rest ≡ [])
+    pub once : i'.empty_takes ≡ one_more i.empty_takes
+
+  -- The reading has come to p, and y is buffered. An end that stands so has read p, of which no
+  -- shorter prefix is refused or ends the stream. Its events were heard: those of the pieces that
+  -- came before the last pause, and the others since then.
+  pub record HasComeTo (stands : List ℕ → Type 0) (Heard : List E → List E → Type 0)
+      (p y : List ℕ) : Type 0 where
+    pub stands_for : stands p
+    pub on : IsOpenAt g p
+    pub before : List ℕ
+    pub piece : List ℕ
+    pub came : Came before piece
+    pub joined : before ++ piece ≡ p ++ y
+    pub since : List E
+    pub events_are : events_of g p ≡ events_of g before ++ since
+    pub heard : Heard (events_of g before) since
+    pub unasked : IsUnasked
+
+  -- the stream was judged: by the end of the input, or however it goes on
+  pub record WasJudged (Heard : List E → List E → Type 0) (judged : Option R) : Type 0 where
+    pub before : List ℕ
+    pub piece : List ℕ
+    pub came : Came before piece
+    pub since : List E
+    pub heard : Heard (events_of g before) since
+    pub whole : IsWhole g (events_of g before ++ since) judged (before ++ piece)
+    pub settled : IsOver piece
+        ⊎ (((more : List ℕ) → IsWhole g (events_of g before ++ since) judged
+        ((before ++ piece) ++ more)) × IsUnasked)
+
+  -- A read failed behind these pieces, whose events were heard. What was due for them has left.
+  pub record WasCut (Heard : List E → List E → Type 0) (Waits : Type 0) : Type 0 where
+    pub before : List ℕ
+    pub came : Came before []
+    pub heard : Heard (events_of g before) []
+    pub waits : Waits
+    pub unasked : IsUnasked
+
+  -- memory ran out, where these events had been heard
+  pub record RanOut (Heard : List E → List E → Type 0) : Type 0 where
+    pub before : List ℕ
+    pub piece : List ℕ
+    pub came : Came before piece
+    pub since : List E
+    pub heard : Heard (events_of g before) since
+    pub first : (more : List ℕ)
+        → AreFirst g (events_of g before ++ since) ((before ++ piece) ++ more)
+    pub unasked : IsUnasked
+
+  -- The listener stopped the reading: behind an event or before more was taken. An end that stands
+  -- so has read the bytes up to there, and y is buffered. The stream goes on, or it is judged.
+  pub record WasHalted (stands : List ℕ → Type 0)
+      (Halts : Option E → List E → List E → Type 0) (y : List ℕ) : Type 0 where
+    pub before : List ℕ
+    pub piece : List ℕ
+    pub came : Came before piece
+    pub since : List E
+    pub at : Option E
+    pub halted : Halts at (events_of g before) since
+    pub first : (more : List ℕ)
+        → AreFirst g (then_at (events_of g before ++ since) at) ((before ++ piece) ++ more)
+    pub read : List ℕ
+    pub joined : before ++ piece ≡ read ++ y
+    pub stands_for : stands read
+    pub events_are : events_of g read ≡ then_at (events_of g before ++ since) at
+    pub goes_on : IsOpenAt g read
+        ⊎ ((more : List ℕ) → IsWhole g (events_of g read) None ((before ++ piece) ++ more))
+    pub unasked : IsUnasked
+
+  -- what was read and heard, however that ended
+  abbrev pub ReadsOn : {H : Type 0} → (stands : List ℕ → Type 0)
+      → (Heard : List E → List E → Type 0) → (Halts : H → Option E → List E → List E → Type 0)
+      → (Waits : Type 0) → (y : List ℕ) → ReadOn R H → Type 0
+  ReadsOn stands Heard Halts Waits y (Judged judged) = WasJudged Heard judged
+  ReadsOn stands Heard Halts Waits y ReadFault = WasCut Heard Waits
+  ReadsOn stands Heard Halts Waits y Memory = RanOut Heard
+  ReadsOn stands Heard Halts Waits y (Halted halt) = WasHalted stands (Halts halt) y

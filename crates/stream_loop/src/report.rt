@@ -1,0 +1,51 @@
+//! A reporter as what hears the events of a stream.
+
+ghost use Rattle.std.specs.Prelude.{◌≡◌, ℕ, [], ⊤, true};
+
+use crate::{Listener, Reporter};
+use io_edges::{Sink, SinkFault};
+use std::marker::PhantomData;
+
+/// A reporter that stops the reading where the output fails.
+#[derive(Drop)]
+pub struct Reporting<'t, R, T> {
+    pub reporter: &'t mut T,
+    pub refusals: PhantomData<R>,
+}
+
+impl<'t, Event: Drop, R, T: Reporter<Event, R>, K: Sink> Listener<Event, K>
+    for Reporting<'t, R, T> {
+    ghost use Rattle.unit_streams.specs.Tellers.{Teller};
+    ghost use Rattle.stream_loop.specs.Report.{HasFailed, HasPut};
+
+    type Halt = SinkFault;
+
+    ghost Settings = { Teller T.State Event R × ℕ };
+
+    ghost settings = { λ r. (T.rules r.reporter.now, r.reporter.ghost_name) };
+
+    ghost heard = { λ first paused since r now. HasPut K.written K.held K.faults K.may_want
+        (T.rules r.reporter.now) first paused since (T.state r.reporter.now) now };
+
+    ghost halted = { λ first paused since at fault r now. HasFailed K.written K.held K.faults
+        K.may_want (T.rules r.reporter.now) first paused since at fault now };
+
+    ghost may_halt = { λ r. ⊤ };
+
+    ghost may_wait = { λ r now. K.held now ≡ [] };
+
+    ghost ended = { λ sink. true };
+
+    ghost has_stopped = { λ r. ⊥ };
+
+    ghost is_unput = { λ old new. ⊤ };
+
+    fn hear(&mut self, event: Event, output: &mut K) -> Result<Event, SinkFault> {
+        self.reporter.put_event(&event, output)?;
+        Ok(event)
+    }
+
+    fn pause(&mut self, output: &mut K) -> Result<(), SinkFault> {
+        output.flush()
+    }
+}
