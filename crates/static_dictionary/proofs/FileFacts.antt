@@ -148,7 +148,11 @@ read_first bytes header coming by_id names all headed no_ids no_texts = record {
   rows = [];
   all = all;
   headed = headed;
-  maps = record { rises = rw no_ids tt; least = λ text. no_texts text ∙ sym (rw no_ids refl) };
+  maps = record {
+    rises = rw no_ids tt;
+    least = λ text. no_texts text ∙ sym (rw no_ids refl);
+    longest = λ text long. no_texts text;
+  };
   sorted = rw no_ids refl;
   same = λ id. rw no_ids refl;
   faultless = λ more. refl;

@@ -1,5 +1,5 @@
 -- A table's parts, as the entries that a contract sees.
-use Rattle.std.specs.Prelude.{◌≡◌, ℕ, ◌*◌, List, map, length, slice_get, Some, string_bytes, Option}
+use Rattle.std.specs.Prelude.{◌≡◌, ℕ, ◌*◌, ◌<◌, None, List, map, length, slice_get, Some, string_bytes, Option}
 use Rattle.std.specs.{Prelude.String, BTreeMap.BTreeMap}
 use Rattle.string_tables.specs.StaticStrings.{Entry, IsStaticMap, least_static_id, static_text}
 use Rattle.static_dictionary.specs.{declared.names.Names.Names, Names.identifier_in}
@@ -13,6 +13,7 @@ module _ {A : Type 0} where
   pub record AreMapsOfTable (by_id : BTreeMap ℕ (String A)) (names : Names) : Type 0 where
     pub rises : IsStaticMap (entries_in by_id)
     pub least : (text : List ℕ) → identifier_in names text ≡ least_static_id (entries_in by_id) text
+    pub longest : (text : List ℕ) → names.longest < length text → identifier_in names text ≡ None
 
   -- at each place there is the text of the identifier that is twice as much, if it has one
   pub record ArePlaced (placed : List (Option (List ℕ)))

@@ -10,7 +10,7 @@ use csv_rows::{RowReader, text_of};
 // The greatest identifier there can be.
 const MOST_ID: u32 = 0x7FFF_FFFF;
 
-// Whether a field begins as a number does: then its digits tell.
+// Whether a field begins as a number may: such a field is one if all its characters are digits.
 fn begins_plain(field: &[u8]) -> bool
     ensures digits { result ≡ true → is_plain_number field.now ≡ all_ascii_digits field.now }
     ensures unsigned { result ≡ true → slice_index field.now 0 ≢ 43 }
@@ -33,7 +33,7 @@ fn id_of(field: &str) -> Option<u32>
     if id <= MOST_ID { Some(id) } else { None }
 }
 
-/// The entry that the row read last writes, or what is wrong with the row by itself.
+/// The identifier and the text of the row read last, or what is wrong with the row by itself.
 pub fn entry_of<'r>(rows: &'r RowReader<'_>) -> Result<(u32, &'r str), TableKind>
     ensures { result_map_both (λ e. (e.0, e.1.now)) (λ kind. kind) result
         ≡ entry_of rows.now.row }
@@ -54,7 +54,7 @@ pub fn entry_of<'r>(rows: &'r RowReader<'_>) -> Result<(u32, &'r str), TableKind
     }
 }
 
-/// Whether the row read last is the first that a file must have.
+/// Whether the row read last is the first row that a file must have: `id,string`.
 pub fn is_header(rows: &RowReader<'_>) -> bool
     ensures { result ≡ is_header rows.now.row }
 {

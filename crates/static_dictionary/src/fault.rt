@@ -1,16 +1,16 @@
 // Why a file gives no table.
 use nbfx_values::Memory;
 
-/// What is wrong with a row.
+/// What is wrong with a row of a file of static strings.
 #[derive(Clone, Copy, Debug, PartialEq, Eq)]
 pub enum TableKind {
     /// The first row isn't the fields `id` and `string`, or there is none.
     Header,
-    /// There are not two fields.
+    /// The row hasn't exactly two fields.
     Fields,
     /// A field isn't UTF-8.
     NotUtf8,
-    /// The identifier isn't 0 or decimal digits without a leading zero, of value at most 2^31 - 1.
+    /// The identifier isn't 0, nor decimal digits without a leading zero of a value up to 2^31 - 1.
     NotANumber,
     /// The identifier is odd.
     Odd,
@@ -18,10 +18,10 @@ pub enum TableKind {
     Repeated,
 }
 
-/// Why there is no table.
+/// Why a file of static strings isn't read.
 #[derive(Clone, Copy, Debug, PartialEq, Eq)]
 pub enum TableFault {
-    /// The first row that fails, counted from 0, and what is wrong with it.
+    /// The first bad row, counted from 0, and what is wrong with it.
     Bad { row: u64, kind: TableKind },
     /// Out of memory.
     Memory,

@@ -7,7 +7,8 @@ use crate::entry::is_header;
 use crate::fault::{TableFault, TableKind};
 use csv_rows::RowReader;
 
-/// Reads the first row of a file. It must be the one that names the two fields.
+/// Reads the first row of a file. It fails where that isn't the row that names the two fields, or
+/// without memory.
 pub fn take_header(rows: &mut RowReader<'_>) -> Result<(), TableFault>
     ensures headed { OnOk result (is_header rows.new.row ≡ true) }
     ensures next { OnOk result (rows.old.coming ≡ rows.new.row ∷ rows.new.coming) }

@@ -1,5 +1,5 @@
 // Which identifier a text has.
-ghost use Rattle.std.specs.Prelude.{◌≡◌, ℕ, List, None, Some, false, if◌then◌else◌, IfOk, OnOk};
+ghost use Rattle.std.specs.Prelude.{◌≡◌, ℕ, List, None, Some, false, if◌then◌else◌, IfOk, OnOk, length, max};
 ghost use Rattle.std.specs.BTreeMap as tree;
 ghost use Rattle.std.specs.HashMap as hashed;
 ghost use Rattle.std.specs.Str.{bytes_eq};
@@ -30,6 +30,8 @@ pub(crate) struct Names {
     pub(crate) by_order: BTreeMap<String, u32>,
     /// How many texts of the hash map there are at each place.
     counts: Vec<u8>,
+    /// How many bytes the longest text has. A longer one isn't hashed to find that it isn't there.
+    pub(crate) longest: usize,
 }
 
 // How many rows of a file are counted: one a line, and at most one for so many bytes.
@@ -69,6 +71,7 @@ impl Names {
             by_hash: HashMap::with_capacity(alloc, places.wrapping_mul(MOST_AT_PLACE as usize))?,
             by_order: BTreeMap::new(alloc),
             counts,
+            longest: 0,
         })
     }
 
@@ -85,9 +88,12 @@ impl Names {
 
     /// Sets the identifier of a text.
     pub(crate) fn put(&mut self, alloc: Global, text: &str, id: u32) -> Result<(), Memory>
-        ensures { OnOk result ((other : List ℕ) → identifier_in self.new other
+        ensures set { OnOk result ((other : List ℕ) → identifier_in self.new other
             ≡ (if bytes_eq text.now other then Some id else identifier_in self.old other)) }
+        ensures longest { OnOk result (self.new.longest
+            ≡ max self.old.longest (length text.now)) }
     {
+        self.longest = self.longest.max(text.len());
         let key = String::from_str(alloc, text)?;
         if goes_by_hash(&self.by_hash, &mut self.counts, text) {
             self.by_hash.insert(key, id)?;

@@ -20,7 +20,8 @@ use std::marker::Model;
 /// Of so many identifiers, the least even ones, the texts have places of their own.
 const PLACES: u32 = 512;
 
-/// The static strings.
+/// The static strings, each under an even identifier: the static dictionary of MC-NBFS, or another
+/// one in its place.
 #[derive(Drop)]
 pub struct StaticTable {
     by_id: BTreeMap<u32, String>,
@@ -42,7 +43,7 @@ impl Model for StaticTable {
 }
 
 impl StaticTable {
-    /// Reads the table of a CSV file. `Bad` names the first row that fails.
+    /// Reads the table of a CSV file. It fails with `Bad` at the first bad row, or without memory.
     pub fn read(alloc: Global, bytes: &[u8]) -> Result<StaticTable, TableFault>
         ensures table { IfOk result (λ table. table ≡ table_of (rows_of bytes.now)) }
         ensures map { IfOk result IsStaticMap }
@@ -66,15 +67,15 @@ impl StaticTable {
         Err(TableFault::Memory)
     }
 
-    /// Does nothing: its contract says that a table is a finite map on static identifiers, in
-    /// rising order, which a caller has where it calls it.
+    /// Does nothing: its contract is the law that a table is a finite map on static identifiers, in
+    /// rising order. A caller has it where it calls this.
     pub fn is_map(&self)
         ensures { IsStaticMap self.now }
     {
         let _ = &self.by_id;
     }
 
-    /// The text of an identifier.
+    /// The text that a static identifier names; None where the table has none for it.
     pub fn text(&self, id: u32) -> Option<&str>
         ensures text { option_map (λ text. text.now) result ≡ static_text self.now id }
         ensures static_id { OnSome result (IsStaticId id) }
@@ -95,9 +96,9 @@ impl StaticTable {
         }
     }
 
-    /// A copy of the text of an identifier that takes no memory: where the text has at most 16
-    /// bytes and the identifier is below 1,024, as most are. Else the text may be there all the
-    /// same.
+    /// A copy of the text that an identifier names, made without memory: there is one if the text
+    /// has at most 16 bytes and the identifier is below 1,024, as most are. Otherwise None may be
+    /// answered although the table has the text.
     #[inline(always)]
     pub fn short_copy(&self, id: u32) -> Option<Txt>
         ensures text { IfSome result (λ copy. static_text self.now id ≡ Some copy) }
@@ -114,7 +115,7 @@ impl StaticTable {
         }
     }
 
-    /// The least identifier of a text.
+    /// The least static identifier of a text; None where no entry has the text.
     pub fn id(&self, text: &str) -> Option<u32>
         ensures least { result ≡ least_static_id self.now text.now }
         ensures found { IfSome result (IsLeastName (static_text self.now) text.now) }
@@ -122,6 +123,9 @@ impl StaticTable {
         ensures static_id { IfSome result (λ id. IsStaticId id) }
         ensures map { IsStaticMap self.now }
     {
+        if text.len() > self.names.longest {
+            return None;
+        }
         self.names.id(text)
     }
 }
@@ -145,7 +149,7 @@ fn text_of(by_id: &BTreeMap<u32, String>, id: u32) -> Option<&str>
     Some(text.as_str())
 }
 
-// The same once more.
+// A copy of that text.
 fn copy_of(alloc: Global, by_id: &BTreeMap<u32, String>, id: u32) -> Result<Option<Txt>, Memory>
     ensures { IfOk result (λ copy. copy ≡ static_text (entries_in by_id.now) id) }
 {
@@ -155,7 +159,7 @@ fn copy_of(alloc: Global, by_id: &BTreeMap<u32, String>, id: u32) -> Result<Opti
     }
 }
 
-// The texts that have places.
+// The texts of the least identifiers, each at its place.
 fn placed_of(alloc: Global, by_id: &BTreeMap<u32, String>) -> Result<Vec<Option<Txt>>, Memory>
     ensures placed { IfOk result (λ placed. ArePlaced placed.items by_id.now) }
     ensures all { IfOk result (λ placed. length placed.items ≡ 512) }

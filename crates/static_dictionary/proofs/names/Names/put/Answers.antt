@@ -1,4 +1,4 @@
-use Rattle.std.proofs.Common.{◌≡◌, ℕ, Bool, true, false, cond, List, Some, None, string_bytes}
+use Rattle.std.proofs.Common.{◌≡◌, ℕ, Bool, true, false, cond, Some, None, string_bytes}
 use Rattle.std.proofs.Common.{Option, bytes_eq, sym, refl, ap, ◌∙◌}
 use Rattle.std.proofs.lemmas.Map.Text.{btree_map_updates_text, hash_map_updates_text}
 use Rattle.std.proofs.lemmas.Result.{IfOk-at_ok}
@@ -20,8 +20,8 @@ set_second : (b : Bool) (id : ℕ) (first before after : Option ℕ) → (b ≡ 
 set_second true id first before after none e = rw (none refl, e) refl
 set_second false id first before after none e = rw e refl
 
-pub returns-in_ok-insert : goal.returns-in_ok-insert
-returns-in_ok-insert c =
+pub returns-in_ok-insert-clause-set : goal.returns-in_ok-insert-clause-set
+returns-in_ok-insert-clause-set c =
     let key = IfOk-at_ok (λ s. string_bytes s ≡ c.args.text.now) c.in_ok-key.was
     c.from_str.ensures.ok in
     let old = c.args.self.now in
@@ -31,8 +31,8 @@ returns-in_ok-insert c =
     (hashed.get_by_text old.by_hash other) (hashed.get_by_text c.insert.new.self other)
     (tree.get_by_text old.by_order other) (rw key at (sets other))
 
-pub returns-in_ok-insert-2 : goal.returns-in_ok-insert-2
-returns-in_ok-insert-2 c =
+pub returns-in_ok-insert-2-clause-set : goal.returns-in_ok-insert-2-clause-set
+returns-in_ok-insert-2-clause-set c =
     let key = IfOk-at_ok (λ s. string_bytes s ≡ c.args.text.now) c.in_ok-key.was
     c.from_str.ensures.ok in
     let old = c.args.self.now in
