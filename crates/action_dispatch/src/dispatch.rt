@@ -54,8 +54,7 @@ fn answer_unread<V: Service>(
     answer_by(alloc, action, relates, said)
 }
 
-// The answer that has the request's content of Body, which isn't made where that doesn't fit the
-// quotas.
+// The answer that has the request's content of Body; it isn't made if that doesn't fit the quotas.
 fn answer_returned(
     alloc: Global,
     quotas: &Quotas,
@@ -138,14 +137,15 @@ fn answer_asked<V: Service>(
     }
 }
 
-/// What a server with this service answers to the request that is this document: a fault where the
-/// document is no envelope or the request isn't one to serve, and else what the service says. What
-/// the answer copies of Body is measured before it is copied: an answer whose content of Body, with
-/// the declarations of its elements, or whose names of blocks that weren't understood count more
-/// than the quotas admit isn't made, since it is never written. Nor is a reply that the service says
-/// is too large. A service that doesn't use Body answers whatever Body has. Where a service gives
-/// the content back, its items are moved into the reply, and copied only where the root or Body
-/// declares other prefixes than those of every reply.
+/// What a server with this service answers to the request that is this document, by SOAP 1.2 and
+/// WS-Addressing 1.0: a fault if the document is no envelope or the request isn't one to serve,
+/// else what the service says. It fails without memory for the answer.
+///
+/// What the answer copies of Body is measured before it is copied, and so are the names of blocks
+/// that weren't understood: where they count more than the quotas admit, the answer isn't made,
+/// since it would never be written. Nor is a reply that the service says is too large. A service
+/// that doesn't use Body answers whatever Body has. Where a service gives the content back, its
+/// items are moved, and the reply has the request's list of items.
 pub fn answer_owned<V: Service>(
     alloc: Global,
     quotas: &Quotas,
@@ -176,7 +176,8 @@ pub fn answer_owned<V: Service>(
     }
 }
 
-/// The same answer to a request that is kept, whose document is copied.
+/// The same answer to a request that is kept, whose document is copied. It fails without memory for
+/// that too.
 pub fn answer<V: Service>(
     alloc: Global,
     quotas: &Quotas,

@@ -1,13 +1,13 @@
-//! Why a file gives no table of actions.
+//! Why a file of actions isn't read.
 
 use unit_streams::Memory;
 
-/// What is wrong with a row.
+/// What is wrong with a row of a file of actions.
 #[derive(Clone, Copy, Debug, PartialEq, Eq)]
 pub enum ActionKind {
     /// The first row isn't the fields `action` and `text`, or there is none.
     Header,
-    /// There are not two fields.
+    /// The row hasn't exactly two fields.
     Fields,
     /// A field isn't UTF-8.
     NotUtf8,
@@ -15,10 +15,10 @@ pub enum ActionKind {
     Repeated,
 }
 
-/// Why there is no table.
+/// Why a file of actions isn't read.
 #[derive(Clone, Copy, Debug, PartialEq, Eq)]
 pub enum ActionFault {
-    /// The first row that fails, counted from 0, and what is wrong with it.
+    /// The first bad row, counted from 0, and what is wrong with it.
     Bad { row: u64, kind: ActionKind },
     /// Out of memory.
     Memory,

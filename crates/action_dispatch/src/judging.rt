@@ -1,4 +1,4 @@
-//! What becomes of a request before its service is asked.
+//! How a request is judged before its service is asked.
 
 ghost use Rattle.std.specs.Prelude.{◌≡◌, IfOk};
 ghost use Rattle.std.specs.Option.{option_copied};
@@ -39,7 +39,7 @@ impl Destination {
     }
 }
 
-// What becomes of a request.
+// What is done with a request.
 #[derive(Drop)]
 pub(crate) enum Judged<'d> {
     Unanswered,
@@ -48,7 +48,7 @@ pub(crate) enum Judged<'d> {
     Asked(Txt),
 }
 
-// What becomes of a request with this action, if it has one, whose answer isn't for nobody.
+// What is done with a request with this action, if it has one, whose answer may be sent.
 fn by_action<'d>(action: Option<Txt>, to: Destination) -> Judged<'d>
     ensures { result ≡ spec.by_action action to }
 {

@@ -6,29 +6,30 @@ ghost use Rattle.soap_envelope.specs.Making.{AreTexts};
 ghost use Rattle.action_dispatch.specs.Refusals as spec;
 ghost use Rattle.action_dispatch.specs.Refusals.{fault_of, report_of, unfit_fault};
 
-use nbfx_values::{Doc, Items, Quotas, Txt};
-use soap_envelope::{Code, FaultReport, Names, SoapFault, Sub, fault_doc, names_fit};
+use nbfx_values::{Copied, Doc, Items, Quotas, Txt};
+use soap_envelope::{Code, FaultReport, Names, SoapFault, Sub, fault_doc_with, names_fit};
 use std::alloc::Global;
 use unit_streams::Memory;
 
-/// Why a request isn't served, or its reply not sent. Each has its fault.
+/// Why a request isn't served, or why its reply isn't sent. Each has a fault of SOAP 1.2 or
+/// WS-Addressing 1.0.
 #[derive(Debug, Drop)]
 pub enum Refusal<'d> {
     /// The root isn't a SOAP 1.2 Envelope.
     NoEnvelope,
-    /// A header that may stand once stands twice.
+    /// An Action, To, MessageID or ReplyTo stands twice.
     RepeatedHeader,
     /// The document isn't an envelope for another reason.
     IllFormed,
-    /// Blocks of these names must be understood and aren't.
+    /// The blocks of these names must be understood, and aren't.
     NotUnderstood(Names<'d>),
     /// There is no Action.
     NoAction,
-    /// The answer is to go to another address than the sender's.
+    /// The ReplyTo's Address is another one than the anonymous.
     OtherReplyAddress,
     /// The service has no such action.
     UnknownAction,
-    /// The service won't, for this reason in English.
+    /// The service refuses it, for this reason in English.
     ByService(Txt),
     /// The reply is larger than may be sent.
     Unfit,
@@ -126,16 +127,24 @@ impl<'d> Refusal<'d> {
         requires { AreTexts relates.now }
         ensures { IfOk result (λ doc. doc ≡ fault_of self.entry relates.now) }
     {
+        self.doc_with(alloc, relates.copy()?)
+    }
+
+    // The same, whose texts aren't copied.
+    fn doc_with(self, alloc: Global, relates: Items) -> Result<Doc, Memory>
+        requires { AreTexts relates }
+        ensures { IfOk result (λ doc. doc ≡ fault_of self.entry relates) }
+    {
         let report = self.report(alloc)?;
-        fault_doc(alloc, &report, relates)
+        fault_doc_with(alloc, &report, relates)
     }
 }
 
-/// The fault that a server sends in place of an answer that is larger than it may send: its code is
-/// Receiver, and it relates to the same request as the answer.
-pub fn unfit_doc(alloc: Global, relates: &Items) -> Result<Doc, Memory>
-    requires { AreTexts relates.now }
-    ensures { IfOk result (λ doc. doc ≡ unfit_fault relates.now) }
+/// The fault that a server sends in place of an answer that is larger than it may send. Its code is
+/// Receiver, and it relates to the same request as the answer. It fails without memory for it.
+pub fn unfit_doc(alloc: Global, relates: Items) -> Result<Doc, Memory>
+    requires { AreTexts relates }
+    ensures { IfOk result (λ doc. doc ≡ unfit_fault relates) }
 {
-    Refusal::Unfit.doc(alloc, relates)
+    Refusal::Unfit.doc_with(alloc, relates)
 }

@@ -19,14 +19,14 @@ pub enum Served {
     Nothing,
     /// The service has no such action.
     Unknown,
-    /// The service won't, for this reason in English.
+    /// The service refuses the request, for this reason in English.
     Refuse(Txt),
 }
 
 /// What a service does with the content of a request's Body.
 #[derive(Clone, Copy, Debug, PartialEq, Eq)]
 pub enum BodyUse {
-    /// What it says doesn't depend on the content, which isn't made for it.
+    /// Nothing: what it says doesn't depend on the content, which isn't made for it.
     Unused,
     /// It replies with the content, whatever the action.
     Returned,
@@ -40,8 +40,8 @@ pub trait Service {
 
     ghost served: { Self → (action : List ℕ) → (body : List Item) → Served };
 
-    /// What the service does with the content of Body. One that reads it is asked only where the
-    /// content may fit the quotas: beyond them there is no memory for it.
+    /// What the service does with the content of Body. One that reads it is asked only if the
+    /// content may fit the quotas; else the answer is out of memory.
     fn body_use(&self) -> BodyUse
         ensures unused { result ≡ BodyUse.Unused → Ignores (served self.now) }
         ensures returned { result ≡ BodyUse.Returned → Returns (served self.now) }
@@ -50,7 +50,7 @@ pub trait Service {
     }
 
     /// Whether the service replies to this action with more than the quotas admit, whatever Body
-    /// has. Its reply isn't made then. A service may say no where it doesn't know.
+    /// has. Then its reply isn't made. A service may answer false where it doesn't know.
     fn is_too_large(&self, quotas: &Quotas, action: &str) -> bool
         ensures unfit { result ≡ true
             → RepliesTooMuch (limits_of quotas.now) (served self.now) action.now }
@@ -58,13 +58,15 @@ pub trait Service {
         false
     }
 
-    /// What the service says to a request with this action, whose Body has this content.
+    /// What the service says to a request with this action, whose Body has this content. It fails
+    /// without memory.
     fn serve(&self, alloc: Global, action: &str, body: &Items) -> Result<Served, Memory>
         requires { IsContent body.now }
         ensures same { IfOk result (λ said. said ≡ served self.now action.now body.now) }
         ensures content { IfOk result MayStand };
 
-    /// The same, of content that may be kept: a service that gives it back needs no copy of it.
+    /// The same, with content that the service may keep, so that one that gives it back needs no
+    /// copy.
     fn serve_owned(&self, alloc: Global, action: &str, body: Items) -> Result<Served, Memory>
         requires { IsContent body }
         ensures same { IfOk result (λ said. said ≡ served self.now action.now body) }

@@ -21,8 +21,8 @@ use std::collections::BTreeMap;
 use std::marker::Model;
 use unit_streams::Memory;
 
-/// The service that replies with a text for each action of a file. Contracts see the texts of the
-/// actions, by the order of the actions' bytes.
+/// The service that replies with a text for each action of a file. Contracts see the actions with
+/// their texts, in the order of the actions' bytes.
 #[derive(Drop)]
 pub struct TableService {
     texts: BTreeMap<String, Txt>,
@@ -92,8 +92,8 @@ fn put_row(
 }
 
 impl TableService {
-    /// Reads the texts of a CSV file, whose first row is `action` and `text`. `Bad` names the first
-    /// row that fails.
+    /// Reads the texts of a CSV file, whose first row is `action,text`. It fails with `Bad` at the
+    /// first bad row, or without memory.
     pub fn read(alloc: Global, bytes: &[u8]) -> Result<TableService, ActionFault>
         ensures texts { IfOk result (λ table. texts_of (rows_of bytes.now) ≡ Ok table) }
         ensures bad { IfErr result (Explains (texts_of (rows_of bytes.now))) }

@@ -21,15 +21,19 @@ use std::alloc::Global;
 /// and by which service.
 #[derive(Drop)]
 pub struct Server<'a, V> {
+    /// The static strings.
     pub statics: &'a StaticTable,
+    /// The quotas of reading and writing.
     pub quotas: &'a Quotas,
+    /// Which Vias are served.
     pub endpoint: &'a Endpoint,
+    /// What answers the requests.
     pub service: &'a V,
 }
 
 /// Takes the next connection, the one with this number, serves it and closes it. Answers what
-/// became of the connection, or `None` where no other is to come. Either may be long in coming, so
-/// the lines of the connections before have left.
+/// became of it, or `None` where no other will come. It fails where the accept met an I/O error. A
+/// connection may be long in coming, so the lines of those before have to have been written.
 pub fn serve_next<W: Wire, V: Service, O: Sink>(
     alloc: Global,
     server: &Server<'_, V>,

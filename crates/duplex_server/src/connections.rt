@@ -46,14 +46,14 @@ fn serve_each<W: Wire, O: Sink, V: Service>(
 }
 
 /// Serves at most so many connections that peers make to that place, one after the other, and
-/// writes the line of each to the output when it is over. It ends where no other connection is to
-/// come, which a wire over sockets never says. Answers with the output whether it stopped early,
-/// and why.
+/// writes the line of each to the output when it is over. It ends early where no other connection
+/// will come, which a wire over sockets never says. Answers with the output whether it failed
+/// before, and why.
 ///
-/// Each connection that was accepted is closed, whatever became of it. Neither a peer nor running
-/// out of memory to answer it stops the server: the wire does where an accept fails, the output
-/// where a line can't be written, and running out of memory for the lines. That the peer learns of
-/// the end, and for how long what it still sends is read then, is the wire's affair.
+/// Each connection that was accepted is closed, whatever became of it. Neither a peer nor lack of
+/// memory to answer it stops the server: only an accept that fails does, a line that can't be
+/// written, and lack of memory for the lines. That the peer learns of the end, and for how long
+/// what it still sends is read then, is up to the wire.
 pub fn serve_connections<W: Wire, O: Sink, V: Service>(
     alloc: Global,
     server: &Server<'_, V>,

@@ -3,7 +3,8 @@
 ghost use Rattle.std.specs.Prelude.{◌≡◌};
 ghost use Rattle.duplex_server.specs.Replying.{answers_within};
 
-/// How many answers there are with those that end within so many bytes.
+/// How many answers were put whole, with `before` earlier ones, if the first `put` bytes were and
+/// the answers end at these offsets.
 pub fn answers_within(put: usize, ends: &[usize], before: u64) -> u64
     ensures { result ≡ answers_within put ends.now before }
 {

@@ -69,7 +69,8 @@ fn put_ends<K: Sink>(outcome: Outcome, output: &mut K) -> Result<(), SinkFault>
     put_joined(&words, output)
 }
 
-/// Puts the line of the connection with this number, and writes what the output holds.
+/// Puts the line of the connection with this number, and writes what the output holds. It fails as
+/// the output does.
 pub fn put_line<K: Sink>(number: u32, outcome: Outcome, output: &mut K) -> Result<(), SinkFault>
     ensures puts { Puts K.written K.held K.faults K.may_want output.old output.new
         (connection_line number outcome) result }

@@ -19,13 +19,15 @@ use stream_loop::Outbound;
 /// What became of a session that was answered.
 #[derive(Clone, Copy, Debug, PartialEq, Eq)]
 pub struct Replayed {
+    /// How the reading ended.
     pub inbound: Inbound,
+    /// How the writing ended.
     pub outbound: Outbound,
 }
 
 /// Answers the initiator's stream that the input gives, to this endpoint and within the quotas, by
 /// a service, and writes the receiver's stream to the output. What is owed for the bytes that were
-/// read is written before more are. Answers what became of it with the output.
+/// read is written before more of them are read. Answers what became of it, with the output.
 pub fn replay_stream<I: Source, O: Sink, V: Service>(
     alloc: Global,
     endpoint: &Endpoint,

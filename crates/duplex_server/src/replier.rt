@@ -33,8 +33,8 @@ use unit_streams::Memory;
 /// From so many bytes on what is gathered is written at once.
 const MOST_GATHERED: usize = 65_536;
 
-/// Answers the requests of a connection, and keeps what has become of the writing. Answers are
-/// gathered before they are written, and one counts once it is put whole.
+/// Answers the requests of a connection, and keeps how the writing stands. Answers are gathered
+/// before they are written, and one counts once it was put whole.
 #[derive(Drop)]
 pub struct Replier<'s, 'v, V> {
     alloc: Global,
@@ -53,7 +53,7 @@ pub struct Replier<'s, 'v, V> {
     ghost limited: { limits_in sender ≡ limits_of quotas },
 }
 
-// Puts what is owed last, which takes no memory but the sink's.
+// Puts what is owed last. Only the sink takes memory.
 fn put_last<K: Sink>(ending: Ending<Offence>, sink: &mut K) -> Outbound
     ensures goes { Goes K.written K.held K.faults K.may_want result (closing_of ending)
         sink.old sink.new }
@@ -96,7 +96,7 @@ impl<'s, 'v, V: Service> Replier<'s, 'v, V> {
         }
     }
 
-    // Writes what is gathered, and counts the answers of it that left whole.
+    // Writes what is gathered, and counts the answers that were written whole.
     fn write<K: Sink>(&mut self, sink: &mut K)
         requires going { self.old.outbound ≡ Outbound.Done }
         ensures answered { (first : K) (requests : List Heard) (sender : Sending)
@@ -182,7 +182,7 @@ impl<'s, 'v, V: Service> Replier<'s, 'v, V> {
         }
     }
 
-    // Takes the session on, by the mode and the encoding of its preamble, unless the writing has
+    // Begins the session with the mode and the encoding of its preamble, unless the writing has
     // ended.
     fn open<K: Sink>(&mut self, mode: Mode, kind: Kind, sink: &mut K)
         ensures answered { (first : K) (requests : List Heard)
@@ -216,8 +216,8 @@ impl<'s, 'v, V: Service> Replier<'s, 'v, V> {
         self.relieve(sink);
     }
 
-    // Marks the end of an answer that was gathered behind so many bytes. What is gathered is
-    // written once it is much. Where there is no memory for the mark, the answer isn't sent.
+    // Notes the end of an answer that was gathered after so many bytes. What is gathered is written
+    // once it is much. Without memory for the note, the answer isn't sent.
     fn mark<K: Sink>(&mut self, before: usize, sink: &mut K)
         requires going { self.old.outbound ≡ Outbound.Done }
         ensures answered { (first : K) (requests : List Heard) (request : Heard)
@@ -243,12 +243,12 @@ impl<'s, 'v, V: Service> Replier<'s, 'v, V> {
 
     // Gathers an answer, or the fault in its place, where either fits and the mode admits one.
     // Where the answer wasn't made it doesn't fit.
-    fn send<K: Sink>(&mut self, doc: Option<&Doc>, relates: &Items, sink: &mut K)
-        requires texts { AreTexts relates.now }
+    fn send<K: Sink>(&mut self, doc: Option<&Doc>, relates: Items, sink: &mut K)
+        requires texts { AreTexts relates }
         requires going { self.old.outbound ≡ Outbound.Done }
         ensures answered { (first : K) (requests : List Heard) (document reply : List Part)
             → IsSaid (limits_of self.old.quotas) (option_copied doc.entry) reply
-            → answered (V.served self.old.service.now) document ≡ Answer.Reply reply relates.now
+            → answered (V.served self.old.service.now) document ≡ Answer.Reply reply relates
             → Answered K.written K.held K.faults K.may_want
             (answering_of V.served self.old) first requests self.old.sender self.old sink.old
             → Answered K.written K.held K.faults K.may_want
@@ -321,7 +321,7 @@ impl<'s, 'v, V: Service> Replier<'s, 'v, V> {
         let Answer::Reply { doc, relates } = answer else {
             return Request::Ended;
         };
-        self.send(Some(&doc), &relates, sink);
+        self.send(Some(&doc), relates, sink);
         Request::Received(doc)
     }
 
@@ -354,7 +354,7 @@ impl<'s, 'v, V: Service> Replier<'s, 'v, V> {
         match measured {
             Measured::Made(answer) => Ok(self.reply(answer, sink)),
             Measured::TooLarge { relates } => {
-                self.send(None, &relates, sink);
+                self.send(None, relates, sink);
                 Ok(Request::Ended)
             }
         }
@@ -367,14 +367,19 @@ impl<'s, 'v, V: Service, K: Sink> Listener<Request, K> for Replier<'s, 'v, V> {
     ghost use Rattle.stream_loop.specs.Writing.{TellsAlike};
     ghost use Rattle.stream_loop.specs.declared.outbound.Outbound.TheVariants.{Done};
 
+    type Halt = Memory;
+
     ghost Settings = { Answering };
 
     ghost settings = { λ replier. answering_of V.served replier };
 
-    ghost heard = { λ first requests replier now. HasHeard K.written K.held K.faults K.may_want
-        (answering_of V.served replier) first requests replier now };
+    ghost heard = { λ first paused since replier now. HasHeard K.written K.held K.faults
+        K.may_want (answering_of V.served replier) first (paused ++ since) replier now };
 
-    ghost may_take_memory = { λ replier. replier.outbound ≡ Done };
+    ghost halted = { λ first paused since at halt replier now. HasHeard K.written K.held K.faults
+        K.may_want (answering_of V.served replier) first (paused ++ since) replier now };
+
+    ghost may_halt = { λ replier. replier.outbound ≡ Done };
 
     ghost may_wait = { λ replier now. MayWait K.held K.ended replier.outbound
         replier.gathered.items now };
@@ -400,14 +405,16 @@ impl<'s, 'v, V: Service, K: Sink> Listener<Request, K> for Replier<'s, 'v, V> {
         }
     }
 
-    fn pause(&mut self, sink: &mut K) {
+    fn pause(&mut self, sink: &mut K) -> Result<(), Memory> {
         if !self.outbound.is_going() {
             sink.end();
-            return;
+            return Ok(());
         }
         self.write_out(sink);
         if !self.outbound.is_going() {
             sink.end();
+            return Ok(());
         }
+        Ok(())
     }
 }

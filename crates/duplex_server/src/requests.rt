@@ -1,4 +1,4 @@
-//! What reads an initiator's stream for a server.
+//! A reader of an initiator's stream for a server.
 
 ghost use Rattle.std.specs.Prelude.{◌≡◌, List, ℕ, [], IfOk};
 ghost use Rattle.nbfx_values.specs.QuotasOf.{limits_of};
@@ -14,16 +14,16 @@ use std::alloc::Global;
 use stream_loop::{FeedFault, ReadingEnd};
 use unit_streams::Memory;
 
-/// What the bytes of an initiator's stream complete, as far as a server answers it.
+/// An event of an initiator's stream, as far as a server answers it.
 #[derive(Debug, Drop)]
 pub enum Request {
-    /// The preamble: answers go by this mode and this encoding.
+    /// The preamble. Answers go by this mode and this encoding.
     Opened { mode: Mode, kind: Kind },
     /// An envelope with this document.
     Received(Doc),
-    /// The session.
+    /// The End record.
     Ended,
-    /// A receiver's Ack, which no initiator's stream has.
+    /// A receiver's Ack, which an initiator's stream can't have.
     Acknowledged,
 }
 
@@ -48,7 +48,8 @@ pub struct RequestReader<'s> {
 }
 
 impl<'s> RequestReader<'s> {
-    /// Before the first byte.
+    /// A reader before the first byte. It fails without memory for what it needs up to the end of
+    /// the preamble.
     pub fn new(
         alloc: Global,
         statics: &'s StaticTable,

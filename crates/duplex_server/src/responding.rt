@@ -1,4 +1,4 @@
-//! What answers requests, by a file of actions or without one.
+//! The service that answers requests, by a file of actions or without one.
 
 ghost use Rattle.std.specs.Prelude.{◌≡◌, ℕ, ◌≤◌, IfOk, IfErr, IsErrOf};
 ghost use Rattle.io_edges.specs.Faults.{CountsFaults, one_more};
@@ -13,12 +13,12 @@ use nbfx_values::{Items, Quotas};
 use std::alloc::Global;
 use unit_streams::Memory;
 
-/// What answers the requests of a session.
+/// The service that answers the requests of a session.
 #[derive(Drop)]
 pub enum Responder {
-    /// The service that gives the content of a request's Body back.
+    /// It gives the content of a request's Body back.
     Echo,
-    /// The service that has a text for each action of a file.
+    /// It replies with the text that a file has for the request's action.
     Texts(TableService),
 }
 
@@ -67,7 +67,8 @@ fn file_fault(fault: ActionFault) -> FileFault<ActionKind>
     }
 }
 
-/// Reads the texts of actions out of the shelf's file of that name.
+/// The service by the shelf's file of actions of that name. It fails where there is no such file,
+/// where the fetch met an I/O error, at the first bad row, or without memory.
 pub fn read_actions<F: Shelf>(
     alloc: Global,
     shelf: &mut F,

@@ -117,9 +117,9 @@ fn serve_connection<S: Source, K: Sink, V: Service>(
 }
 
 /// Serves the connection whose bytes the source gives and the sink takes: reads the initiator's
-/// stream, to this endpoint and within the quotas, and writes what is owed for it. Answers are
-/// gathered, up to 64 KiB and one answer, and put before more is taken. An answer that doesn't fit
-/// is replaced by a fault that says so, and where that doesn't fit either nothing is written for
+/// stream (MC-NMF), to this endpoint and within the quotas, and writes what is owed for it. Answers
+/// are gathered, up to 64 KiB and one answer, and put before more is read. An answer that doesn't
+/// fit is replaced by a fault that says so, and if that doesn't fit either nothing is written for
 /// it.
 ///
 /// After a failed write, or when out of memory while writing, nothing more is put, and reading goes

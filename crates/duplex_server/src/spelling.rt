@@ -49,16 +49,16 @@ fn spell_made(
     alloc: Global,
     sender: &mut Sender<'_>,
     doc: &Doc,
-    relates: &Items,
+    relates: Items,
     out: &mut Vec<u8>,
 ) -> Result<bool, Memory>
-    requires { AreTexts relates.now }
+    requires { AreTexts relates }
     ensures spells { Spells (mode_in sender.old) out.old.items out.new.items
         (names_in sender.old) (names_in sender.new) (state_in sender.old) (state_in sender.new)
         (when_ready (state_in sender.old) (first_fitting
         (encoded (limits_in sender.old) (kind_in sender.old) (names_in sender.old) doc.now)
         (encoded (limits_in sender.old) (kind_in sender.old) (names_in sender.old)
-        (unfit_fault relates.now)))) result }
+        (unfit_fault relates)))) result }
     ensures unchanged { OnErr result (out.new.items ≡ out.old.items) }
     ensures kept { KeepsSettings sender.old sender.new }
 {
@@ -77,17 +77,17 @@ fn spell_made(
 fn spell_unmade(
     alloc: Global,
     sender: &mut Sender<'_>,
-    relates: &Items,
+    relates: Items,
     out: &mut Vec<u8>,
 ) -> Result<bool, Memory>
-    requires { AreTexts relates.now }
+    requires { AreTexts relates }
     ensures spells { (document : List Item) → may_fit (limits_in sender.old) document ≡ false
         → Spells (mode_in sender.old) out.old.items out.new.items
         (names_in sender.old) (names_in sender.new) (state_in sender.old) (state_in sender.new)
         (when_ready (state_in sender.old) (first_fitting
         (encoded (limits_in sender.old) (kind_in sender.old) (names_in sender.old) document)
         (encoded (limits_in sender.old) (kind_in sender.old) (names_in sender.old)
-        (unfit_fault relates.now)))) result }
+        (unfit_fault relates)))) result }
     ensures unchanged { OnErr result (out.new.items ≡ out.old.items) }
     ensures kept { KeepsSettings sender.old sender.new }
 {
@@ -98,17 +98,17 @@ fn spell_unmade(
     spell_if_fits(sender, &unfit, out)
 }
 
-/// Appends the envelope of an answer, or, where it doesn't fit, of the fault in its place, which
+/// Appends the envelope of an answer, or, if it doesn't fit, of the fault in its place, which
 /// relates to the same texts. An answer that wasn't made is larger than any that fits. Says whether
-/// either fits. Where the session admits no answer now, or when out of memory, nothing is appended.
+/// either fits. If no answer may be sent now, or without memory, nothing is appended.
 pub fn spell_answer(
     alloc: Global,
     sender: &mut Sender<'_>,
     doc: Option<&Doc>,
-    relates: &Items,
+    relates: Items,
     out: &mut Vec<u8>,
 ) -> Result<bool, Memory>
-    requires { AreTexts relates.now }
+    requires { AreTexts relates }
     ensures spells { (document : List Item)
         → IsSaid (limits_in sender.old) (option_copied doc.entry) document
         → Spells (mode_in sender.old) out.old.items out.new.items
@@ -116,7 +116,7 @@ pub fn spell_answer(
         (when_ready (state_in sender.old) (first_fitting
         (encoded (limits_in sender.old) (kind_in sender.old) (names_in sender.old) document)
         (encoded (limits_in sender.old) (kind_in sender.old) (names_in sender.old)
-        (unfit_fault relates.now)))) result }
+        (unfit_fault relates)))) result }
     ensures unchanged { OnErr result (out.new.items ≡ out.old.items) }
     ensures kept { KeepsSettings sender.old sender.new }
 {

@@ -5,9 +5,9 @@ use io_edges::{Failed, SinkFault};
 /// Why a server stopped before as many connections as were asked for were served.
 #[derive(Clone, Copy, Debug, PartialEq, Eq)]
 pub enum ServeFault {
-    /// The wire failed to give the next connection.
+    /// The accept of the next connection met an I/O error.
     Wire,
-    /// The output failed.
+    /// The write of a line met an I/O error.
     Output,
     /// There was no memory to begin with, or for the output.
     Memory,

@@ -17,12 +17,12 @@ use std::alloc::Global;
 use std::marker::Model;
 use unit_streams::Memory;
 
-/// Why an item wasn't put after those before it.
+/// Why an item wasn't put after those before it, which stay as they were.
 #[derive(Clone, Copy, Debug, PartialEq, Eq)]
 pub enum PushFault {
-    /// The item may not stand there.
+    /// The item may not stand there in a document.
     OutOfPlace,
-    /// The items would have more content than they may.
+    /// The content of the items would be above what the caller admits.
     TooMuchContent,
     /// Out of memory.
     Memory,
@@ -39,8 +39,8 @@ impl From<Memory> for PushFault {
     }
 }
 
-/// A document that grows item by item, and is never walked over. Contracts see the list of its
-/// items, which is the front of a document.
+/// A document that grows item by item; no call goes over the items again. Contracts see the list of
+/// its items, which is the front of a document.
 #[derive(Debug, Drop)]
 pub struct DocBuilder {
     items: Items,
@@ -61,7 +61,7 @@ impl Model for DocBuilder {
 }
 
 impl DocBuilder {
-    /// A document of which nothing has come.
+    /// A builder without items.
     pub fn new(alloc: Global) -> DocBuilder
         ensures { result ≡ [] }
     {
@@ -79,7 +79,7 @@ impl DocBuilder {
         &self.items
     }
 
-    /// Where the items end in the document.
+    /// Where in a document the items end.
     #[inline(always)]
     pub fn position(&self) -> Position
         ensures ends { position_of self.now ≡ Some result }
@@ -105,7 +105,7 @@ impl DocBuilder {
         self.measures.depth
     }
 
-    /// The content of the items, up to 2^64 - 1.
+    /// The [content](Doc::content) of the items, up to 2^64 - 1.
     #[inline(always)]
     pub fn content(&self) -> u64
         ensures { result ≡ capped (content_of self.now) }
@@ -113,7 +113,8 @@ impl DocBuilder {
         self.measures.content
     }
 
-    /// Puts one more item after the others. A fault drops it and leaves the others.
+    /// Puts one more item after the others. It fails with `OutOfPlace` where the item may not stand
+    /// there, or without memory; then the item is dropped, and the others stay.
     pub fn push(&mut self, item: Item) -> Result<(), PushFault>
         requires { IsTrue (is_valid_item item) }
         ensures pushed { OnOk result (self.new ≡ self.old ++ item ∷ []) }
@@ -125,8 +126,9 @@ impl DocBuilder {
         self.push_within(u64::MAX, item)
     }
 
-    /// Puts one more item after the others, if their content is at most this then. A fault drops it
-    /// and leaves the others.
+    /// Puts one more item after the others, if their content is then at most `most`. It fails as
+    /// [`push`](Self::push) does, or with `TooMuchContent`; then the item is dropped, and the
+    /// others stay.
     #[inline(always)]
     pub fn push_within(&mut self, most: u64, item: Item) -> Result<(), PushFault>
         requires { IsTrue (is_valid_item item) }
@@ -154,8 +156,9 @@ impl DocBuilder {
         Ok(())
     }
 
-    /// Puts a text and the end of the element that holds it after the other items, if their content
-    /// is at most this then. A fault drops the text and leaves the others.
+    /// Puts a text, and the end of the element that holds it, after the other items, if their
+    /// content is then at most `most`. It fails as [`push_within`](Self::push_within) does; then
+    /// the text is dropped, and the others stay.
     #[inline(always)]
     pub fn push_last_text(&mut self, most: u64, value: Value) -> Result<(), PushFault>
         requires { IsTrue (is_valid_value value) }
@@ -187,7 +190,8 @@ impl DocBuilder {
         Ok(())
     }
 
-    /// The document, if the root has ended. Then nothing of another one has come; else all stays.
+    /// The document, if the root has ended: the builder is empty then. Otherwise None, and the
+    /// items stay.
     pub fn finish(&mut self) -> Option<Doc>
         ensures document { IsSome result ↔ IsDocument self.old }
         ensures same { IfSome result (λ doc. doc ≡ self.old) }
@@ -203,15 +207,16 @@ impl DocBuilder {
         Some(doc)
     }
 
-    /// Makes room for so many items more. The items stay.
+    /// Allocates memory for so many items more. It fails without that memory; the items stay either
+    /// way.
     pub fn reserve(&mut self, count: usize) -> Result<(), Memory>
         ensures { self.new ≡ self.old }
     {
         self.items.reserve(count)
     }
 
-    /// Begins another document, which reuses the memory of one that is no longer needed. What the
-    /// builder had is dropped.
+    /// Begins another document, in the memory of one that is no longer needed. The items that the
+    /// builder had are dropped.
     pub fn begin_in(&mut self, doc: Doc)
         ensures { self.new ≡ [] }
     {

@@ -29,7 +29,7 @@ fn urn(alloc: Global, bytes: &[u8; 16]) -> Result<Txt, Memory>
     Txt::of(alloc, id.urn().encode_lower(&mut buffer))
 }
 
-// A name behind its prefix of one letter.
+// A name, after its prefix of one letter.
 fn prefixed(alloc: Global, letter: u8, name: &Txt) -> Result<Txt, Memory>
     requires { letter ≤ 25 }
     ensures { IfOk result (λ text. text ≡ (97 + letter) ∷ 58 ∷ name.now) }
@@ -58,9 +58,9 @@ fn of_scalar(alloc: Global, scalar: &Scalar) -> Result<Option<Txt>, Memory>
 }
 
 impl Value {
-    /// The value's characters: of a text, a number in decimal, a truth, an identifier in hyphenated
-    /// lower case, with `urn:uuid:` before a unique one, or a qualified name. None for the other
-    /// kinds, and for a list.
+    /// The characters that the value stands for in XML: those of a text, a number in decimal, a
+    /// truth, an identifier in hyphenated lower case, with `urn:uuid:` before a UniqueId, or a
+    /// qualified name. None for the other kinds, and for a list. It fails without memory for them.
     pub fn characters(&self, alloc: Global) -> Result<Option<Txt>, Memory>
         requires { IsTrue (is_valid_value self.now) }
         ensures { IfOk result (λ text. text ≡ value_characters self.now) }

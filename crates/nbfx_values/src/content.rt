@@ -11,8 +11,8 @@ use crate::scalars::{Scalar, Value, Values};
 use crate::texts::Txt;
 use unit_streams::Memory;
 
-/// One item of a document, in the order in which a payload's records give them. The empty prefix
-/// means none.
+/// One item of a document, in the order in which the records of MC-NBFX bring them. The empty
+/// prefix means none.
 #[derive(Debug)]
 pub enum Item {
     /// An element begins.
@@ -20,27 +20,29 @@ pub enum Item {
         prefix: Txt,
         local: Txt,
     },
-    /// The element that begins declares a prefix.
+    /// The element that has just begun declares a prefix.
     Xmlns {
         prefix: Txt,
         uri: Txt,
     },
-    /// The element that begins has an attribute.
+    /// The element that has just begun has an attribute.
     Attr {
         prefix: Txt,
         local: Txt,
         value: Value,
     },
+    /// A text or another value, in the content of the element that is open.
     Text(Value),
+    /// An XML comment, by its text.
     Comment(Txt),
     /// An element repeated once for each value of a list.
     Array(ArrayItem),
-    /// The element that began last, of those that are open, ends.
+    /// The innermost open element ends.
     Close,
 }
 
-// Where a document is done with, each of its items is dropped: most hold no memory of their own, and
-// are not to be moved for that.
+// A document that is dropped drops each of its items. Most hold no memory of their own, and needn't
+// be moved to be dropped.
 impl Drop for Item {
     #[inline(always)]
     fn drop(self) {
@@ -63,10 +65,12 @@ impl Drop for Item {
 /// A declaration or an attribute of an array's element.
 #[derive(Debug, Drop)]
 pub enum AttrItem {
+    /// As [`Item::Xmlns`].
     Xmlns {
         prefix: Txt,
         uri: Txt,
     },
+    /// As [`Item::Attr`].
     Attr {
         prefix: Txt,
         local: Txt,
@@ -74,19 +78,25 @@ pub enum AttrItem {
     },
 }
 
+/// The declarations and attributes of one array's element, in their order.
 pub type Attrs = Sequence<AttrItem>;
 
-/// An element that stands once for each value.
+/// An Array of MC-NBFX: an element that stands once for each value.
 #[derive(Debug, Drop)]
 pub struct ArrayItem {
+    /// The element's prefix.
     pub prefix: Txt,
+    /// The element's local name.
     pub local: Txt,
+    /// Its declarations and attributes, in their order.
     pub attrs: Attrs,
+    /// What all the values are.
     pub kind: ArrayKind,
+    /// One or more values of that kind.
     pub values: Values,
 }
 
-/// What an array's values are.
+/// What an array's values are: the types that MC-NBFX admits in an Array record.
 #[derive(Clone, Copy, Debug, PartialEq, Eq)]
 pub enum ArrayKind {
     Bool,
@@ -175,7 +185,8 @@ impl ArrayItem {
 }
 
 impl Item {
-    /// The declaration or the attribute that the item is, as an array's element has it.
+    /// The declaration or attribute that the item is, as an array's element has it; None of any
+    /// other item, which is dropped.
     pub fn into_attribute(self) -> Option<AttrItem>
         ensures { result ≡ attribute_item self }
     {

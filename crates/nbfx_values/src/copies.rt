@@ -6,7 +6,7 @@ use unit_streams::Memory;
 
 /// Values whose copy, where there is memory for it, is the same value.
 pub trait Copied: Sized {
-    /// The same value once more.
+    /// The same value once more. It fails without memory for it.
     fn copy(&self) -> Result<Self, Memory>
         ensures same { IfOk result (λ copied. copied ≡ self.now) };
 }

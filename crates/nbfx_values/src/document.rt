@@ -55,13 +55,13 @@ impl Model for Doc {
     ghost invariant = { λ d. IsMeasuredDocument d.items d.measures };
 }
 
-/// A list of items that isn't a document.
+/// A list of items that isn't a document, and where it stops being one.
 #[derive(Debug, Drop)]
 pub struct NotADoc {
-    /// The first item with which no front of a document ends, or the length of a list that is only
-    /// too short.
+    /// The place of the first item that may not stand there, counted from 0; or the length of a
+    /// list that is only too short.
     pub at: usize,
-    /// The items, handed back.
+    /// The items, given back.
     pub items: Items,
 }
 
@@ -74,7 +74,7 @@ impl Doc {
         Doc { items, measures }
     }
 
-    /// The document with these items.
+    /// The document with these items. It fails where they aren't one document, and gives them back.
     pub fn of(items: Items) -> Result<Doc, NotADoc>
         ensures ok { IsOk result ↔ IsDocument items }
         ensures same { IfOk result (λ doc. doc ≡ items) }
@@ -87,7 +87,7 @@ impl Doc {
         }
     }
 
-    /// The items.
+    /// The items of the document.
     pub fn items(&self) -> &Items
         ensures same { result.now ≡ self.now }
         ensures document { IsDocument self.now }
@@ -95,7 +95,7 @@ impl Doc {
         &self.items
     }
 
-    /// The items, taken out.
+    /// The items, without the document.
     pub fn into_items(self) -> Items
         ensures same { result ≡ self }
         ensures document { IsDocument self }
@@ -111,7 +111,8 @@ impl Doc {
         self.measures.depth
     }
 
-    /// The document's content: the bytes of its texts and values, up to 2^64 - 1.
+    /// The document's content, up to 2^64 - 1: the bytes of its prefixes, names, URIs, comments,
+    /// texts and byte lists, 16 for each Decimal, UniqueId and Uuid, and 8 for each other value.
     pub fn content(&self) -> u64
         ensures { result ≡ capped (content_of self.now) }
     {

@@ -50,7 +50,7 @@ pub fn no_document_goes_on()
     ensures { (items more : List Item) → IsDocument items → IsDocument (items ++ more) → more ≡ [] }
 {}
 
-/// A list is refused at one place only.
+/// A list that isn't a document stops being the front of one at one place only.
 pub fn one_place_of_refusal()
     ensures { (items : List Item) (at other : ℕ) → IsRefusedAt items at
         → IsRefusedAt items other → at ≡ other }

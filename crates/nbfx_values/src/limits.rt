@@ -15,20 +15,21 @@ const USUAL_VIA: u32 = 2_048;
 
 const USUAL_SESSION: u64 = 1 << 48;
 
-/// What a reader or writer of sessions admits. Sizes are in bytes.
+/// What a reader or writer of sessions admits; valid by its type. Sizes are in bytes.
 #[derive(Clone, Copy, Debug, PartialEq, Eq)]
 pub struct Quotas {
-    /// Bytes of one envelope's payload.
+    /// The most bytes of one envelope's payload: 4,096 to 1,048,576.
     pub payload: u32,
-    /// Elements open at one moment, an array's element included.
+    /// The most elements that are open at one moment, an array's element included: 4 to 128.
     pub depth: u32,
-    /// Cost of the session strings of one direction.
+    /// The most that the session strings of one direction cost: at most the payload quota.
     pub dictionary: u32,
-    /// Content of one document.
+    /// The greatest [content](crate::Doc::content) of one document: the payload quota to
+    /// 16,777,216.
     pub content: u32,
-    /// Bytes of a Via or of a Fault's text.
+    /// The most bytes of a Via, or of a Fault's text: 16 to 2,048.
     pub via: u32,
-    /// Bytes read in one session.
+    /// The most bytes that are read in one session: 1 to 2^48.
     pub session: u64,
     pub ghost good: { IsGood (limits payload depth dictionary content via session) },
 }
@@ -38,7 +39,8 @@ impl Quotas {
     ghost use Rattle.nbfx_values.specs.Limits.{IsGood, limits, usual_limits};
     ghost use Rattle.nbfx_values.specs.QuotasOf.{limits_of};
 
-    /// The default quotas.
+    /// The default quotas: 65,536 bytes of payload, depth 32, 2,048 of session strings, 262,144 of
+    /// content, 2,048 bytes of a Via, and 2^48 bytes of a session.
     pub fn usual() -> Quotas
         ensures { limits_of result ≡ usual_limits }
     {
@@ -52,7 +54,7 @@ impl Quotas {
         }
     }
 
-    /// The quotas with these values, if these are valid.
+    /// The quotas with these values; None where one of them is outside its bounds.
     pub fn of(
         payload: u32,
         depth: u32,
@@ -89,11 +91,11 @@ impl Quotas {
     }
 }
 
-/// What a reading end holds at one moment.
+/// What a reader holds of its input at one moment.
 #[derive(Clone, Copy, Debug, PartialEq, Eq)]
 pub struct Kept {
-    /// Bytes of input held and not yet turned into items.
+    /// How many bytes of the input it holds that aren't part of an item yet.
     pub raw: u64,
-    /// Content of the unfinished document.
+    /// The content of the document that isn't complete yet.
     pub content: u64,
 }

@@ -44,7 +44,7 @@ impl<T> Sequence<T> {
         self.items.len()
     }
 
-    /// The value at a place, counted from 0.
+    /// The value at a place, counted from 0; None from the list's length on.
     pub fn get(&self, at: usize) -> Option<&T>
         ensures { option_copied result ≡ slice_get self.now at }
     {
@@ -66,6 +66,13 @@ impl<T> Sequence<T> {
         items
     }
 
+    /// The list of these values. It takes their memory over, and copies nothing.
+    pub fn from_vec(items: Vec<T>) -> Self
+        ensures { result ≡ items.items }
+    {
+        Sequence { items }
+    }
+
     // The values, which leave the list without any.
     pub(crate) fn take(&mut self) -> Sequence<T>
         ensures values { result ≡ self.old }
@@ -79,7 +86,8 @@ impl<T> Sequence<T> {
 }
 
 impl<T: Drop> Sequence<T> {
-    /// Makes room for so many values more. The values stay.
+    /// Allocates memory for so many values more. It fails without that memory; the values stay
+    /// either way.
     pub fn reserve(&mut self, count: usize) -> Result<(), Memory>
         ensures { self.new ≡ self.old }
     {
@@ -89,14 +97,15 @@ impl<T: Drop> Sequence<T> {
         }
     }
 
-    /// Takes all values out. Their memory stays allocated.
+    /// Drops all values. Their memory stays allocated.
     pub fn clear(&mut self)
         ensures { self.new ≡ [] }
     {
         self.items.clear();
     }
 
-    /// Puts one more value at the end. Out of memory, it drops the value and leaves the list.
+    /// Puts one more value at the end. Without memory it fails, drops the value and leaves the list
+    /// as it was.
     #[inline(always)]
     pub fn push(&mut self, one: T) -> Result<(), Memory>
         ensures pushed { OnOk result (self.new ≡ self.old ++ one ∷ []) }
@@ -110,7 +119,8 @@ impl<T: Drop> Sequence<T> {
         Ok(())
     }
 
-    /// Puts two more values at the end. Out of memory, it drops them and leaves the list.
+    /// Puts two more values at the end. Without memory it fails, drops both and leaves the list as
+    /// it was.
     #[inline(always)]
     pub fn push_two(&mut self, first: T, second: T) -> Result<(), Memory>
         ensures pushed { OnOk result (self.new ≡ self.old ++ first ∷ second ∷ []) }

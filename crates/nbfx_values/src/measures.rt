@@ -116,7 +116,7 @@ impl Item {
     }
 }
 
-// The most elements that are open while an item stands and behind it.
+// The most elements that are open while an item stands and after it.
 #[inline(always)]
 fn most_open(before: usize, item: &Item) -> usize
     requires { before < 2 ^ 63 }

@@ -5,7 +5,7 @@ ghost use Rattle.nbfx_values.specs.Positions.{next_position};
 
 use crate::content::Item;
 
-/// Where in a document a list of items ends that may be the front of one.
+/// Where in a document a list of items ends, if it may be the front of one.
 #[derive(Clone, Copy, Debug, PartialEq, Eq)]
 pub enum Position {
     /// Before the root.
@@ -22,7 +22,7 @@ pub enum Position {
 }
 
 impl Position {
-    /// Where a document begins.
+    /// The position before a document's first item.
     pub fn start() -> Position
         ensures { result ≡ Position.Before }
     {
@@ -61,7 +61,7 @@ impl Position {
         matches!(self, Position::After)
     }
 
-    /// Where an item leads, whatever its values, if it may stand here.
+    /// The position after an item, whatever its values are; None where the item may not stand here.
     #[inline(always)]
     pub fn moved(self, item: &Item) -> Option<Position>
         requires { spec.open_count self < 2 ^ 64 }
@@ -92,7 +92,8 @@ impl Position {
         }
     }
 
-    /// Where an item leads, if it may stand here and records can hold its values.
+    /// The position after an item; None where it may not stand here, or a record can't hold its
+    /// values.
     pub fn after(self, item: &Item) -> Option<Position>
         requires { spec.open_count self < 2 ^ 64 }
         ensures { result ≡ next_position self item.now }

@@ -3,7 +3,7 @@
 ghost use Rattle.std.specs.Prelude.{◌≡◌};
 ghost use Rattle.nbfx_values.specs.Refusals.{reason_name, reason_number};
 
-/// Why a stream was refused.
+/// Why a stream is refused. The numbers of the reasons are their order here, from 1.
 #[derive(Clone, Copy, Debug, PartialEq, Eq)]
 pub enum Reason {
     /// An integer's fifth byte is above 07, or a four-byte length is negative.
@@ -59,7 +59,7 @@ pub enum Reason {
 }
 
 impl Reason {
-    /// The reason's number, by which reports name it.
+    /// The reason's number in reports, 1 to 25.
     pub fn number(&self) -> u8
         ensures { result ≡ reason_number self.now }
     {
@@ -126,20 +126,21 @@ impl Reason {
     }
 }
 
-/// Where in a stream a refused unit begins.
+/// Where in a stream a refused record, chunk's size or string begins.
 #[derive(Clone, Copy, Debug, PartialEq, Eq)]
 pub enum Place {
-    /// A framing record, or the head of an envelope, by its offset in the stream.
+    /// A framing record of MC-NMF, or a chunk's size, by its offset in the stream, from 0.
     Frame(u64),
-    /// A unit of a payload, by the envelope's number from 0 and the offset in its payload.
+    /// A record of a payload, or a part of its string table, by the envelope's number, from 0, and
+    /// the offset in its payload, from 0.
     Payload { message: u64, at: u32 },
 }
 
 /// The refusal of a stream: where, and why.
 #[derive(Clone, Copy, Debug, PartialEq, Eq)]
 pub struct Offence {
-    /// The first byte of the refused unit.
+    /// Where what is refused begins.
     pub place: Place,
-    /// Why it was refused.
+    /// Why it is refused.
     pub reason: Reason,
 }

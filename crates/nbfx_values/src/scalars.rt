@@ -10,41 +10,49 @@ use crate::lists::Sequence;
 use crate::texts::{Blob, Txt};
 use unit_streams::Memory;
 
-/// A decimal number: its magnitude, divided by 10 to the power of its scale.
+/// A decimal number of a DecimalText record: its magnitude, divided by 10 to the power of its
+/// scale, and negative or not.
 #[derive(Clone, Copy, Debug, PartialEq, Eq)]
 pub struct Dec {
+    /// The number of decimal places: at most 28 where the value is valid.
     pub scale: u8,
+    /// Whether the sign is minus, also of 0.
     pub negative: bool,
+    /// The digits as an integer: below 2^96 where the value is valid.
     pub magnitude: u128,
 }
 
-/// One value of a text record.
+/// One value of a text record of MC-NBFX, of any type but lists.
 #[derive(Debug)]
 pub enum Scalar {
-    /// A whole number, from -2^63 to 2^64 - 1.
+    /// A whole number, from -2^63 to 2^64 - 1: of ZeroText, OneText, the Int types and UInt64Text.
     Number(i128),
+    /// Of FalseText, TrueText and BoolText.
     Truth(bool),
-    /// The bit pattern of a number in binary32.
+    /// The bit pattern of a number in binary32: of FloatText.
     Float(u32),
-    /// The bit pattern of a number in binary64.
+    /// The bit pattern of a number in binary64: of DoubleText.
     Double(u64),
-    /// Scale at most 28, magnitude below 2^96.
+    /// Of DecimalText: a scale of at most 28 and a magnitude below 2^96.
     Decimal(Dec),
-    /// The pattern of a date and time.
+    /// The 64 bits of a DateTimeText, of which any pattern is read.
     DateTime(u64),
-    /// A span in units of 100 ns.
+    /// A time span in units of 100 ns: of TimeSpanText.
     TimeSpan(i64),
+    /// Characters: of the Chars, UnicodeChars, Empty and Dictionary types.
     Text(Txt),
+    /// Bytes that mean no characters: of the Bytes types.
     Bytes(Blob),
-    /// An identifier's bytes as on the wire.
+    /// The 16 bytes of a UniqueIdText, in the order of the wire.
     UniqueId([u8; 16]),
-    /// An identifier's bytes as on the wire.
+    /// The 16 bytes of a UuidText, in the order of the wire.
     Uuid([u8; 16]),
-    /// A name with a prefix of one letter, of which 0 is a.
+    /// A qualified name of a QNameDictionaryText: the number of its prefix's letter, from 0 for a
+    /// to 25 for z, and the local name.
     QName(u8, Txt),
 }
 
-// Most values hold no memory of their own, and aren't to be moved in order to be dropped.
+// Most values hold no memory of their own, and needn't be moved to be dropped.
 impl Drop for Scalar {
     #[inline(always)]
     fn drop(self) {
@@ -65,13 +73,15 @@ impl Drop for Scalar {
     }
 }
 
-/// Values without a list among them.
+/// The values of a list or an array.
 pub type Values = Sequence<Scalar>;
 
 /// The value of a text or of an attribute.
 #[derive(Debug)]
 pub enum Value {
+    /// One value, of any text record that is no list.
     One(Scalar),
+    /// A list, StartListText to EndListText, which may be empty.
     List(Values),
 }
 

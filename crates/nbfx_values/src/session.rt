@@ -3,19 +3,19 @@
 ghost use Rattle.std.specs.Prelude.{◌≡◌};
 ghost use Rattle.nbfx_values.specs.Session.{kind_number, mode_number};
 
-/// How the two ends of a session talk: the mode record of MC-NMF.
+/// How the two ends of a session send messages: what the Mode Record of MC-NMF names.
 #[derive(Clone, Copy, Debug, PartialEq, Eq)]
 pub enum Mode {
-    /// One unsized envelope each way.
+    /// Singleton-unsized, 1: one unsized envelope each way.
     Singleton,
-    /// Any number of envelopes both ways.
+    /// Duplex, 2: any number of sized envelopes both ways.
     Duplex,
-    /// Any number of envelopes from the initiator alone.
+    /// Simplex, 3: any number of sized envelopes, from the initiator alone.
     Simplex,
 }
 
 impl Mode {
-    /// The mode's byte in a mode record.
+    /// The byte of a Mode Record for it.
     pub fn number(&self) -> u8
         ensures { result ≡ mode_number self.now }
     {
@@ -27,17 +27,19 @@ impl Mode {
     }
 }
 
-/// The binary encoding of a session's envelopes: the known encodings 7 and 8 of MC-NMF.
+/// The encoding of a session's envelopes: what the Known Encoding Record of MC-NMF names, of its
+/// binary ones.
 #[derive(Clone, Copy, Debug, PartialEq, Eq)]
 pub enum Kind {
-    /// Encoding 7, MC-NBFS: the static dictionary alone.
+    /// Encoding 7, MC-NBFS: identifiers name strings of the static dictionary alone.
     Plain,
-    /// Encoding 8, MC-NBFSE: the static dictionary and the session's strings.
+    /// Encoding 8, MC-NBFSE: identifiers name strings of the static dictionary, and of those that
+    /// the session's envelopes bring.
     Session,
 }
 
 impl Kind {
-    /// The encoding's byte in a known encoding record.
+    /// The byte of a Known Encoding Record for it.
     pub fn number(&self) -> u8
         ensures { result ≡ kind_number self.now }
     {

@@ -53,8 +53,8 @@ impl Model for Txt {
 }
 
 impl Txt {
-    /// The text with these characters, where they have no more bytes than lie in the value itself:
-    /// 16.
+    /// The text with these characters, if they have at most 16 bytes, which lie in the value
+    /// itself. It takes no memory.
     #[inline(always)]
     pub fn short(text: &str) -> Option<Txt>
         ensures same { IfSome result (λ t. t ≡ text.now) }
@@ -69,7 +69,7 @@ impl Txt {
         }
     }
 
-    /// The text with these characters.
+    /// The text with these characters. It fails without memory for them.
     #[inline]
     pub fn of(alloc: Global, text: &str) -> Result<Txt, Memory>
         ensures same { IfOk result (λ t. t ≡ text.now) }
@@ -116,7 +116,8 @@ impl Txt {
         text
     }
 
-    /// The same text, where it has no more bytes than lie in the value itself: 16.
+    /// The same text, if it has at most 16 bytes, which lie in the value itself. It takes no
+    /// memory.
     #[inline(always)]
     pub fn short_copy(&self) -> Option<Txt>
         ensures same { IfSome result (λ t. t ≡ self.now) }
@@ -142,7 +143,7 @@ impl Txt {
         true
     }
 
-    /// The characters.
+    /// The characters of the text.
     #[inline]
     pub fn as_str(&self) -> &str
         ensures same { result.now ≡ self.now }
@@ -216,7 +217,7 @@ impl Model for Blob {
 }
 
 impl Blob {
-    /// The list of these bytes.
+    /// The list of these bytes. It fails without memory for them.
     pub fn of(alloc: Global, bytes: &[u8]) -> Result<Blob, Memory>
         ensures same { IfOk result (λ b. b ≡ bytes.now) }
     {

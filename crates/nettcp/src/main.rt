@@ -1,5 +1,5 @@
-//! The program. Its `main` hands the words, the files and the standard ends of the system to
-//! `run` of `dump_replay`, which does all else, and ends with the status that this answers.
+//! The program. Its `main` hands the arguments, the files, the sockets and the standard streams to
+//! `run` of `dump_replay`, which does all else, and exits with the status that `run` answers.
 #![tactic(auto)]
 
 ghost use Rattle.std.specs.Prelude.{◌≡◌, ◌≢◌, [], IfOk, IfErr, IsErr, IsOkAnd};
@@ -14,8 +14,11 @@ use std::env::{self, Args};
 use std::io::{self, ErrorKind};
 use std::process::ExitCode;
 
-// The words that the system told. A word that isn't text is none of the program's, and the words
-// are then as none at all. Any other error is want of memory.
+// Four times the usual quota on content.
+const KEPT_FROM_NOW: usize = 1024 * 1024;
+
+// The arguments that the system gives. If one of them isn't text, there are none, which `run`
+// refuses as invalid. Any other error is lack of memory.
 fn words_of(alloc: Global, told: io::Result<Args>) -> io::Result<Vec<String>>
     ensures text { IfOk told (λ args. IfOk result (λ words. words.items ≡ into_iter_items args)) }
     ensures no_text { IfErr told
@@ -41,7 +44,16 @@ fn exit(status: u8) -> ExitCode
     ExitCode::from(status)
 }
 
+// Has the allocator keep what is freed. That of glibc gives what is free at the end of its heap back
+// to the system once that is 128 KiB, and each large message then takes it anew, page by page, which
+// costs more than all that is copied into it. Once a large block was freed, it keeps twice as much
+// as that had. Where there is no memory for the block, all is as without it.
+fn keep_freed(alloc: Global) {
+    let _ = Vec::<u8>::with_capacity(alloc, KEPT_FROM_NOW);
+}
+
 fn main(rt: HostRuntime) -> ExitCode {
+    keep_freed(rt.alloc());
     let Ok(words) = words_of(rt.alloc(), env::args(&rt)) else {
         let _ = eprintln!(rt; "out of memory");
         return exit(5);

@@ -1,5 +1,6 @@
 -- What may fit, and what children count with the declarations that they need.
-use Rattle.std.proofs.Common.{◌≡◌, ℕ, ◌+◌, ◌-◌, List, [], ◌∷◌, ◌++◌, map, IfSome, nat_le, Some}
+use Rattle.std.proofs.Common.{◌≡◌, ℕ, ◌+◌, ◌-◌, false, List, [], ◌∷◌, map, IfSome}
+use Rattle.std.proofs.Common.{nat_le, Option, Some}
 use Rattle.std.proofs.Common.{None, sum_by, sym, refl, ap, ◌∙◌, inl, inr, arith, le-leb, leb-false}
 use Rattle.std.proofs.{Common.leb-true, lemmas.Bool.cases_Bool, lemmas.Bool.lt-leb}
 use Rattle.std.proofs.lemmas.List.Sums.{sum_by-append, sum_by-cons}
@@ -9,9 +10,9 @@ use Rattle.nbfx_values.specs.{Limits.Limits, Measures.attribute_content, Measure
 use Rattle.least_payloads.specs.Least.{least_of_attribute, least_of_item, may_fit}
 use Rattle.soap_envelope.specs.declared.fitting.Measure.{Measure}
 use Rattle.soap_envelope.specs.declared.fitting.Measure.TheVariants.{Content, Payload}
-use Rattle.soap_envelope.specs.Body.{array_with, attribute_of, missing, xmlns_of}
-use Rattle.soap_envelope.specs.Fitting.{fitting, item_measure, left_behind, measure_of}
-use Rattle.soap_envelope.specs.Scopes.{Declaration, declared_on}
+use Rattle.soap_envelope.specs.Body.{array_with, attribute_of, missing, self_standing, xmlns_of}
+use Rattle.soap_envelope.specs.Fitting.{AreNeeds, fitting, item_measure, left_behind, measure_of}
+use Rattle.soap_envelope.specs.Scopes.{Declaration, declared, declared_on}
 
 -- what holds of items holds of them where they fit
 pub fitting-all : (P : List Item → Type 0) (limits : Limits) (items : List Item) → P items
@@ -20,6 +21,21 @@ fitting-all P limits items h = elim (cases_Bool (may_fit limits items)) [
   | inl is ↦ rw is h
   | inr other ↦ rw other tt
 ]
+
+-- what the content of Body needs where it doesn't fit, and where it does
+pub needs-none : (limits : Limits) (content standing : List Item) (o : Option (List Item))
+    → ((needs : List Item) → o ≡ Some needs → ⊥) → AreNeeds limits content standing o
+    → may_fit limits standing ≡ false
+needs-none limits content standing None n h = h
+needs-none limits content standing (Some needs) n h = absurd (n needs refl)
+
+pub needs-some : (limits : Limits) (content standing : List Item) (o : Option (List Item))
+    (needs : List Item) → o ≡ Some needs → AreNeeds limits content standing o
+    → self_standing (declared needs) (Some 0) content ≡ standing
+needs-some limits content standing None needs e h = absurd (cc e)
+needs-some limits content standing (Some found) needs e h =
+    let same : found ≡ needs = cc in
+    ap (λ l. self_standing (declared l) (Some 0) content) (sym same) ∙ h.0
 
 -- a declaration counts the same in an array's element
 declared-by : (f : AttrItem → ℕ) (g : Item → ℕ)

@@ -1,6 +1,5 @@
 pub mod Lists
 pub mod NameFacts
-pub mod LayerFacts
 pub mod BindingFacts
 pub mod ScopeFacts
 pub mod OnLiterals
@@ -32,6 +31,7 @@ pub mod BodyNames
 pub mod Declarations
 pub mod Contents
 pub mod Suffixes
+pub mod Turning
 pub mod Worked
 mod WorkedMade
 mod WorkedNames

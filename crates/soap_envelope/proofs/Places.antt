@@ -1,6 +1,6 @@
 -- Where the items of replies and faults lead in a document.
 use Rattle.std.proofs.Common.{◌≡◌, ℕ, zero, suc, Bool, true, false, List, [], ◌∷◌, ◌++◌, Some, None}
-use Rattle.std.proofs.Common.{Option, sym, refl, ap, ◌∙◌, append_assoc}
+use Rattle.std.proofs.Common.{Option, eqb, length, codes, sym, refl, ap, ◌∙◌, append_assoc}
 use Rattle.std.{proofs.lemmas.Bool.and_parts, specs.List.list_all, specs.Str.is_utf8}
 use Rattle.nbfx_values.proofs.Positions.{passed, position_from-append, position_from-none, stepped}
 use Rattle.nbfx_values.proofs.Walks.{position_of-document}
@@ -10,7 +10,7 @@ use Rattle.nbfx_values.specs.{declared.position.Position.Position, Items.is_vali
 use Rattle.nbfx_values.specs.declared.position.Position.TheVariants.{After, Before, Within}
 use Rattle.nbfx_values.specs.{Documents.IsDocument, Positions.position_from, Scalars.is_valid_value}
 use Rattle.soap_envelope.specs.Making.{action_block, ending, envelope_items, is_valid_text, middle}
-use Rattle.soap_envelope.specs.Making.{opening, relates_block, words}
+use Rattle.soap_envelope.specs.Making.{addressing_start, opening, relates_block, words}
 use Rattle.soap_envelope.proofs.OnLiterals.{envelopes_on_literals}
 
 -- one element more around
@@ -135,3 +135,9 @@ pub grouped : (old : List Item) (action : List ℕ) (relates blocks body : List 
     ++ body) ++ ending
     ≡ old ++ envelope_items action relates blocks body
 grouped old action relates blocks body = simp append_assoc
+
+-- the block that names the message that is answered, where there are texts
+pub relates_block-some : (texts : List Item) → eqb (length texts) 0 ≡ false
+    → relates_block texts ≡ addressing_start (codes "RelatesTo") ∷ (texts ++ Close ∷ [])
+relates_block-some [] h = cc
+relates_block-some (text ∷ more) h = refl

@@ -1,13 +1,13 @@
 -- A reply counts at least what the content of its Body does.
-use Rattle.std.proofs.Common.{◌≡◌, ℕ, ◌≤◌, true, false, List, [], ◌++◌, nat_le, sum_by, inl, inr}
-use Rattle.std.proofs.Common.{append_assoc, le_trans, arith, le-leb, leb-true}
+use Rattle.std.proofs.Common.{◌≡◌, ℕ, ◌≤◌, List, [], ◌++◌, nat_le, sum_by, inl, inr}
+use Rattle.std.proofs.Common.{le_trans, arith, le-leb, leb-true}
 use Rattle.std.proofs.lemmas.{Bool.and_parts, Bool.cases_Bool, List.Sums.sum_by-append}
 use Rattle.nbfx_values.specs.declared.content.Item.{Item}
 use Rattle.nbfx_values.specs.Measures.{content_of, item_content}
 use Rattle.least_payloads.specs.Least.{least_of_item, least_payload, may_fit}
-use Rattle.soap_envelope.specs.Making.{action_block, ending, envelope_items, middle, opening}
+use Rattle.soap_envelope.specs.Making.{action_block, ending, middle, opening}
 use Rattle.soap_envelope.specs.Making.{relates_block, reply_items, response_action}
-use Rattle.soap_envelope.specs.Sizes.{head_items, UnfitBodiesAreUnfit}
+use Rattle.soap_envelope.specs.Sizes.{UnfitBodiesAreUnfit}
 
 -- what stands between others counts no more than all
 pub within-least : (f : Item → ℕ) (before items behind : List Item)
@@ -30,13 +30,6 @@ reply-least f action relates body =
     let around = behind-least f block (relates_block relates ++ behind) in
     let all = behind-least f opening (block ++ (relates_block relates ++ behind)) in
     le_trans inner (le_trans related (le_trans around all))
-
--- a reply that is put in parts
-pub whole_reply : (action : List ℕ) (relates body none head mid made : List Item) → none ≡ []
-    → head ≡ none ++ head_items action relates → mid ≡ head ++ body → made ≡ mid ++ ending
-    → made ≡ envelope_items action relates [] body
-whole_reply action relates body none head mid made n h m e =
-    rw (e, m, h, n) (simp append_assoc)
 
 pub unfit_bodies_are_unfit : UnfitBodiesAreUnfit
 unfit_bodies_are_unfit limits action relates body unfit =

@@ -98,6 +98,18 @@ self_standing needs (Some inner) (item ∷ more) =
     while_open (open_behind inner item) (standing_items needs inner item more)
     ++ self_standing needs (open_behind inner item) more
 
+-- how many elements within Body are open behind an item, if Body is, where so many are before it
+abbrev pub open_after : Option ℕ → Item → Option ℕ
+open_after None item = None
+open_after (Some inner) item = open_behind inner item
+
+-- an item that stands in so many elements within Body, if Body is open there: nothing of one behind
+-- Body or of the end of Body
+abbrev pub turned_items : List Declaration → Option ℕ → Item → List Item → List Item
+turned_items needs None item more = []
+turned_items needs (Some inner) item more =
+    while_open (open_behind inner item) (standing_items needs inner item more)
+
 -- what stands behind the declarations and attributes at the head of items
 abbrev pub behind_head : List Item → List Item
 behind_head (Xmlns prefix uri ∷ more) = behind_head more

@@ -1,10 +1,11 @@
 -- Which items and which names fit a quota on content, and which items may fit all quotas.
-use Rattle.std.specs.Prelude.{◌≡◌, ℕ, ◌+◌, ◌-◌, Bool, true, false, List, ◌++◌, length}
+use Rattle.std.specs.Prelude.{◌≡◌, ℕ, ◌+◌, ◌-◌, Bool, true, false, List, length}
 use Rattle.std.specs.Prelude.{if◌then◌else◌, nat_le, Some, None, sum_by, Option}
-use Rattle.nbfx_values.specs.{declared.content.Item.Item, Limits.IsGood, Limits.Limits}
+use Rattle.nbfx_values.specs.{declared.content.Item.Item, Limits.Limits}
 use Rattle.nbfx_values.specs.Measures.{content_of, item_content}
 use Rattle.least_payloads.specs.Least.{least_of_item, may_fit}
-use Rattle.soap_envelope.specs.{declared.fitting.Measure.Measure, Qualified.Name}
+use Rattle.soap_envelope.specs.{Body.self_standing, declared.fitting.Measure.Measure, Qualified.Name}
+use Rattle.soap_envelope.specs.Scopes.{declared}
 use Rattle.soap_envelope.specs.declared.fitting.Measure.TheVariants.{Content, Payload}
 
 abbrev pub fits : ℕ → List Item → Bool
@@ -19,14 +20,13 @@ abbrev pub IsTaken : {A : Type 0} → Limits → List Item → A → Option A �
 IsTaken limits items whole (Some taken) = taken ≡ whole
 IsTaken limits items whole None = may_fit limits items ≡ false
 
--- items were put behind others, or not, which is right only where they don't fit
-abbrev pub IsPut : Limits → (items old new : List Item) → Bool → Type 0
-IsPut limits items old new true = new ≡ old ++ items
-IsPut limits items old new false = may_fit limits items ≡ false
-
--- the items may fit some limits, so that nobody copies what was never counted
-abbrev pub WereCounted : List Item → Type 0
-WereCounted items = (limits : Limits) × IsGood limits × (may_fit limits items ≡ true)
+-- by these declarations the content of Body is what is to stand in its place, which may fit; or
+-- there are none, which is right only where that doesn't fit
+abbrev pub AreNeeds : Limits → (content standing : List Item) → Option (List Item) → Type 0
+AreNeeds limits content standing (Some needs) =
+    (self_standing (declared needs) (Some 0) content ≡ standing)
+    × (may_fit limits standing ≡ true)
+AreNeeds limits content standing None = may_fit limits standing ≡ false
 
 -- what an item counts by a measure, and what items do
 abbrev pub item_measure : Measure → Item → ℕ

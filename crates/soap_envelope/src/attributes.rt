@@ -49,7 +49,8 @@ fn is_soap_attribute<'d>(
     local.as_str() == name && attribute_uri(outer, own, prefix) == SOAP
 }
 
-// The first attribute that is, at the head of items of which the first is at this place.
+// The first such attribute among the declarations and attributes at the head of these items, of
+// which the first has this place.
 fn soap_attribute<'d>(
     alloc: Global,
     outer: &Scopes<'d>,
@@ -176,7 +177,7 @@ fn is_own_role(characters: &Option<Characters<'_>>) -> bool
     }
 }
 
-// Whether a role is left out or the ultimate receiver's.
+// Whether a role is missing, or one of the ultimate receiver's.
 pub(crate) fn is_targeted(found: &Option<Found<'_>>) -> bool
     ensures { result ≡ spec.is_targeted found.now }
 {
@@ -186,7 +187,7 @@ pub(crate) fn is_targeted(found: &Option<Found<'_>>) -> bool
     }
 }
 
-// The place of an attribute mustUnderstand that is no truth.
+// The place of a mustUnderstand attribute whose value is no truth.
 pub(crate) fn bad_must_understand(found: &Option<Found<'_>>) -> Option<usize>
     ensures { result ≡ headers.bad_must_understand found.now }
 {

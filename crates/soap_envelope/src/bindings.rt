@@ -1,4 +1,4 @@
-// The declarations of all open elements, which are found by their prefixes.
+// The declarations of all open elements, or of one, which are found by their prefixes.
 ghost use Rattle.std.specs.Prelude.{◌≡◌, ◌∷◌, ◌<◌, ◌≤◌, ◌-◌, [], ℕ, List, IsTrue, OnErr, OnOk, drop, if◌then◌else◌, is_some, length, map, reverse, take};
 ghost use Rattle.std.specs.Option.{option_copied};
 ghost use Rattle.std.specs.Str.{bytes_eq};
@@ -180,13 +180,24 @@ impl<'d> Bindings<'d> {
     }
 
     // What the last declaration of a prefix says.
-    pub(crate) fn uri_of(&self, prefix: &str) -> Option<&'d str>
+    fn uri_among(&self, prefix: &str) -> Option<&'d str>
         ensures { option_copied result ≡ scope.uri_in self.now prefix.now }
     {
         match self.place_of(prefix) {
             Some(at) => Some(self.bound[at].uri),
             None => None,
         }
+    }
+
+    // The same. Most elements declare nothing.
+    #[inline(always)]
+    pub(crate) fn uri_of(&self, prefix: &str) -> Option<&'d str>
+        ensures { option_copied result ≡ scope.uri_in self.now prefix.now }
+    {
+        if self.bound.is_empty() {
+            return None;
+        }
+        self.uri_among(prefix)
     }
 
     // Whether one of the last so many declarations is of a prefix.

@@ -3,12 +3,13 @@
 use nbfx_values::Sequence;
 use std::marker::Model;
 
-/// A name whose prefix is resolved: its namespace and its local part. Those of an envelope's blocks
+/// A name whose prefix is resolved: its namespace and its local name. Those of an envelope's blocks
 /// are borrowed from its document, which may declare one namespace for many of them.
 #[derive(Debug, Drop)]
 pub struct QualifiedName<'a> {
-    /// The namespace, which is the empty text for a name in none.
+    /// The namespace; empty for a name in none.
     pub uri: &'a str,
+    /// The local name.
     pub local: &'a str,
 }
 
@@ -20,17 +21,18 @@ impl<'a> Model for QualifiedName<'a> {
     ghost view = { λ n. record { uri = n.uri.now; local = n.local.now } };
 }
 
-/// A header block: a child element of the envelope's Header.
+/// A header block (SOAP 1.2): a child element of the envelope's Header.
 #[derive(Debug, Drop)]
 pub struct Block<'d> {
+    /// The name of the element.
     pub name: QualifiedName<'d>,
-    /// Whether the block's SOAP mustUnderstand attribute is true.
+    /// Whether its mustUnderstand attribute is true.
     pub must_understand: bool,
-    /// Whether the block's SOAP role is one of the ultimate receiver's, which it is without one.
+    /// Whether its role is one of the ultimate receiver's, which it also is without a role.
     pub targeted: bool,
     /// The place of the block's Start in the document's items, counted from 0.
     pub from: usize,
-    /// The place of the block's Close.
+    /// The place of the block's Close, counted from 0.
     pub to: usize,
 }
 

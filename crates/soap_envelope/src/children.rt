@@ -6,7 +6,7 @@ ghost use Rattle.soap_envelope.specs.Children.{children_from};
 use nbfx_values::Item;
 use std::marker::Model;
 
-// The items behind a place.
+// The items after a place.
 pub(crate) fn behind(items: &[Item], at: usize) -> &[Item]
     ensures { result.now ≡ drop (at + 1) items.now }
 {
@@ -25,14 +25,14 @@ pub(crate) fn is_start(items: &[Item], at: usize) -> bool
     matches!(items.get(at), Some(Item::Start { .. }))
 }
 
-// Whether an item is a child, where it stands right within its parent.
+// Whether an item directly within its parent is a child of it.
 fn is_child(item: &Item) -> bool
     ensures { result ≡ spec.is_child item.now }
 {
     !matches!(item, Item::Xmlns { .. } | Item::Attr { .. } | Item::Close)
 }
 
-// How many elements are open behind an item, where so many are before it, if the parent is.
+// How many elements are open after an item within a parent, if so many are before it.
 pub(crate) fn open_behind(inner: usize, item: &Item) -> Option<usize>
     requires { inner + 1 < 2 ^ 64 }
     ensures { result ≡ spec.open_behind inner item.now }
@@ -44,7 +44,7 @@ pub(crate) fn open_behind(inner: usize, item: &Item) -> Option<usize>
     }
 }
 
-// The place of a child, and how many elements are open behind the item there, if the parent is.
+// The place of a child, and how many elements are open after the item there, within the parent.
 #[derive(Clone, Copy)]
 struct Child {
     at: usize,

@@ -31,8 +31,8 @@ use std::alloc::Global;
 use std::marker::Model;
 use unit_streams::Memory;
 
-/// The view of a document as an envelope of SOAP 1.2 with WS-Addressing 1.0, which contracts see as
-/// what servers and callers go by.
+/// The view of a document as an envelope of SOAP 1.2 with the message addressing properties of
+/// WS-Addressing 1.0, by which servers and callers go.
 #[derive(Drop)]
 pub struct Envelope<'d> {
     items: &'d [Item],
@@ -245,7 +245,7 @@ fn texts_at(alloc: Global, items: &[Item], at: Option<usize>) -> Result<Items, M
 }
 
 impl<'d> Envelope<'d> {
-    /// The view of a document. Any refusal but `Memory` is the first that applies.
+    /// The view of a document. It fails with the first refusal that applies, or without memory.
     pub fn of(alloc: Global, doc: &'d Doc) -> Result<Envelope<'d>, SoapFault>
         ensures viewed { MatchResult result (λ e. view doc.now ≡ Ok e)
             (λ fault. fault ≢ SoapFault.Memory → view doc.now ≡ Err fault) }
@@ -257,7 +257,7 @@ impl<'d> Envelope<'d> {
         }
     }
 
-    /// The header blocks in order.
+    /// The header blocks, in order.
     pub fn blocks(&self) -> &Blocks<'d>
         ensures { result.now ≡ self.now.blocks }
     {
@@ -274,7 +274,7 @@ impl<'d> Envelope<'d> {
         }
     }
 
-    /// The same characters, taken out.
+    /// The same characters, owned.
     pub fn into_action(self) -> Option<Txt>
         ensures { result ≡ self.entry.action }
     {
@@ -291,7 +291,8 @@ impl<'d> Envelope<'d> {
         }
     }
 
-    /// The texts of the MessageID, in order, if there is one that is targeted.
+    /// The texts of the MessageID, in order, if there is one that is targeted; else none. It fails
+    /// without memory for a copy.
     pub fn message_id(&self, alloc: Global) -> Result<Items, Memory>
         ensures same { IfOk result (λ texts. texts ≡ self.now.message_id) }
         ensures texts { IfOk result AreTexts }
@@ -299,10 +300,10 @@ impl<'d> Envelope<'d> {
         texts_at(alloc, self.items, self.message)
     }
 
-    /// The content of Body, so that it means the same in a reply: each child element declares what
-    /// was in scope at Body and it doesn't declare itself. None where that counts more content than
-    /// the quotas admit, or has more bytes in any payload: its declarations may be many more than
-    /// the document's.
+    /// A copy of the content of Body that means the same in a reply: each child element declares
+    /// what is in scope at Body and it doesn't declare itself. None if that has more content than
+    /// the quotas admit, or more bytes in any payload; its declarations may be many more than the
+    /// document's. It fails without memory for the copy.
     pub fn body(&self, alloc: Global, quotas: &Quotas) -> Result<Option<Items>, Memory>
         ensures same { IfOk result (λ body. body ≡ fitting (limits_of quotas.now) self.now.body) }
         ensures content { IfOk result (λ body. IfSome body IsContent) }
@@ -318,7 +319,7 @@ impl<'d> Envelope<'d> {
     }
 
     /// The names, in order, of the blocks that are targeted and must be understood, and whose names
-    /// aren't among those known.
+    /// aren't among those known. It fails without memory for the list.
     pub fn not_understood(
         &self,
         alloc: Global,

@@ -1,4 +1,4 @@
-//! Faults.
+//! SOAP 1.2 faults as documents.
 
 ghost use Rattle.std.specs.Prelude.{◌≡◌, [], ◌∷◌, ◌++◌, IfOk, IsTrue, OnOk, codes};
 ghost use Rattle.std.specs.List.{flat_map, list_all};
@@ -8,11 +8,11 @@ ghost use Rattle.soap_envelope.specs.Faults.{code_items, code_text, fault_body, 
 ghost use Rattle.soap_envelope.specs.Making.{AreTexts, envelope_items};
 
 use crate::blocks::QualifiedName;
-use crate::making::{document, put_action, put_ending, put_middle, put_opening, put_relates};
+use crate::making::{document, put_action, put_ending, put_middle, put_opening, put_relates_moved};
 use crate::namespaces;
 use crate::puts::{put_attribute, put_close, put_start, put_text, put_xmlns};
 use crate::report::{Code, FaultReport, Sub};
-use nbfx_values::{Copied, Doc, Item, Items, Scalar, Txt, Value};
+use nbfx_values::{Copied, Doc, Items, Scalar, Txt, Value};
 use std::alloc::Global;
 use unit_streams::Memory;
 
@@ -172,16 +172,16 @@ fn put_report(
     alloc: Global,
     items: &mut Items,
     action: Txt,
-    relates: &[Item],
+    relates: Items,
     report: &FaultReport<'_>,
 ) -> Result<(), Memory>
-    ensures put { OnOk result (items.new ≡ items.old ++ envelope_items action relates.now
+    ensures put { OnOk result (items.new ≡ items.old ++ envelope_items action relates
         (flat_map not_understood_block report.now.names) (fault_body report.now)) }
     ensures names { OnOk result (IsTrue (list_all is_nameable report.now.names)) }
 {
     put_opening(alloc, items)?;
     put_action(alloc, items, action)?;
-    put_relates(alloc, items, relates)?;
+    put_relates_moved(alloc, items, relates)?;
     put_names(alloc, items, report.names.as_slice())?;
     put_middle(alloc, items)?;
     put_fault(alloc, items, report)?;
@@ -189,16 +189,28 @@ fn put_report(
     Ok(())
 }
 
-/// The fault of this report, which is an envelope of SOAP 1.2: its RelatesTo has these texts, those
-/// of the MessageID of the request that it answers. A fault with a subcode has addressing's action
-/// for faults, and one without has SOAP's.
+/// The envelope of a fault (SOAP 1.2 and the SOAP Binding of WS-Addressing 1.0): its RelatesTo has
+/// these texts, those of the MessageID of the request that it answers. Its Action is that of
+/// WS-Addressing's faults if it has a subcode, else that of SOAP's. It fails without memory for it.
 pub fn fault_doc(alloc: Global, report: &FaultReport<'_>, relates: &Items) -> Result<Doc, Memory>
     requires { AreTexts relates.now }
     ensures { IfOk result (λ doc. doc ≡ fault_items report.now relates.now) }
 {
+    fault_doc_with(alloc, report, relates.copy()?)
+}
+
+/// The same fault. The texts aren't copied.
+pub fn fault_doc_with(
+    alloc: Global,
+    report: &FaultReport<'_>,
+    relates: Items,
+) -> Result<Doc, Memory>
+    requires { AreTexts relates }
+    ensures { IfOk result (λ doc. doc ≡ fault_items report.now relates) }
+{
     let action = Txt::of(alloc, fault_action(report.sub))?;
     let mut items = Items::new(alloc);
-    put_report(alloc, &mut items, action, relates.as_slice(), report)?;
+    put_report(alloc, &mut items, action, relates, report)?;
 
     // Characters are UTF-8.
     let _reason = report.reason.as_str();

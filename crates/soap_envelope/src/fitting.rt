@@ -48,7 +48,7 @@ fn measure_of_item(measure: Measure, item: &Item) -> u64
     }
 }
 
-// What is left behind the declarations that an element needs and hasn't itself.
+// What is left of the quotas after the declarations that an element needs and doesn't have itself.
 fn left_by_missing(
     measure: Measure,
     left: u64,
@@ -67,7 +67,7 @@ fn left_by_missing(
     Some(left)
 }
 
-// What is left behind an item.
+// What is left of the quotas after an item.
 fn left_by_item(measure: Measure, left: u64, item: &Item) -> Option<u64>
     requires { left < 2 ^ 32 }
     ensures { result ≡ left_behind left (measure_of measure (item.now ∷ [])) }
@@ -75,7 +75,8 @@ fn left_by_item(measure: Measure, left: u64, item: &Item) -> Option<u64>
     left.checked_sub(measure_of_item(measure, item))
 }
 
-// What is left behind a child, or the beginning of one, with the declarations that it needs.
+// What is left of the quotas after a child, or the beginning of one, with the declarations that it
+// needs.
 fn left_by_child(
     alloc: Global,
     measure: Measure,
@@ -99,7 +100,7 @@ fn left_by_child(
     Ok(left_by_missing(measure, left, needs, &own))
 }
 
-// What is left behind an item that stands in so many elements within Body.
+// What is left of the quotas after an item that stands in so many elements within Body.
 fn left_by(
     alloc: Global,
     measure: Measure,

@@ -66,7 +66,7 @@ fn block_of<'d>(
     }
 }
 
-// Whether two names are one.
+// Whether two names are the same.
 pub(crate) fn is_same_name(name: &QualifiedName<'_>, other: &QualifiedName<'_>) -> bool
     ensures { result ≡ names.is_same_name name.now other.now }
 {
@@ -76,7 +76,7 @@ pub(crate) fn is_same_name(name: &QualifiedName<'_>, other: &QualifiedName<'_>) 
     name.uri == other.uri && name.local == other.local
 }
 
-// Whether a block counts as addressing's of a local name.
+// Whether a block counts as the one of WS-Addressing with this local name.
 #[tactic(auto, unfolding(crate::specs::Names::addressing))]
 pub(crate) fn counts_as(block: &Block<'_>, local: &str) -> bool
     ensures { result ≡ spec.counts_as local.now block.now }
@@ -116,14 +116,14 @@ fn comes_behind(before: &[Block<'_>], block: &Block<'_>) -> bool
     before.iter().any(|other| is_first_of(block, other))
 }
 
-// Whether a block that may stand once comes behind one of its name that counts.
+// Whether a block that may stand once follows one of its name that counts.
 fn is_again(before: &[Block<'_>], block: &Block<'_>) -> bool
     ensures { result ≡ spec.is_again before.now block.now }
 {
     is_single(block) && comes_behind(before, block)
 }
 
-// The beginning of the first such.
+// The place of the first such block's Start.
 pub(crate) fn first_repeated(blocks: &[Block<'_>]) -> Option<usize>
     ensures { result ≡ spec.repeated blocks.now }
 {
@@ -194,7 +194,7 @@ pub(crate) fn only_address<'d>(
     Ok(found)
 }
 
-// Whether the content of a block that counts isn't what addressing asks of it.
+// Whether the content of a block that counts isn't what WS-Addressing asks of it.
 fn is_bad_content<'d>(
     alloc: Global,
     items: &'d [Item],
@@ -216,7 +216,7 @@ fn is_bad_content<'d>(
     Ok(only.is_none())
 }
 
-// The lesser of places.
+// The lesser of two places, if there are any.
 fn earlier(first: Option<usize>, second: Option<usize>) -> Option<usize>
     ensures { result ≡ spec.earlier first second }
 {
@@ -227,7 +227,7 @@ fn earlier(first: Option<usize>, second: Option<usize>) -> Option<usize>
     }
 }
 
-// The first item of a block with these SOAP attributes that isn't as it should be.
+// The first item of a block with these SOAP attributes that isn't valid.
 fn bad_in_block<'d>(
     alloc: Global,
     items: &'d [Item],
@@ -253,8 +253,8 @@ fn bad_in_block<'d>(
     ))
 }
 
-// Puts the block that begins at a place behind others, and says which of its items is the first
-// that isn't as it should be.
+// Appends the block that begins at a place to others, and says which of its items is the first that
+// isn't valid.
 fn put_block<'d>(
     alloc: Global,
     items: &'d [Item],
@@ -298,7 +298,7 @@ fn put_child<'d>(
     put_block(alloc, items, scopes, found, at)
 }
 
-// The blocks of a Header, and the first item of it that isn't as it should be.
+// The blocks of a Header, and the first item of it that isn't valid.
 #[derive(Drop)]
 pub(crate) struct Header<'d> {
     pub(crate) blocks: Blocks<'d>,
@@ -330,7 +330,7 @@ pub(crate) fn header_of<'d>(
     Ok(Header { blocks: found, bad })
 }
 
-// The beginning of the first block that counts as addressing's of a local name.
+// The place of the first block that counts as the one of WS-Addressing with this local name.
 pub(crate) fn counted_at(blocks: &[Block<'_>], local: &str) -> Option<usize>
     ensures { result ≡ spec.counted_at local.now blocks.now }
 {

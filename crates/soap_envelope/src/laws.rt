@@ -17,34 +17,34 @@ pub fn names()
 {}
 
 /// A reply is an envelope whose Action is the request's followed by `Response`, whose RelatesTo has
-/// the texts and whose Body the content that were put there. The content's names have to be good
-/// where nothing but the reply's own two prefixes is declared.
+/// the given texts, and whose Body has the given content. The names of the content have to be good
+/// where only the reply's own two prefixes are declared.
 pub fn replies()
     ensures viewed { RepliesAreViewed }
     ensures relates { RelatesAreKept }
 {}
 
-/// The content of a document's Body, which a view has, may be put into any reply: its names are
-/// good there and those that it has in its document, and the reply's view has the same content.
-/// Where a content doesn't fit, a reply with it doesn't either.
+/// The content of Body, as a view has it, may be put into any reply: its names are good there and
+/// mean what they mean in its document, and the reply's view has the same content. If the content
+/// doesn't fit a quota, no reply with it does.
 pub fn bodies()
     ensures stand { BodiesStand }
     ensures named { BodiesAreNamed }
     ensures unfit { UnfitBodiesAreUnfit }
 {}
 
-/// A fault is an envelope whose Body has one Fault alone, and whose Action is that of its subcode.
-/// Where its names don't fit a quota on content, it doesn't either.
+/// A fault is an envelope whose Body has one Fault and nothing else, and whose Action is that of
+/// its subcode. If its names don't fit a quota on content, it doesn't either.
 pub fn faults()
     ensures viewed { FaultsAreViewed }
     ensures unfit { UnfitNamesAreUnfit }
 {}
 
 /// What is seen of a document depends on the namespaces that its prefixes are bound to, and on no
-/// prefix: documents with the same names and values, item by item, have the same blocks, action,
-/// reply address and MessageID, or are refused for the same reason at the same item. So are a
-/// document and the same with other prefixes for its namespaces. The content of Body keeps its
-/// prefixes.
+/// prefix: documents with the same resolved names and values, item by item, have the same blocks,
+/// action, reply address and MessageID, or are refused for the same reason at the same item. So do
+/// a document and the same one with other prefixes for its namespaces. The content of Body keeps
+/// its prefixes.
 pub fn prefixes()
     ensures names { NamesAreAll }
     ensures renamed { PrefixesAreFree }

@@ -6,8 +6,8 @@
 //! judged: names (`Scopes`, `BadNames`), the root and its children (`Parts`), header blocks
 //! (`Blocks`, `Headers`), and the content of Body, so that it stands by itself (`Body`).
 //! `Envelope::of` is proved to answer that view, or the first refusal. `take_body` takes the
-//! content of Body out of a document that isn't needed any more, and moves its items where they
-//! need no declarations.
+//! content of Body out of a document that isn't needed any more: its items are moved, and stay in
+//! the document's list.
 //!
 //! `reply_doc` and `fault_doc` make documents whose items `specs/Making.antt` and
 //! `specs/Faults.antt` list one by one. The names of the standards are in `src/namespaces.rt` and
@@ -35,13 +35,14 @@ mod parts;
 mod puts;
 mod refusals;
 mod report;
+mod ring;
 mod scopes;
 mod taking;
 mod texts;
 
 pub use blocks::{Block, Blocks, Names, QualifiedName};
 pub use envelope::Envelope;
-pub use faults::fault_doc;
+pub use faults::{fault_doc, fault_doc_with};
 pub use making::{reply_doc, reply_doc_with};
 pub use naming::names_fit;
 pub use refusals::SoapFault;

@@ -1,4 +1,4 @@
-//! Replies.
+//! Replies as documents.
 
 ghost use Rattle.std.specs.Prelude.{◌≡◌, ◌++◌, [], IfOk, IsTrue, OnOk};
 ghost use Rattle.std.specs.Str.{is_utf8};
@@ -7,9 +7,11 @@ ghost use Rattle.soap_envelope.specs.Making as spec;
 ghost use Rattle.soap_envelope.specs.Sizes.{head_items};
 ghost use Rattle.soap_envelope.specs.Making.{AreTexts, IsContent, action_block, ending, envelope_items, middle, opening, relates_block, reply_items};
 
-use crate::moving::put_moved;
+use crate::moving::turned;
 use crate::namespaces::{ADDRESSING, SOAP};
-use crate::puts::{put_attribute, put_close, put_copies, put_start, put_text, put_xmlns};
+use crate::puts::{
+    put_attribute, put_close, put_copies, put_owned, put_start, put_text, put_xmlns,
+};
 use nbfx_values::{Copied, Doc, Item, Items, Scalar, Txt, Value};
 use std::alloc::Global;
 use unit_streams::Memory;
@@ -26,7 +28,7 @@ pub(crate) fn put_opening(alloc: Global, items: &mut Items) -> Result<(), Memory
     Ok(())
 }
 
-// The block of addressing that says what the message is for.
+// The Action block.
 pub(crate) fn put_action(alloc: Global, items: &mut Items, action: Txt) -> Result<(), Memory>
     ensures { OnOk result (items.new ≡ items.old ++ action_block action) }
 {
@@ -38,7 +40,7 @@ pub(crate) fn put_action(alloc: Global, items: &mut Items, action: Txt) -> Resul
     Ok(())
 }
 
-// The block of addressing that names the message that is answered, where that has a name.
+// The RelatesTo block, if the message that is answered has an identifier.
 pub(crate) fn put_relates(alloc: Global, items: &mut Items, relates: &[Item]) -> Result<(), Memory>
     ensures { OnOk result (items.new ≡ items.old ++ relates_block relates.now) }
 {
@@ -47,6 +49,23 @@ pub(crate) fn put_relates(alloc: Global, items: &mut Items, relates: &[Item]) ->
     }
     put_start(alloc, items, "a", "RelatesTo")?;
     put_copies(items, relates)?;
+    put_close(items)?;
+    Ok(())
+}
+
+// The same block, whose texts are moved.
+pub(crate) fn put_relates_moved(
+    alloc: Global,
+    items: &mut Items,
+    relates: Items,
+) -> Result<(), Memory>
+    ensures { OnOk result (items.new ≡ items.old ++ relates_block relates) }
+{
+    if relates.as_slice().is_empty() {
+        return Ok(());
+    }
+    put_start(alloc, items, "a", "RelatesTo")?;
+    put_owned(items, relates)?;
     put_close(items)?;
     Ok(())
 }
@@ -81,7 +100,7 @@ pub(crate) fn document(items: Items) -> Doc
 }
 
 // The action of the reply to a request.
-pub(crate) fn response_action(alloc: Global, action: &str) -> Result<Txt, Memory>
+fn response_action(alloc: Global, action: &str) -> Result<Txt, Memory>
     ensures same { IfOk result (λ text. text ≡ spec.response_action action.now) }
     ensures utf8 { IfOk result (λ text. IsTrue (is_utf8 text)) }
 {
@@ -96,12 +115,7 @@ pub(crate) fn response_action(alloc: Global, action: &str) -> Result<Txt, Memory
 }
 
 // A reply with this action, up to the content of Body.
-pub(crate) fn put_head(
-    alloc: Global,
-    items: &mut Items,
-    action: Txt,
-    relates: &[Item],
-) -> Result<(), Memory>
+fn put_head(alloc: Global, items: &mut Items, action: Txt, relates: &[Item]) -> Result<(), Memory>
     ensures { OnOk result (items.new ≡ items.old ++ head_items action relates.now) }
 {
     put_opening(alloc, items)?;
@@ -111,26 +125,23 @@ pub(crate) fn put_head(
     Ok(())
 }
 
-// A reply with this action.
-fn put_reply(
-    alloc: Global,
-    items: &mut Items,
-    action: Txt,
-    relates: &[Item],
-    body: Items,
-) -> Result<(), Memory>
-    ensures { OnOk result
-        (items.new ≡ items.old ++ envelope_items action relates.now [] body) }
+// A reply with this action. What stands before the content of Body is put behind it, and changes
+// place with it then, so that there is one list of items, that of the content.
+fn reply_with(alloc: Global, action: Txt, relates: &[Item], body: Items) -> Result<Items, Memory>
+    ensures { IfOk result
+        (λ items. items ≡ envelope_items action relates.now [] body) }
 {
-    put_head(alloc, items, action, relates)?;
-    put_moved(items, body)?;
-    put_ending(items)?;
-    Ok(())
+    let mut items = body;
+    let content = items.len();
+    put_head(alloc, &mut items, action, relates)?;
+    let mut items = turned(items, content);
+    put_ending(&mut items)?;
+    Ok(items)
 }
 
-/// The reply to a request with this action, which is an envelope of SOAP 1.2: its Action is the
-/// request's, followed by `Response`, its RelatesTo has these texts, those of the request's
-/// MessageID, and its Body has this content.
+/// The reply to a request with this action, as an envelope of SOAP 1.2 with WS-Addressing 1.0: its
+/// Action is the request's, followed by `Response`; its RelatesTo has these texts, those of the
+/// request's MessageID; its Body has a copy of this content. It fails without memory for it.
 pub fn reply_doc(alloc: Global, action: &str, relates: &Items, body: &Items) -> Result<Doc, Memory>
     requires texts { AreTexts relates.now }
     requires content { IsContent body.now }
@@ -139,7 +150,8 @@ pub fn reply_doc(alloc: Global, action: &str, relates: &Items, body: &Items) -> 
     reply_doc_with(alloc, action, relates, body.copy()?)
 }
 
-/// The same reply. The content isn't copied.
+/// The same reply, but the content isn't copied: its list becomes the reply's. It fails without
+/// memory for the rest.
 pub fn reply_doc_with(
     alloc: Global,
     action: &str,
@@ -151,7 +163,6 @@ pub fn reply_doc_with(
     ensures { IfOk result (λ doc. doc ≡ reply_items action.now relates.now body) }
 {
     let action = response_action(alloc, action)?;
-    let mut items = Items::new(alloc);
-    put_reply(alloc, &mut items, action, relates.as_slice(), body)?;
+    let items = reply_with(alloc, action, relates.as_slice(), body)?;
     Ok(document(items))
 }

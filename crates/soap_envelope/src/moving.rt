@@ -1,32 +1,43 @@
 // Items that change place, and aren't copied.
-ghost use Rattle.std.specs.Prelude.{◌≡◌, ◌++◌, OnOk, drop, take};
+ghost use Rattle.std.specs.Prelude.{◌≡◌, ◌++◌, ◌≤◌, OnOk, drop, length, take};
 
-use nbfx_values::{Item, Items};
+use nbfx_values::{Attrs, Items};
 use unit_streams::Memory;
 
-// Puts items behind others. Want of memory leaves what was put before.
-pub(crate) fn put_moved(out: &mut Items, more: Items) -> Result<(), Memory>
+// Puts attributes behind others. Want of memory leaves what was put before.
+pub(crate) fn put_moved(out: &mut Attrs, more: Attrs) -> Result<(), Memory>
     ensures { OnOk result (out.new ≡ out.old ++ more) }
 {
-    for item in more.into_vec() {
-        out.push(item)?;
+    for attribute in more.into_vec() {
+        out.push(attribute)?;
     }
     Ok(())
 }
 
-// Puts the items from a place on, up to another, behind others.
-pub(crate) fn put_part(
-    out: &mut Items,
-    items: Items,
-    first: usize,
-    end: usize,
-) -> Result<(), Memory>
-    ensures { OnOk result (out.new ≡ out.old ++ drop first (take end items)) }
+// The items from a place on, and behind them those before it. They keep their memory.
+pub(crate) fn turned(items: Items, first: usize) -> Items
+    requires { first ≤ length items }
+    ensures { result ≡ drop first items ++ take first items }
 {
     let mut items = items.into_vec();
-    items.truncate(end);
-    for item in items.into_iter().skip(first) {
-        out.push(item)?;
-    }
-    Ok(())
+    items.rotate_left(first);
+    Items::from_vec(items)
+}
+
+// The items from a place on. They keep the memory of all.
+pub(crate) fn rest(items: Items, first: usize) -> Items
+    requires { first ≤ length items }
+    ensures { result ≡ drop first items }
+{
+    let left = items.len() - first;
+    first_of(turned(items, first), left)
+}
+
+// So many items. They keep the memory of all.
+pub(crate) fn first_of(items: Items, count: usize) -> Items
+    ensures { result ≡ take count items }
+{
+    let mut items = items.into_vec();
+    items.truncate(count);
+    Items::from_vec(items)
 }

@@ -92,8 +92,8 @@ fn bad_in_head(inner: &Scopes<'_>, prefix: &Txt, at: usize, behind: &[Item]) -> 
     bad_attribute(inner, at + 1, behind)
 }
 
-// The item at a place, or one of its head, if it is bad. Else the declarations in scope behind it
-// take the place of those before it.
+// The item at a place, or one of its declarations and attributes, if it is bad. Else the
+// declarations in scope after it take the place of those before it.
 fn bad_item<'d>(
     scopes: &mut Scopes<'d>,
     items: &'d [Item],

@@ -14,7 +14,7 @@ fn name_content(name: &QualifiedName<'_>) -> u64
     name.uri.len() as u64 + name.local.len() as u64
 }
 
-// What is left behind names.
+// What is left of a quota after these names.
 fn left_by_names(left: u64, names: &[QualifiedName<'_>]) -> Option<u64>
     ensures { result ≡ left_behind left (names_content names.now) }
 {
@@ -26,8 +26,8 @@ fn left_by_names(left: u64, names: &[QualifiedName<'_>]) -> Option<u64>
 }
 
 /// Whether names, each with its namespace written out, fit the quota on content. A fault whose
-/// names don't can't be sent: a document may declare one namespace for thousands of blocks, and
-/// their names take no memory, but the fault writes it for each.
+/// names don't can't be sent: a document may declare one namespace for thousands of blocks, whose
+/// names then take no memory, but the fault writes it for each.
 pub fn names_fit(quotas: &Quotas, names: &[QualifiedName<'_>]) -> bool
     ensures { result ≡ spec.names_fit quotas.now.content names.now }
 {

@@ -105,8 +105,8 @@ pub(crate) fn wrong_root(items: &[Item], root: &Scopes<'_>) -> Option<SoapFault>
     }
 }
 
-// The parts, of which the Header stands before these children of the root: one child, the Body, or
-// the first that is none.
+// The parts, if these are the children of the root after Header: one child, the Body, or the first
+// that is none.
 #[tactic(auto, unfolding(crate::specs::Names::soap))]
 fn parts_behind<'d>(
     alloc: Global,
@@ -139,7 +139,7 @@ fn parts_behind<'d>(
     }
 }
 
-// The parts, of which these are the children of the root.
+// The parts, if these are the children of the root.
 #[tactic(auto, unfolding(crate::specs::Names::soap))]
 fn parts_among<'d>(
     alloc: Global,

@@ -1,4 +1,4 @@
-// Items that are put behind others. Want of memory leaves what was put before.
+// Appends items to others. Without memory, those that were appended before stay.
 ghost use Rattle.std.specs.Prelude.{◌≡◌, ◌∷◌, ◌++◌, [], IsTrue, OnOk, codes};
 ghost use Rattle.std.specs.Str.{is_utf8};
 ghost use Rattle.nbfx_values.specs.declared.content.Item.TheVariants as item;
@@ -78,6 +78,16 @@ pub(crate) fn put_copies(items: &mut Items, more: &[Item]) -> Result<(), Memory>
 {
     for item in more {
         items.push(item.copy()?)?;
+    }
+    Ok(())
+}
+
+// Items, which are moved.
+pub(crate) fn put_owned(items: &mut Items, more: Items) -> Result<(), Memory>
+    ensures { OnOk result (items.new ≡ items.old ++ more) }
+{
+    for item in more.into_vec() {
+        items.push(item)?;
     }
     Ok(())
 }

@@ -6,20 +6,21 @@ use unit_streams::Memory;
 /// and places are those of the document's items, counted from 0.
 #[derive(Clone, Copy, Debug, PartialEq, Eq)]
 pub enum SoapFault {
-    /// The item has a prefix that isn't declared, or declares one again in its element.
+    /// This item has a prefix that isn't declared, or declares a prefix a second time in its
+    /// element.
     BadNames { item: usize },
     /// The root's local name isn't `Envelope`.
     NotAnEnvelope,
     /// The root is an Envelope of another namespace than SOAP 1.2's.
     VersionMismatch,
-    /// The child of the root is neither a Header at its head nor the one Body after that.
+    /// This child of the root is neither a Header in front nor the one Body after it.
     Misplaced { item: usize },
     /// The root has no Body.
     NoBody,
-    /// The block is the second Action, To, MessageID or ReplyTo.
+    /// This block is the second Action, To, MessageID or ReplyTo.
     RepeatedHeader { item: usize },
-    /// The child of Header is no block in a namespace, or a block's attribute or content isn't what
-    /// the standards ask of it.
+    /// This child of Header is no block in a namespace, or this attribute or content of a block
+    /// isn't what SOAP 1.2 or WS-Addressing 1.0 asks of it.
     BadHeader { item: usize },
     /// Out of memory.
     Memory,

@@ -3,16 +3,20 @@
 use crate::blocks::Names;
 use nbfx_values::Txt;
 
-/// The code of a SOAP 1.2 fault.
+/// The code of a fault, by the local name that SOAP 1.2 gives it.
 #[derive(Clone, Copy, Debug, PartialEq, Eq)]
 pub enum Code {
+    /// The root isn't a SOAP 1.2 envelope.
     VersionMismatch,
+    /// A block that must be understood isn't.
     MustUnderstand,
+    /// The request is at fault.
     Sender,
+    /// The request isn't, but it can't be served, or its reply not be sent.
     Receiver,
 }
 
-/// The subcodes of a fault, as the SOAP Binding of WS-Addressing 1.0 names them.
+/// The subcode of a fault, as the SOAP Binding of WS-Addressing 1.0 names it.
 #[derive(Clone, Copy, Debug, PartialEq, Eq)]
 pub enum Sub {
     /// No subcode.
@@ -27,13 +31,16 @@ pub enum Sub {
     InvalidCardinality,
 }
 
-/// What a fault document is made of.
+/// What a fault says.
 #[derive(Debug, Drop)]
 pub struct FaultReport<'a> {
+    /// Its code.
     pub code: Code,
+    /// Its subcode, if it has one.
     pub sub: Sub,
-    /// The reason in English.
+    /// Its reason, in English.
     pub reason: Txt,
-    /// The header blocks that weren't understood, in order.
+    /// The names of the header blocks that weren't understood, in order: each has a NotUnderstood
+    /// block in the fault's Header.
     pub names: Names<'a>,
 }

@@ -36,50 +36,6 @@ pub(crate) fn declarations_in<'d>(
     Ok(layer)
 }
 
-// The declarations at the head of what stands behind the beginning of an element.
-// Most elements have no attributes.
-pub(crate) fn declared_in<'d>(alloc: Global, behind: &'d [Item]) -> Result<Layer<'d>, Memory>
-    ensures { IfOk result (λ layer. layer ≡ declared behind.now) }
-{
-    match behind {
-        [Item::Xmlns { .. } | Item::Attr { .. }, ..] => {
-            let declarations = declarations_in(alloc, behind)?;
-            Layer::of(alloc, declarations)
-        }
-        _ => Ok(Layer::none(alloc)),
-    }
-}
-
-// The declarations among an array's attributes.
-fn declarations_on<'d>(
-    alloc: Global,
-    attributes: &'d [AttrItem],
-) -> Result<Vec<Declared<'d>>, Memory>
-    ensures { IfOk result (λ layer. layer_of layer ≡ spec.declared_on attributes.now) }
-{
-    let mut layer = Vec::new(alloc);
-    for attribute in attributes {
-        if let AttrItem::Xmlns { prefix, uri } = attribute {
-            layer.push(Declared {
-                prefix: prefix.as_str(),
-                uri: uri.as_str(),
-            })?;
-        }
-    }
-    Ok(layer)
-}
-
-// The declarations of an array's element.
-pub(crate) fn declared_on<'d>(
-    alloc: Global,
-    attributes: &'d [AttrItem],
-) -> Result<Layer<'d>, Memory>
-    ensures { IfOk result (λ layer. layer ≡ spec.declared_on attributes.now) }
-{
-    let declarations = declarations_on(alloc, attributes)?;
-    Layer::of(alloc, declarations)
-}
-
 // What a prefix stands for where nothing declares it.
 #[tactic(auto, unfolding(crate::specs::Names::xml_namespace))]
 fn undeclared_uri(prefix: &str) -> Option<&'static str>
@@ -154,6 +110,27 @@ fn bind_declared_on<'d>(bound: &mut Bindings<'d>, attributes: &'d [AttrItem]) ->
         bind_attribute(bound, &attributes[more])?;
     }
     Ok(())
+}
+
+// The declarations at the head of what stands behind the beginning of an element.
+pub(crate) fn declared_in<'d>(alloc: Global, behind: &'d [Item]) -> Result<Layer<'d>, Memory>
+    ensures { IfOk result (λ layer. layer ≡ declared behind.now) }
+{
+    let mut layer = Layer::new(alloc);
+    bind_declared(&mut layer, behind)?;
+    Ok(layer)
+}
+
+// The declarations of an array's element.
+pub(crate) fn declared_on<'d>(
+    alloc: Global,
+    attributes: &'d [AttrItem],
+) -> Result<Layer<'d>, Memory>
+    ensures { IfOk result (λ layer. layer ≡ spec.declared_on attributes.now) }
+{
+    let mut layer = Layer::new(alloc);
+    bind_declared_on(&mut layer, attributes)?;
+    Ok(layer)
 }
 
 // The declarations of the elements that are open. What a prefix stands for is looked up once,

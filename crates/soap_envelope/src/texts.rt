@@ -71,7 +71,7 @@ pub(crate) fn has_plain_content(items: &[Item], at: usize) -> bool
     true
 }
 
-// Puts the characters of the text at a place behind others, if a text stands there.
+// Appends the characters of the text at a place to others, if a text stands there.
 fn put_characters(alloc: Global, text: &mut String, items: &[Item], at: usize) -> Result<(), Memory>
     requires { IsTrue (list_all is_valid_item items.now) }
     ensures { OnOk result (string_bytes text.new

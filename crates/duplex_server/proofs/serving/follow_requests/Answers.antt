@@ -3,10 +3,12 @@ use Rattle.unit_streams.specs.Judging.{events_in, events_of}
 use Rattle.nbfx_values.specs.QuotasOf.{limits_of}
 use Rattle.stream_reader.specs.{declared.side.Endpoint.Endpoint, Sides.endpoint_of}
 use Rattle.stream_reader.specs.Stream.{ends, Settings, stream, StreamEvent}
-use Rattle.stream_loop.proofs.{LoopSteps.first_pending, Taking.unbegun}
+use Rattle.stream_loop.proofs.{LoopSteps.first_pending, Taking.follows_as, Taking.heard_whole}
+use Rattle.stream_loop.proofs.Taking.{unbegun}
 use Rattle.stream_loop.specs.Edges.{Input, input_at}
 use Rattle.receiver_machine.specs.ReceiverState.{has_good_quotas, settings_of}
-use Rattle.duplex_server.specs.Owed.{Answering, answering, requests_to}
+use Rattle.duplex_server.specs.{declared.requests.Request.Request, Owed.Answering, Owed.answering}
+use Rattle.duplex_server.specs.Owed.{requests_to}
 use Rattle.duplex_server.specs.{Replying.answering_of, Replying.HasHeard, Requests.request_for}
 use Rattle.duplex_server.proofs.{Served.followed_as, Streams.ends_within}
 use Rattle.duplex_server.proofs.serving.follow_requests.Given.{Over}
@@ -42,6 +44,9 @@ follow_stream-requires-clause-ends g c =
     ends_within (settings_of c.in-Ok-new.reader.receiver)
     (has_good_quotas c.in-Ok-new.reader.receiver)
 
+pub follow_stream-requires-clause-halts : goal.follow_stream-requires-clause-halts
+follow_stream-requires-clause-halts g c = λ first now paused since at halt replier heard. heard
+
 pub returns-clause-follows : goal.returns-clause-follows
 returns-clause-follows g c =
     let x : Answering = answering (g.V.Service.served c.args.replier.now.service.now)
@@ -49,9 +54,13 @@ returns-clause-follows g c =
     let y : Settings = requests_to x (endpoint_of c.args.endpoint.now) in
     let to : Endpoint → Settings = λ e. requests_to x (endpoint_of e) in
     let n = c.follow_stream.new.listener in
+    let Heard : List Request → Type 0 = λ requests. HasHeard g.K.Sink.written g.K.Sink.held
+    g.K.Sink.faults g.K.Sink.may_want (answering_of g.V.Service.served n) c.args.sink.now requests n
+    c.follow_stream.new.output in
     followed_as (settings_of c.in-Ok-new.reader.receiver) y
     (c.in-Ok-new.ensures.settings ∙ ap to c.in-Ok.ensures)
-    (λ (events : List StreamEvent). HasHeard g.K.Sink.written g.K.Sink.held g.K.Sink.faults
-    g.K.Sink.may_want (answering_of g.V.Service.served n) c.args.sink.now (map request_for events) n
-    c.follow_stream.new.output) (input_of g c.args.source.now)
-    (input_of g c.follow_stream.new.input) c.follow_stream.result c.follow_stream.ensures.follows
+    (λ (events : List StreamEvent). Heard (map request_for events)) (input_of g c.args.source.now)
+    (input_of g c.follow_stream.new.input) c.follow_stream.result
+    (follows_as (stream (settings_of c.in-Ok-new.reader.receiver)) _ _
+    (input_of g c.args.source.now) (input_of g c.follow_stream.new.input) c.follow_stream.result
+    (heard_whole request_for Heard) c.follow_stream.ensures.follows)

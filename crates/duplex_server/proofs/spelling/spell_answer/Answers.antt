@@ -12,7 +12,7 @@ returns-in-Some-clause-spells c = λ document said.
     subst (λ (d : List Item). Spells (mode_in s) c.args.out.now.items c.spell_made.new.out.items
     (names_in s) (names_in s') (state_in s) (state_in s')
     (when_ready (state_in s) (first_fitting (encoded (limits_in s) (kind_in s) (names_in s) d)
-    (encoded (limits_in s) (kind_in s) (names_in s) (unfit_fault c.args.relates.now))))
+    (encoded (limits_in s) (kind_in s) (names_in s) (unfit_fault c.args.relates))))
     c.spell_made.result) (rw c.in-Some.is at said) c.spell_made.ensures.spells
 
 pub returns-in-None-clause-spells : goal.returns-in-None-clause-spells

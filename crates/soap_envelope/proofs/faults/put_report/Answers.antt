@@ -10,9 +10,9 @@ returns-clause-put c =
       c.in_ok-put_middle.ensures,
       c.in_ok-put_names.ensures.put,
       c.as_slice.ensures,
-      c.in_ok-put_relates.ensures,
+      c.in_ok-put_relates_moved.ensures,
       c.in_ok-put_action.ensures,
       c.in_ok-put_opening.ensures,
     )
-    (grouped c.args.items.now c.args.action c.args.relates.now
+    (grouped c.args.items.now c.args.action c.args.relates
     (flat_map not_understood_block c.args.report.now.names) (fault_body c.args.report.now))

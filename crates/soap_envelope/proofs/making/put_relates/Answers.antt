@@ -1,13 +1,6 @@
-use Rattle.std.proofs.Common.{◌≡◌, false, eqb, List, [], ◌∷◌, ◌++◌, length, codes, sym, refl, ◌∙◌}
-use Rattle.std.proofs.Common.{append_assoc}
-use Rattle.nbfx_values.specs.declared.content.Item.{Item, TheVariants.Close}
-use Rattle.soap_envelope.specs.Making.{addressing_start, relates_block}
+use Rattle.std.proofs.Common.{sym, ◌∙◌, append_assoc}
+use Rattle.soap_envelope.proofs.Places.{relates_block-some}
 use Rattle.soap_envelope.proofs.making.put_relates.Goals as goal
-
-relates_block-some : (texts : List Item) → eqb (length texts) 0 ≡ false
-    → relates_block texts ≡ addressing_start (codes "RelatesTo") ∷ (texts ++ Close ∷ [])
-relates_block-some [] h = cc
-relates_block-some (text ∷ more) h = refl
 
 pub returns : goal.returns
 returns c =

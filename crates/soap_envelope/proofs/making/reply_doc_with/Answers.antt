@@ -7,8 +7,7 @@ document-requires c =
     let action = c.in_ok-action.action in
     let relates = c.args.relates.now in
     let body = c.args.body in
-    let put = c.in_ok-put_reply.ensures in
-    let made = rw (c.as_slice.ensures, c.new-items.ensures) at put in
+    let made = rw c.as_slice.ensures at c.in_ok-items.ensures in
     subst IsDocument (sym made)
     (envelope-document action relates [] body c.in_ok-action.ensures.utf8 c.requires.texts refl
     c.requires.content)

@@ -1,4 +1,4 @@
-use Rattle.std.proofs.Common.{◌-◌, length, take, ap, ◌∙◌, arith}
+use Rattle.std.proofs.Common.{◌+◌, ◌-◌, ◌≤◌, length, take, ap, ◌∙◌, arith}
 use Rattle.{std.proofs.lemmas.List.drop-take, soap_envelope.specs.Body.behind_head}
 use Rattle.soap_envelope.proofs.Suffixes.{content-from_end, content-shorter}
 use Rattle.soap_envelope.proofs.taking.content_places.Goals as goal
@@ -24,7 +24,17 @@ returns c =
     let items = c.args.items.now in
     let content = c.behind_head-content.result.now in
     let is = c.behind_head-content.ensures ∙ ap behind_head c.behind.ensures in
+    let first = content-from_end items content c.args.at is in
     let count = c.content_len.result in
-    drop-take (length items - length content) count items
-    ∙ ap (take count) (content-from_end items content c.args.at is)
-    ∙ rw (← is) c.content_len.ensures.content
+    let start = length items - length content in
+    let shorter = content-shorter items content c.args.at is in
+    let fewer = c.content_len.ensures.within in
+    let before : start ≤ start + count = omega arith in
+    let inside : start + count ≤ length items = omega (arith, shorter, fewer) in
+    record {
+      within = (before, inside);
+      first = first ∙ is;
+      both = drop-take start count items
+          ∙ ap (take count) first
+          ∙ rw (← is) c.content_len.ensures.content;
+    }

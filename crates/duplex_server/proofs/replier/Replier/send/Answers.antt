@@ -25,11 +25,11 @@ returns-in-Ok-true-clause-answered g c = λ first requests document reply said i
       length_is = sym (c.len-before.ensures ∙ m.gathered.ok.0);
       answered = h;
       bytes = subst (λ (a : Answer). new ≡ old ++ told_reply s.mode (payload_of limits s a))
-          (sym is) (told_is limits m.sender n reply c.args.relates.now m.limited old new
+          (sym is) (told_is limits m.sender n reply c.args.relates m.limited old new
           sender kept.mode kept.kind spells);
       left = subst (λ (a : Answer). replying sender (one_more n)
           ≡ behind_reply (payload_of limits s a) s) (sym is)
-          (left_is limits m.sender n reply c.args.relates.now m.limited old new sender
+          (left_is limits m.sender n reply c.args.relates m.limited old new sender
           kept.mode kept.kind (one_more n) refl spells);
     })
 
@@ -49,10 +49,10 @@ returns-in-Ok-false-clause-answered g c = λ first requests document reply said 
     g.K.Sink.faults g.K.Sink.may_want (answering_of g.V.Service.served m) first requests m.sender
     m.answers old m.ends.items c.args.sink.now (rw c.requires.going at h) (Received document) sender
     (subst (λ (a : Answer). [] ≡ told_reply s.mode (payload_of limits s a)) (sym is)
-    (sym (nothing_told limits m.sender n reply c.args.relates.now m.limited old new sender
+    (sym (nothing_told limits m.sender n reply c.args.relates m.limited old new sender
     kept.mode kept.kind spells)))
     (subst (λ (a : Answer). replying sender n ≡ behind_reply (payload_of limits s a) s) (sym is)
-    (left_so limits m.sender n reply c.args.relates.now m.limited old new sender kept.mode
+    (left_so limits m.sender n reply c.args.relates m.limited old new sender kept.mode
     kept.kind spells)))
 
 pub returns-in-Err-clause-answered : goal.returns-in-Err-clause-answered
