@@ -16,7 +16,7 @@ ALL_STRINGS = os.path.join(SAMPLES, "mc-nbfs.csv")
 # Fails the call with a number, from 1, of all that ask for memory, and writes at the end how many
 # did, and how many more gave memory than gave it back. Fails the write of the output, and the send
 # over a socket, with a number, if there is one, and writes how many of each there were; reads at
-# most so many bytes at a time.
+# most so many bytes at a time, or random numbers up to that by a seed, if there is one.
 SHIM = r"""
 #define _GNU_SOURCE
 #include <dlfcn.h>
@@ -54,11 +54,19 @@ ssize_t send(int socket, const void *bytes, size_t n, int flags) {
     }
     return next(socket, bytes, n, flags);
 }
+static size_t most_read(void) {
+    static unsigned state;
+    size_t most = told_by("MOST_READ");
+    if (!most || !told_by("READ_SEED")) return most;
+    if (!state) state = told_by("READ_SEED");
+    state = state * 1664525 + 1013904223;
+    return 1 + (state >> 8) % most;
+}
 ssize_t read(int file, void *bytes, size_t n) {
     static ssize_t (*next)(int, void *, size_t);
-    size_t most = told_by("MOST_READ");
+    size_t most = file == 0 ? most_read() : 0;
     if (!next) next = dlsym(RTLD_NEXT, "read");
-    return next(file, bytes, file == 0 && most && most < n ? most : n);
+    return next(file, bytes, most && most < n ? most : n);
 }
 static int fails(void) {
     if (!wanted) wanted = atol(getenv("FAIL_ALLOCATION"));

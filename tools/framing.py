@@ -1,10 +1,15 @@
-"""Where the framing records of a session end, of bytes that the program has taken (MC-NMF)."""
+"""Where the framing records of a session end, of bytes that the program has taken (MC-NMF), and the
+records of sessions that are made up."""
 
 VERSION, MODE, VIA, KNOWN_ENCODING, UNSIZED, SIZED, END, FAULT = 0, 1, 2, 3, 5, 6, 7, 8
 PREAMBLE_ACK, PREAMBLE_END = 11, 12
 # How many bytes a record has that has neither a size nor a text.
 LENGTHS = {VERSION: 3, MODE: 2, KNOWN_ENCODING: 2, END: 1, PREAMBLE_ACK: 1, PREAMBLE_END: 1}
 MESSAGES = (UNSIZED, SIZED)
+SINGLETON, DUPLEX, SIMPLEX = 1, 2, 3
+MODES = {"singleton": SINGLETON, "duplex": DUPLEX, "simplex": SIMPLEX}
+PLAIN, SESSION = 7, 8
+USUAL_VIA = b"net.tcp://h/e"
 
 
 def integer_at(stream, at):
@@ -40,3 +45,34 @@ def records(stream, at=0):
     while at < len(stream):
         kind, at = stream[at], record_end(stream, at)
         yield kind, at
+
+
+def integer(value, least=1):
+    """The bytes of an integer, of which there are at least so many."""
+    spelled = b""
+    while value > 127 or least > len(spelled) + 1:
+        spelled += bytes([value & 127 | 128])
+        value >>= 7
+    return spelled + bytes([value])
+
+
+def string(text, least=1):
+    """The bytes of a string, whose length has at least so many."""
+    return integer(len(text), least) + text
+
+
+def preamble(mode=DUPLEX, encoding=SESSION, via=USUAL_VIA):
+    """What an initiator sends first."""
+    version = bytes([VERSION, 1, 0, MODE, mode, VIA]) + string(via)
+    return version + bytes([KNOWN_ENCODING, encoding, PREAMBLE_END])
+
+
+def sized(payload):
+    """The envelope of a payload in duplex and in simplex mode."""
+    return bytes([SIZED]) + string(payload)
+
+
+def chunked(payload, size, least=1):
+    """The envelope of a payload in singleton mode, in chunks of so many bytes."""
+    chunks = (payload[at : at + size] for at in range(0, len(payload), size))
+    return bytes([UNSIZED]) + b"".join(string(it, least) for it in chunks) + integer(0, least)
