@@ -28,7 +28,7 @@ module _ {D : Type 0} (kept : List (List Item) → D → Type 0) (quota : ℕ) (
     stream = left;
     took = taken;
     has_taken = has;
-    asked_once = asked;
+    one_empty_take = asked;
     counted = counted;
   }
 
@@ -130,7 +130,7 @@ module _ {D : Type 0} (kept : List (List Item) → D → Type 0) (quota : ℕ) (
     stream = h.stream;
     took = h.took;
     read = by result said never;
-    asked_once = h.asked_once;
+    one_empty_take = h.one_empty_take;
     counted = counted_none _ _ _ (h.counted.same (λ e. cc)) never;
   } where
     by : (r : Result (List (List Item)) ListFault) → Says (documents_within quota h.bytes) r
@@ -151,7 +151,7 @@ module _ {D : Type 0} (kept : List (List Item) → D → Type 0) (quota : ℕ) (
     stream = h.stream;
     took = h.took;
     read = by fault h.has_taken;
-    asked_once = h.asked_once;
+    one_empty_take = h.one_empty_take;
     counted = counted_with _ _ _ _ _ refl h.counted (λ e. let same = e in cc)
         (λ e. let same = e in cc);
   } where

@@ -18,7 +18,7 @@ module _ {D : Type 0} (kept : List (List Item) → D → Type 0) (quota : ℕ) w
       (length bytes < quota) × IsUnrefused (standing (cut bytes).0)
   HasTaken bytes ended new (Err Memory) = ⊤
 
-  -- that, and how often the source was asked at its end, and what the calls that failed left of its
+  -- that, and how many takes of the source gave nothing, and what the calls that failed left of its
   -- count
   pub record TakesLines (i i' : Input) (new : ListReader D) (result : Result ⊤ ListFault) : Type 0
     where
@@ -26,5 +26,6 @@ module _ {D : Type 0} (kept : List (List Item) → D → Type 0) (quota : ℕ) w
       pub stream : Told i.left i'.left (λ all rest. all ≡ bytes ++ rest)
       pub took : Told i.taken i'.taken (λ t t'. t' ≡ t ++ bytes)
       pub has_taken : HasTaken bytes (Told i.left i'.left (λ all rest. rest ≡ [])) new result
-      pub asked_once : (i'.empty_takes ≡ i.empty_takes) ⊎ (i'.empty_takes ≡ one_more i.empty_takes)
+      pub one_empty_take : (i'.empty_takes ≡ i.empty_takes)
+          ⊎ (i'.empty_takes ≡ one_more i.empty_takes)
       pub counted : CountsFaults i.faults i'.faults (result ≡ Err ReadFault)

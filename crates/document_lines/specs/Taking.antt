@@ -42,5 +42,5 @@ pub record TakesDocuments (quota : ℕ) (i i' : Input) (result : Result (List (L
   pub stream : Told i.left i'.left (λ all rest. all ≡ bytes ++ rest)
   pub took : Told i.taken i'.taken (λ t t'. t' ≡ t ++ bytes)
   pub read : IsReadAs quota bytes (Told i.left i'.left (λ all rest. rest ≡ [])) result
-  pub asked_once : (i'.empty_takes ≡ i.empty_takes) ⊎ (i'.empty_takes ≡ one_more i.empty_takes)
+  pub one_empty_take : (i'.empty_takes ≡ i.empty_takes) ⊎ (i'.empty_takes ≡ one_more i.empty_takes)
   pub counted : CountsFaults i.faults i'.faults (result ≡ Err ReadFault)

@@ -12,7 +12,7 @@ use std::alloc::Global;
 
 /// Why a file of documents isn't read.
 #[derive(Clone, Copy, Debug, PartialEq, Eq)]
-pub enum FileFault {
+pub enum DocumentsFault {
     /// The shelf has no file of that name.
     Missing,
     /// Its lines are refused, for this reason.
@@ -30,23 +30,23 @@ pub fn fetch_documents<F: Shelf>(
     alloc: Global,
     shelf: &mut F,
     name: &str,
-) -> Result<Docs, FileFault>
+) -> Result<Docs, DocumentsFault>
     ensures answers { Answers (F.files shelf.old) name.now result }
     ensures kept { F.files shelf.new ≡ F.files shelf.old }
     ensures fetched { F.fetches shelf.new ≡ one_more (F.fetches shelf.old) }
     ensures counted { CountsFaults (F.faults shelf.old) (F.faults shelf.new)
-        (IsErrOf result FileFault.Failed) }
+        (IsErrOf result DocumentsFault.Failed) }
 {
     let bytes = match shelf.fetch(name) {
         Ok(Some(bytes)) => bytes,
-        Ok(None) => return Err(FileFault::Missing),
-        Err(ShelfFault::Failed) => return Err(FileFault::Failed),
-        Err(ShelfFault::Memory) => return Err(FileFault::Memory),
+        Ok(None) => return Err(DocumentsFault::Missing),
+        Err(ShelfFault::Failed) => return Err(DocumentsFault::Failed),
+        Err(ShelfFault::Memory) => return Err(DocumentsFault::Memory),
     };
     match read_documents(alloc, &bytes) {
         Ok(docs) => Ok(docs),
-        Err(ListFault::Refused(fault)) => Err(FileFault::Refused(fault)),
-        Err(ListFault::Memory) => Err(FileFault::Memory),
+        Err(ListFault::Refused(fault)) => Err(DocumentsFault::Refused(fault)),
+        Err(ListFault::Memory) => Err(DocumentsFault::Memory),
         Err(ListFault::ReadFault) => unreachable!(),
     }
 }

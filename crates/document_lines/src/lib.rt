@@ -36,7 +36,7 @@ mod reading_end;
 mod taking;
 
 pub use envelope::Envelope;
-pub use fetching::{FileFault, fetch_documents};
+pub use fetching::{DocumentsFault, fetch_documents};
 pub use keeper::Keeper;
 use line_notation::LineKind;
 use nbfx_encoder::EncodeFault;
@@ -44,7 +44,7 @@ pub use reader::DocumentReader;
 pub use reading::{ListFault, read_documents};
 pub use taking::take_documents;
 
-/// Why lines of documents are refused.
+/// Why lines of documents are refused, or not read on. The reader answers the same from then on.
 #[derive(Clone, Copy, Debug, PartialEq, Eq)]
 pub enum InputFault {
     /// The line with this number, from 1, for this reason.

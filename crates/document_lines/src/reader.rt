@@ -89,10 +89,10 @@ impl<'s> DocumentReader<'s> {
         if let Some(fault) = self.failure {
             return Err(fault);
         }
-        let room = self.room(piece.len());
+        let allowed = self.allowed(piece.len());
         let mut used = 0;
-        while used < room {
-            let (n, envelope) = match self.unit(&piece[used..room]) {
+        while used < allowed {
+            let (n, envelope) = match self.unit(&piece[used..allowed]) {
                 Ok(answer) => answer,
                 Err(fault) => return Err(self.fail(fault)),
             };
@@ -147,7 +147,7 @@ impl<'s> DocumentReader<'s> {
     }
 
     // How many of so many bytes are within the session quota.
-    fn room(&self, len: usize) -> usize
+    fn allowed(&self, len: usize) -> usize
         ensures within { result ≤ len }
         ensures fits { self.now.taken + result ≤ self.now.quotas.session }
         ensures full { result < len → self.now.quotas.session ≤ self.now.taken + result }

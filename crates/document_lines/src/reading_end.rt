@@ -51,7 +51,7 @@ impl<'s> ReadingEnd for DocumentReader<'s> {
         false
     }
 
-    fn hand_back(&mut self, event: Envelope) {
+    fn recycle(&mut self, event: Envelope) {
         self.reuse(event);
     }
 }

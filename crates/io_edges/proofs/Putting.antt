@@ -1,11 +1,12 @@
 -- Puts, one behind the other.
-use Rattle.std.proofs.Common.{◌≡◌, ℕ, ◌+◌, ◌≤◌, min, Bool, true, List, [], ◌++◌, length, take, OnOk}
-use Rattle.std.proofs.Common.{OnErr, Some, None, Ok, Err, Option, Result, IsErrOf, sym, refl, ap}
+use Rattle.std.proofs.Common.{◌≡◌, ℕ, ◌+◌, ◌≤◌, min, true, false, List, [], ◌++◌, length, take}
+use Rattle.std.proofs.Common.{Some, None, Ok, Err, Option, Result, IsErrOf, IsOk, sym, refl, ap}
 use Rattle.std.proofs.Common.{◌∙◌, subst, inl, inr, append_assoc, append-nil, arith, take_all}
 use Rattle.std.proofs.Math.Seq.{take-append-add, take-append_seam}
 use Rattle.std.proofs.lemmas.{Bool.cases_lt, List.take-append-le}
 use Rattle.io_edges.specs.declared.SinkFault.{SinkFault, TheVariants.Failed, TheVariants.Memory}
-use Rattle.io_edges.specs.{Faults.CountsFaults, Faults.Rose, Puts.PutsAll, Puts.PutsSome}
+use Rattle.io_edges.specs.{Faults.CountsFaults, Faults.Rose, Gathering.with_room, Puts.Puts}
+use Rattle.io_edges.specs.{Puts.PutsSome, Views.HoldsNothing, Views.SinkView}
 use Rattle.io_edges.specs.Flow.{GrowsByPrefix, Passes, Told}
 
 -- what a call counts that didn't fail, and one behind it
@@ -33,16 +34,23 @@ passes_nothing : (w : Option (List ℕ)) (h : List ℕ) → Told w w (λ w w'. P
 passes_nothing None h = tt
 passes_nothing (Some w) h = record { put = []; split = append-nil h; grown = sym (append-nil w) }
 
-pub PutsAll-nothing : (w : Option (List ℕ)) (h : List ℕ) (f : ℕ) (m : Bool) → PutsAll [] (Ok tt) w w
-    h h f f m m
-PutsAll-nothing w h f m = record {
-  written = passes_nothing w h;
+pub Puts-nothing : (k : SinkView) → Puts k k [] (Ok tt)
+Puts-nothing k = record {
+  written = passes_nothing k.written k.held;
   refused = tt;
   dropped = tt;
-  counted = nothing_counted f no_fault;
-  wanted = λ e. cc;
-  settled = refl;
+  unheld = λ plain. plain.1;
+  counted = nothing_counted k.faults no_fault;
+  memory = λ e. cc;
+  same_memory = refl;
+  same_holding = refl;
 }
+
+-- a call that leaves a sink as it was has put nothing
+pub Puts-kept : (k : SinkView) (result : Result (Unit {0}) SinkFault) → IsOk result
+    → Puts k k [] result
+Puts-kept k (Ok u) ok = Puts-nothing k
+Puts-kept k (Err fault) ok = let never : false ≡ true = ok in cc
 
 -- one behind the other
 passes_then : (a b h h1 h2 : List ℕ) (w w1 w2 : Option (List ℕ))
@@ -96,101 +104,62 @@ prefix_longer a b (Some w) (Some v) p = record {
   grown = p.grown ∙ ap (λ l. w ++ l) (shorter_take a b p.kept);
 }
 
-pub PutsAll-then : {a b : List ℕ} (result : Result (Unit {0}) SinkFault) {w w1 w2 : Option (List ℕ)}
-    {h h1 h2 : List ℕ} {f f1 f2 : ℕ} {m m1 m2 : Bool}
-    → PutsAll a (Ok tt) w w1 h h1 f f1 m m1 → PutsAll b result w1 w2 h1 h2 f1 f2 m1 m2
-    → PutsAll (a ++ b) result w w2 h h2 f f2 m m2
-PutsAll-then {a = a} {b = b} (Ok u) {w = w} {w1 = w1} {w2 = w2} {h = h} {h1 = h1} {h2 = h2} p q =
-    record {
-      written = passes_then a b h h1 h2 w w1 w2 p.written q.written;
-      refused = tt;
-      dropped = tt;
-      counted = counted_then no_fault p.counted q.counted;
-      wanted = λ e. cc;
-      settled = q.settled ∙ p.settled;
-    }
-PutsAll-then {a = a} {b = b} (Err fault) {w = w} {w1 = w1} {w2 = w2} {h = h} {h1 = h1} p q = record {
-  written = tt;
-  refused = cut_then a b h h1 w w1 w2 p.written q.refused;
-  dropped = q.dropped;
+pub Puts-then : {a b : List ℕ} (result : Result (Unit {0}) SinkFault) {k k1 k2 : SinkView}
+    → Puts k k1 a (Ok tt) → Puts k1 k2 b result → Puts k k2 (a ++ b) result
+Puts-then {a = a} {b = b} (Ok u) {k = k} {k1 = k1} {k2 = k2} p q = record {
+  written = passes_then a b k.held k1.held k2.held k.written k1.written k2.written p.written
+      q.written;
+  refused = tt;
+  dropped = tt;
+  unheld = λ plain. q.unheld (p.same_holding ∙ plain.0, p.unheld plain);
   counted = counted_then no_fault p.counted q.counted;
-  wanted = λ e. sym p.settled ∙ q.wanted e;
-  settled = q.settled ∙ p.settled;
+  memory = λ e. cc;
+  same_memory = q.same_memory ∙ p.same_memory;
+  same_holding = q.same_holding ∙ p.same_holding;
+}
+Puts-then {a = a} {b = b} (Err fault) {k = k} {k1 = k1} {k2 = k2} p q = record {
+  written = tt;
+  refused = cut_then a b k.held k1.held k.written k1.written k2.written p.written q.refused;
+  dropped = q.dropped;
+  unheld = λ plain. q.dropped;
+  counted = counted_then no_fault p.counted q.counted;
+  memory = λ e. sym p.same_memory ∙ q.memory e;
+  same_memory = q.same_memory ∙ p.same_memory;
+  same_holding = q.same_holding ∙ p.same_holding;
 }
 
 -- what was cut short is cut short of more
-pub PutsAll-cut : {a : List ℕ} (b : List ℕ) {e : SinkFault} {w w1 : Option (List ℕ)} {h h1 : List ℕ}
-    {f f1 : ℕ} {m m1 : Bool}
-    → PutsAll a (Err e) w w1 h h1 f f1 m m1 → PutsAll (a ++ b) (Err e) w w1 h h1 f f1 m m1
-PutsAll-cut {a = a} b {w = w} {w1 = w1} {h = h} p = record {
+pub Puts-cut : {a : List ℕ} (b : List ℕ) {e : SinkFault} {k k1 : SinkView} → Puts k k1 a (Err e)
+    → Puts k k1 (a ++ b) (Err e)
+Puts-cut {a = a} b {k = k} {k1 = k1} p = record {
   written = tt;
-  refused = subst (λ l. Told w w1 (λ w w'. GrowsByPrefix w w' l)) (append_assoc h a b)
-      (prefix_longer (h ++ a) b w w1 p.refused);
+  refused = subst (λ l. Told k.written k1.written (λ w w'. GrowsByPrefix w w' l))
+      (append_assoc k.held a b) (prefix_longer (k.held ++ a) b k.written k1.written p.refused);
   dropped = p.dropped;
+  unheld = p.unheld;
   counted = p.counted;
-  wanted = p.wanted;
-  settled = p.settled;
+  memory = p.memory;
+  same_memory = p.same_memory;
+  same_holding = p.same_holding;
 }
+
+-- with an empty room a sink holds what it held
+unfilled : (k k1 : SinkView) → HoldsNothing (with_room [] k) → k1.held ++ [] ≡ []
+unfilled k k1 plain = let never : true ≡ false = plain.0 in cc
 
 -- a put, beside a room in which nothing stands
-pub beside_no_room : {bytes : List ℕ} {result : Result (Unit {0}) SinkFault}
-    {w w1 : Option (List ℕ)} {h h1 : List ℕ} {f f1 : ℕ} {m m1 : Bool}
-    → PutsAll bytes result w w1 h h1 f f1 m m1 → PutsAll bytes result w w1 (h ++ []) (h1 ++ []) f f1
-    m m1
-beside_no_room {h = h} {h1 = h1} p = rw (append-nil h, append-nil h1) p
-
--- a flush is a put of no bytes that leaves nothing held
-flush_passes : (h : List ℕ) (w w1 : Option (List ℕ)) → Told w w1 (λ w w'. w' ≡ w ++ h)
-    → Told w w1 (λ w w'. Passes w w' h [] [])
-flush_passes h None w1 p = tt
-flush_passes h (Some w) None p = absurd p
-flush_passes h (Some w) (Some v) p = record { put = h; split = refl; grown = p }
-
-passes_all : (h : List ℕ) (w w1 : Option (List ℕ)) → Told w w1 (λ w w'. Passes w w' h [] [])
-    → Told w w1 (λ w w'. w' ≡ w ++ h)
-passes_all h None w1 p = tt
-passes_all h (Some w) None p = absurd p
-passes_all h (Some w) (Some v) p = p.grown ∙ ap (λ l. w ++ l)
-    (sym (append-nil p.put) ∙ sym p.split ∙ append-nil h)
-
-pub flush_puts : (result : Result (Unit {0}) SinkFault) {w w1 : Option (List ℕ)} {h h1 : List ℕ}
-    {f f1 : ℕ} {m m1 : Bool}
-    → OnOk result (Told w w1 (λ w w'. w' ≡ w ++ h))
-    → OnErr result (Told w w1 (λ w w'. GrowsByPrefix w w' h)) → h1 ≡ []
-    → CountsFaults f f1 (IsErrOf result Failed) → (IsErrOf result Memory → m ≡ true) → m1 ≡ m
-    → PutsAll [] result w w1 h h1 f f1 m m1
-flush_puts (Ok u) {w = w} {w1 = w1} {h = h} written refused emptied counted wanted settled = record {
-  written = rw emptied (flush_passes h w w1 written);
-  refused = tt;
-  dropped = tt;
-  counted = counted;
-  wanted = wanted;
-  settled = settled;
+pub beside_no_room : {bytes : List ℕ} {result : Result (Unit {0}) SinkFault} {k k1 : SinkView}
+    → Puts k k1 bytes result → Puts (with_room [] k) (with_room [] k1) bytes result
+beside_no_room {k = k} {k1 = k1} p = record {
+  written = rw (append-nil k.held, append-nil k1.held) p.written;
+  refused = rw (append-nil k.held) p.refused;
+  dropped = rw (append-nil k1.held) p.dropped;
+  unheld = unfilled k k1;
+  counted = p.counted;
+  memory = p.memory;
+  same_memory = p.same_memory;
+  same_holding = refl;
 }
-flush_puts (Err fault) {w = w} {w1 = w1} {h = h} written refused emptied counted wanted settled =
-    record {
-      written = tt;
-      refused = rw append-nil refused;
-      dropped = emptied;
-      counted = counted;
-      wanted = wanted;
-      settled = settled;
-    }
-
-pub flush_written : (result : Result (Unit {0}) SinkFault) {w w1 : Option (List ℕ)} {h h1 : List ℕ}
-    {f f1 : ℕ} {m m1 : Bool}
-    → PutsAll [] result w w1 h h1 f f1 m m1 → h1 ≡ []
-    → OnOk result (Told w w1 (λ w w'. w' ≡ w ++ h))
-flush_written (Ok u) {w = w} {w1 = w1} {h = h} p emptied = passes_all h w w1
-    (rw emptied at p.written)
-flush_written (Err fault) p emptied = tt
-
-pub flush_refused : (result : Result (Unit {0}) SinkFault) {w w1 : Option (List ℕ)} {h h1 : List ℕ}
-    {f f1 : ℕ} {m m1 : Bool}
-    → PutsAll [] result w w1 h h1 f f1 m m1
-    → OnErr result (Told w w1 (λ w w'. GrowsByPrefix w w' h))
-flush_refused (Ok u) p = tt
-flush_refused (Err fault) p = rw append-nil at p.refused
 
 counted_for : (f f1 : ℕ) {P Q : Type 0} → CountsFaults f f1 P → (Q → P) → (P → Q)
     → CountsFaults f f1 Q
@@ -206,64 +175,69 @@ error_of : {A : Type 0} (fault other : SinkFault) (a : Result A SinkFault) → a
 error_of fault other a is also = cc
 
 -- a put in parts is one of the bytes that it took, or of none
-pub some_taken : {bytes : List ℕ} {n : ℕ} {w w1 : Option (List ℕ)} {h h1 : List ℕ} {f f1 : ℕ}
-    {m m1 : Bool} → PutsSome bytes (Ok n) w w1 h h1 f f1 m m1
-    → PutsAll (take n bytes) (Ok tt) w w1 h h1 f f1 m m1
-some_taken {f = f} {f1 = f1} p = record {
+pub some_taken : {bytes : List ℕ} {n : ℕ} {k k1 : SinkView} → PutsSome k k1 bytes (Ok n)
+    → Puts k k1 (take n bytes) (Ok tt)
+some_taken {k = k} {k1 = k1} p = record {
   written = p.written;
   refused = tt;
   dropped = tt;
-  counted = counted_for f f1 p.counted (λ e. cc) (λ e. cc);
-  wanted = λ e. cc;
-  settled = p.settled;
+  unheld = p.unheld;
+  counted = counted_for k.faults k1.faults p.counted (λ e. cc) (λ e. cc);
+  memory = λ e. cc;
+  same_memory = p.same_memory;
+  same_holding = p.same_holding;
 }
 
-pub none_taken : {bytes : List ℕ} {fault : SinkFault} {w w1 : Option (List ℕ)} {h h1 : List ℕ}
-    {f f1 : ℕ} {m m1 : Bool} → PutsSome bytes (Err fault) w w1 h h1 f f1 m m1
-    → PutsAll [] (Err fault) w w1 h h1 f f1 m m1
-none_taken {fault = fault} {f = f} {f1 = f1} p = record {
+pub none_taken : {bytes : List ℕ} {fault : SinkFault} {k k1 : SinkView}
+    → PutsSome k k1 bytes (Err fault) → Puts k k1 [] (Err fault)
+none_taken {fault = fault} {k = k} {k1 = k1} p = record {
   written = tt;
   refused = rw append-nil p.refused;
   dropped = p.dropped;
-  counted = counted_for f f1 p.counted (λ e. ap Err (error_of fault Failed (Err fault) refl e))
+  unheld = p.unheld;
+  counted = counted_for k.faults k1.faults p.counted
+      (λ e. ap Err (error_of fault Failed (Err fault) refl e))
       (λ e. ap Err (error_of fault Failed (Err fault) refl e));
-  wanted = λ e. p.wanted (ap Err (error_of fault Memory (Err fault) refl e));
-  settled = p.settled;
+  memory = λ e. p.memory (ap Err (error_of fault Memory (Err fault) refl e));
+  same_memory = p.same_memory;
+  same_holding = p.same_holding;
 }
 
-some_of : {bytes : List ℕ} {n : ℕ} {w w1 : Option (List ℕ)} {h h1 : List ℕ} {f f1 : ℕ}
-    {m m1 : Bool} → PutsAll (take n bytes) (Ok tt) w w1 h h1 f f1 m m1
-    → PutsSome bytes (Ok n) w w1 h h1 f f1 m m1
-some_of {f = f} {f1 = f1} p = record {
+some_of : {bytes : List ℕ} {n : ℕ} {k k1 : SinkView} → Puts k k1 (take n bytes) (Ok tt)
+    → PutsSome k k1 bytes (Ok n)
+some_of {k = k} {k1 = k1} p = record {
   written = p.written;
   refused = tt;
   dropped = tt;
-  counted = counted_for f f1 p.counted (λ e. cc) (λ e. cc);
-  wanted = λ e. cc;
-  settled = p.settled;
+  unheld = p.unheld;
+  counted = counted_for k.faults k1.faults p.counted (λ e. cc) (λ e. cc);
+  memory = λ e. cc;
+  same_memory = p.same_memory;
+  same_holding = p.same_holding;
 }
 
-pub none_of : {bytes : List ℕ} {fault : SinkFault} {w w1 : Option (List ℕ)} {h h1 : List ℕ}
-    {f f1 : ℕ} {m m1 : Bool} → PutsAll [] (Err fault) w w1 h h1 f f1 m m1
-    → PutsSome bytes (Err fault) w w1 h h1 f f1 m m1
-none_of {fault = fault} {f = f} {f1 = f1} p = record {
+pub none_of : {bytes : List ℕ} {fault : SinkFault} {k k1 : SinkView} → Puts k k1 [] (Err fault)
+    → PutsSome k k1 bytes (Err fault)
+none_of {fault = fault} {k = k} {k1 = k1} p = record {
   written = tt;
   refused = rw append-nil at p.refused;
   dropped = p.dropped;
-  counted = counted_for f f1 p.counted (λ e. ap Err (error_of fault Failed (Err fault) refl e))
+  unheld = p.unheld;
+  counted = counted_for k.faults k1.faults p.counted
+      (λ e. ap Err (error_of fault Failed (Err fault) refl e))
       (λ e. ap Err (error_of fault Failed (Err fault) refl e));
-  wanted = λ e. p.wanted (ap Err (error_of fault Memory (Err fault) refl e));
-  settled = p.settled;
+  memory = λ e. p.memory (ap Err (error_of fault Memory (Err fault) refl e));
+  same_memory = p.same_memory;
+  same_holding = p.same_holding;
 }
 
 -- a put in parts behind what stood in a room, in which nothing stands then
-pub some_behind : {bytes : List ℕ} (h room : List ℕ) (result : Result ℕ SinkFault)
-    {w w1 w2 : Option (List ℕ)} {h1 h2 : List ℕ} {f f1 f2 : ℕ} {m m1 m2 : Bool}
-    → PutsAll [] (Ok tt) w w1 (h ++ room) (h1 ++ []) f f1 m m1
-    → PutsSome bytes result w1 w2 h1 h2 f1 f2 m1 m2
-    → PutsSome bytes result w w2 (h ++ room) (h2 ++ []) f f2 m m2
-some_behind {bytes = bytes} h room (Ok n) before p =
-    some_of (PutsAll-then {a = []} {b = take n bytes} (Ok tt) before
+pub some_behind : {bytes : List ℕ} (k : SinkView) (room : List ℕ) (result : Result ℕ SinkFault)
+    {k1 k2 : SinkView}
+    → Puts (with_room room k) (with_room [] k1) [] (Ok tt) → PutsSome k1 k2 bytes result
+    → PutsSome (with_room room k) (with_room [] k2) bytes result
+some_behind {bytes = bytes} k room (Ok n) before p =
+    some_of (Puts-then {a = []} {b = take n bytes} (Ok tt) before
     (beside_no_room (some_taken p)))
-some_behind h room (Err fault) before p =
-    none_of (PutsAll-then {a = []} {b = []} (Err fault) before (beside_no_room (none_taken p)))
+some_behind k room (Err fault) before p =
+    none_of (Puts-then {a = []} {b = []} (Err fault) before (beside_no_room (none_taken p)))

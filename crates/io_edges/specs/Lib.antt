@@ -9,4 +9,5 @@ pub mod Puts
 pub mod Store
 pub mod Plan
 pub mod Tcp
+pub mod Views
 pub mod Wires

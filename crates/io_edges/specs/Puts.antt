@@ -1,47 +1,46 @@
 -- What is put to a sink, in one call or in several.
-use Rattle.std.specs.Prelude.{◌≡◌, ℕ, Bool, true, List, [], ◌++◌, take, IfOk, OnOk, OnErr, Option}
+use Rattle.std.specs.Prelude.{◌≡◌, ℕ, true, List, [], ◌++◌, take, IfOk, OnOk, OnErr}
 use Rattle.std.specs.Prelude.{Result, IsErrOf}
 use Rattle.io_edges.specs.declared.SinkFault.{SinkFault, TheVariants.Failed, TheVariants.Memory}
 use Rattle.io_edges.specs.{Faults.CountsFaults, Flow.GrowsByPrefix, Flow.Passes, Flow.Told}
+use Rattle.io_edges.specs.{Gathering.with_room, Views.HoldsNothing, Views.SinkView}
 
--- the bytes were put as one put of them puts them: of a sink that tells what was written, what it
--- holds, its count of faults, and whether a call of it may want memory, each before and now
-pub record PutsAll (bytes : List ℕ) (result : Result (Unit {0}) SinkFault)
-    (w w' : Option (List ℕ)) (h h' : List ℕ) (f f' : ℕ) (m m' : Bool) : Type 0 where
-  pub written : OnOk result (Told w w' (λ w w'. Passes w w' h h' bytes))
-  pub refused : OnErr result (Told w w' (λ w w'. GrowsByPrefix w w' (h ++ bytes)))
-  pub dropped : OnErr result (h' ≡ [])
-  pub counted : CountsFaults f f' (IsErrOf result Failed)
-  pub wanted : IsErrOf result Memory → m ≡ true
-  pub settled : m' ≡ m
-
--- the same of a sink that was like this and is like that now, by what it tells
-abbrev pub Puts : {S : Type 0} → (S → Option (List ℕ)) → (S → List ℕ) → (S → ℕ) → (S → Bool)
-    → S → S → List ℕ → Result (Unit {0}) SinkFault → Type 0
-Puts written held faults may_want old new bytes result =
-    PutsAll bytes result (written old) (written new) (held old) (held new)
-    (faults old) (faults new) (may_want old) (may_want new)
-
--- bytes were added behind those in a room, which stand behind what such a sink holds
-abbrev pub Adds : {S : Type 0} → (S → Option (List ℕ)) → (S → List ℕ) → (S → ℕ) → (S → Bool)
-    → S → S → (room room' : List ℕ) → List ℕ → Result (Unit {0}) SinkFault → Type 0
-Adds written held faults may_want old new room room' bytes result =
-    PutsAll bytes result (written old) (written new) (held old ++ room) (held new ++ room')
-    (faults old) (faults new) (may_want old) (may_want new)
+-- the bytes were put to a sink that was like the old one, as one put of them puts them, and it is
+-- like the new one now
+pub record Puts (old new : SinkView) (bytes : List ℕ) (result : Result (Unit {0}) SinkFault)
+    : Type 0 where
+  pub written : OnOk result (Told old.written new.written
+      (λ w w'. Passes w w' old.held new.held bytes))
+  pub refused : OnErr result (Told old.written new.written
+      (λ w w'. GrowsByPrefix w w' (old.held ++ bytes)))
+  pub dropped : OnErr result (new.held ≡ [])
+  pub unheld : HoldsNothing old → new.held ≡ []
+  pub counted : CountsFaults old.faults new.faults (IsErrOf result Failed)
+  pub memory : IsErrOf result Memory → old.may_run_out ≡ true
+  pub same_memory : new.may_run_out ≡ old.may_run_out
+  pub same_holding : new.may_hold ≡ old.may_hold
 
 -- first bytes of these were put as one put of them puts them; or none, and the call failed
-pub record PutsSome (bytes : List ℕ) (result : Result ℕ SinkFault) (w w' : Option (List ℕ))
-    (h h' : List ℕ) (f f' : ℕ) (m m' : Bool) : Type 0 where
-  pub written : IfOk result (λ n. Told w w' (λ w w'. Passes w w' h h' (take n bytes)))
-  pub refused : OnErr result (Told w w' (λ w w'. GrowsByPrefix w w' h))
-  pub dropped : OnErr result (h' ≡ [])
-  pub counted : CountsFaults f f' (IsErrOf result Failed)
-  pub wanted : IsErrOf result Memory → m ≡ true
-  pub settled : m' ≡ m
+pub record PutsSome (old new : SinkView) (bytes : List ℕ) (result : Result ℕ SinkFault) : Type 0
+  where
+    pub written : IfOk result (λ n. Told old.written new.written
+        (λ w w'. Passes w w' old.held new.held (take n bytes)))
+    pub refused : OnErr result (Told old.written new.written (λ w w'. GrowsByPrefix w w' old.held))
+    pub dropped : OnErr result (new.held ≡ [])
+    pub unheld : HoldsNothing old → new.held ≡ []
+    pub counted : CountsFaults old.faults new.faults (IsErrOf result Failed)
+    pub memory : IsErrOf result Memory → old.may_run_out ≡ true
+    pub same_memory : new.may_run_out ≡ old.may_run_out
+    pub same_holding : new.may_hold ≡ old.may_hold
 
--- the same of bytes that were added behind those in a room
-abbrev pub AddsSome : {S : Type 0} → (S → Option (List ℕ)) → (S → List ℕ) → (S → ℕ) → (S → Bool)
-    → S → S → (room room' : List ℕ) → List ℕ → Result ℕ SinkFault → Type 0
-AddsSome written held faults may_want old new room room' bytes result =
-    PutsSome bytes result (written old) (written new) (held old ++ room) (held new ++ room')
-    (faults old) (faults new) (may_want old) (may_want new)
+-- bytes were added behind those in a room, which stand behind what such a sink holds
+abbrev pub Adds : (old new : SinkView) → (room room' : List ℕ) → List ℕ
+    → Result (Unit {0}) SinkFault → Type 0
+Adds old new room room' bytes result =
+    Puts (with_room room old) (with_room room' new) bytes result
+
+-- first bytes of these were added so
+abbrev pub AddsSome : (old new : SinkView) → (room room' : List ℕ) → List ℕ → Result ℕ SinkFault
+    → Type 0
+AddsSome old new room room' bytes result =
+    PutsSome (with_room room old) (with_room room' new) bytes result

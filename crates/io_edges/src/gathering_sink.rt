@@ -1,6 +1,7 @@
 //! A sink that gathers what is put to it, and passes it on by few calls.
 
 ghost use Rattle.std.specs.Prelude.{◌≡◌, ◌≤◌, ◌<◌, ◌+◌, ◌++◌, [], length, take, true, vec_len, IfOk, IsOk, OnErr};
+ghost use Rattle.io_edges.specs.Gathering.{with_room};
 ghost use Rattle.io_edges.specs.Puts.{Adds, AddsSome};
 
 use crate::{Sink, SinkFault};
@@ -35,8 +36,7 @@ fn keep(bytes: &[u8], room: &mut [u8], used: &mut usize)
 // empty then, also where the put fails.
 fn put_gathered<K: Sink>(room: &[u8], used: &mut usize, sink: &mut K) -> Result<(), SinkFault>
     requires { used.old ≤ length room.now }
-    ensures puts { Adds K.written K.held K.faults K.may_want sink.old sink.new
-        (take used.old room.now) [] [] result }
+    ensures puts { Adds (K.view sink.old) (K.view sink.new) (take used.old room.now) [] [] result }
     ensures emptied { used.new ≡ 0 }
     ensures same_end { K.ended sink.new ≡ K.ended sink.old }
 {
@@ -57,7 +57,7 @@ fn gather_anew<K: Sink>(
     sink: &mut K,
 ) -> Result<(), SinkFault>
     requires { used.old ≤ length room.old }
-    ensures adds { Adds K.written K.held K.faults K.may_want sink.old sink.new
+    ensures adds { Adds (K.view sink.old) (K.view sink.new)
         (take used.old room.old) (take used.new room.new) bytes.now result }
     ensures within { used.new ≤ length room.new }
     ensures room { length room.new ≡ length room.old }
@@ -82,7 +82,7 @@ fn gather_some<K: Sink>(
     requires { used.old ≤ length room.old }
     ensures within { IfOk result (λ n. n ≤ length bytes.now) }
     ensures some { IfOk result (λ n. 0 < length bytes.now → 0 < n) }
-    ensures adds { AddsSome K.written K.held K.faults K.may_want sink.old sink.new
+    ensures adds { AddsSome (K.view sink.old) (K.view sink.new)
         (take used.old room.old) (take used.new room.new) bytes.now result }
     ensures used { used.new ≤ length room.new }
     ensures room { length room.new ≡ length room.old }
@@ -151,19 +151,13 @@ impl<K: Sink> GatheringSink<K> {
 }
 
 impl<K: Sink> Sink for GatheringSink<K> {
-    ghost written = { λ s. K.written s.sink };
-
-    ghost held = { λ s. K.held s.sink ++ s.gathered };
-
-    ghost faults = { λ s. K.faults s.sink };
-
-    ghost may_want = { λ s. K.may_want s.sink };
+    ghost view = { λ s. with_room s.gathered (K.view s.sink) };
 
     ghost ended = { λ s. K.ended s.sink };
 
     #[inline(always)]
     fn put(&mut self, bytes: &[u8]) -> Result<(), SinkFault>
-        ensures adds { Adds K.written K.held K.faults K.may_want self.old.sink self.new.sink
+        ensures adds { Adds (K.view self.old.sink) (K.view self.new.sink)
             self.old.gathered self.new.gathered bytes.now result }
         ensures fits { length self.old.gathered + length bytes.now ≤ self.old.room → IsOk result
             × (self.new.sink ≡ self.old.sink)
@@ -182,7 +176,7 @@ impl<K: Sink> Sink for GatheringSink<K> {
     fn put_some(&mut self, bytes: &[u8]) -> Result<usize, SinkFault>
         ensures within { IfOk result (λ n. n ≤ length bytes.now) }
         ensures some { IfOk result (λ n. 0 < length bytes.now → 0 < n) }
-        ensures adds { AddsSome K.written K.held K.faults K.may_want self.old.sink self.new.sink
+        ensures adds { AddsSome (K.view self.old.sink) (K.view self.new.sink)
             self.old.gathered self.new.gathered bytes.now result }
         ensures room { self.new.room ≡ self.old.room }
         ensures same_end { K.ended self.new.sink ≡ K.ended self.old.sink }
@@ -195,9 +189,9 @@ impl<K: Sink> Sink for GatheringSink<K> {
     }
 
     fn flush(&mut self) -> Result<(), SinkFault>
-        ensures adds { Adds K.written K.held K.faults K.may_want self.old.sink self.new.sink
+        ensures adds { Adds (K.view self.old.sink) (K.view self.new.sink)
             self.old.gathered self.new.gathered [] result }
-        ensures emptied { K.held self.new.sink ++ self.new.gathered ≡ [] }
+        ensures emptied { (K.view self.new.sink).held ++ self.new.gathered ≡ [] }
         ensures room { self.new.room ≡ self.old.room }
         ensures same_end { K.ended self.new.sink ≡ K.ended self.old.sink }
     {
@@ -207,10 +201,7 @@ impl<K: Sink> Sink for GatheringSink<K> {
 
     fn end(&mut self)
         ensures ended { K.ended self.new.sink ≡ true }
-        ensures written { K.written self.new.sink ≡ K.written self.old.sink }
-        ensures held { K.held self.new.sink ≡ K.held self.old.sink }
-        ensures counted { K.faults self.new.sink ≡ K.faults self.old.sink }
-        ensures settled { K.may_want self.new.sink ≡ K.may_want self.old.sink }
+        ensures kept { K.view self.new.sink ≡ K.view self.old.sink }
         ensures gathered { self.new.gathered ≡ self.old.gathered }
         ensures room { self.new.room ≡ self.old.room }
     {

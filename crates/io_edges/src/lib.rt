@@ -24,17 +24,19 @@
 //! How often the outside was asked is counted too, where asking twice can be seen: the takes that
 //! gave nothing, and the files that were fetched.
 //!
-//! The definitions are in `specs/`: `Faults` has the count, `Flow` what moves at a call, `Puts`
-//! what several puts leave, `Store` what a shelf holds, `Files` what is read of one of its files,
-//! `Wires` what a wire hands out and closes, `Plan` and `InMemory` what the implementations in
-//! memory do call by call, `Gathering` what is seen of a sink that gathers, and `Adapters` and
-//! `Tcp` what is seen of the ones over std.
+//! The definitions are in `specs/`: `Faults` has the count, `Flow` what moves at a call, `Views` what
+//! is seen of a sink, `Puts` what one put or several leave of it, `Store` what a shelf holds,
+//! `Files` what is read of one of its files, `Wires` what a wire hands out and closes, `Plan` and
+//! `InMemory` what the implementations in memory do call by call, `Gathering` what is seen of a sink
+//! that gathers, and `Adapters` and `Tcp` what is seen of the ones over std.
 #![tactic(auto)]
 
 ghost use Rattle.std.specs.Prelude.{◌≡◌, ◌≤◌, ◌<◌, ℕ, List, [], ◌++◌, length, take, Bool, true, Option, IfSome, IfOk, OnOk, OnErr, IsErr, IsErrOf, ◌↔◌};
 ghost use Rattle.io_edges.specs.Faults.{CountsFaults, CountsOne, one_more};
-ghost use Rattle.io_edges.specs.Flow.{Told, Moves, GrowsByPrefix, Passes};
+ghost use Rattle.io_edges.specs.Flow.{Told, Moves};
+ghost use Rattle.io_edges.specs.Puts.{Puts, PutsSome};
 ghost use Rattle.io_edges.specs.Store.{Store};
+ghost use Rattle.io_edges.specs.Views.{SinkView};
 ghost use Rattle.std.specs.Option.{option_map};
 ghost use Rattle.std.specs.FinMap as finite;
 
@@ -120,17 +122,10 @@ pub enum SinkFault {
 /// Where bytes go. A sink may hold back what was put to it: such bytes are written in the order in
 /// which they were put, by later calls, and by a flush at the latest.
 pub trait Sink {
-    /// All that was written, where the sink shows its contents.
-    ghost written: { Self → Option (List ℕ) };
-
-    /// What was put and isn't written yet.
-    ghost held: { Self → List ℕ };
-
-    /// How many calls met an I/O error, up to 2^64 - 1.
-    ghost faults: { Self → ℕ };
-
-    /// Whether a call may run out of memory.
-    ghost may_want: { Self → Bool };
+    /// What is seen of it: what was written, where the sink shows its contents; what was put and
+    /// isn't written yet; how many calls met an I/O error, up to 2^64 - 1; and whether its calls
+    /// may hold bytes back, and may run out of memory, which no call changes.
+    ghost view: { Self → SinkView };
 
     /// Whether the direction was ended.
     ghost ended: { Self → Bool };
@@ -138,15 +133,7 @@ pub trait Sink {
     /// Takes the whole piece, to be written after what is held. On an error first bytes of both may
     /// have been written, and the others are dropped.
     fn put(&mut self, bytes: &[u8]) -> Result<(), SinkFault>
-        ensures written { OnOk result (Told (written self.old) (written self.new)
-            (λ w w'. Passes w w' (held self.old) (held self.new) bytes.now)) }
-        ensures refused { OnErr result (Told (written self.old) (written self.new)
-            (λ w w'. GrowsByPrefix w w' (held self.old ++ bytes.now))) }
-        ensures dropped { OnErr result (held self.new ≡ []) }
-        ensures counted { CountsFaults (faults self.old) (faults self.new)
-            (IsErrOf result SinkFault.Failed) }
-        ensures wanted { IsErrOf result SinkFault.Memory → may_want self.old ≡ true }
-        ensures settled { may_want self.new ≡ may_want self.old }
+        ensures puts { Puts (view self.old) (view self.new) bytes.now result }
         ensures same_end { ended self.new ≡ ended self.old };
 
     /// Takes first bytes of the piece, to be written after what is held, and answers how many: at
@@ -155,29 +142,14 @@ pub trait Sink {
     fn put_some(&mut self, bytes: &[u8]) -> Result<usize, SinkFault>
         ensures within { IfOk result (λ n. n ≤ length bytes.now) }
         ensures some { IfOk result (λ n. 0 < length bytes.now → 0 < n) }
-        ensures written { IfOk result (λ n. Told (written self.old) (written self.new)
-            (λ w w'. Passes w w' (held self.old) (held self.new) (take n bytes.now))) }
-        ensures refused { OnErr result (Told (written self.old) (written self.new)
-            (λ w w'. GrowsByPrefix w w' (held self.old))) }
-        ensures dropped { OnErr result (held self.new ≡ []) }
-        ensures counted { CountsFaults (faults self.old) (faults self.new)
-            (IsErrOf result SinkFault.Failed) }
-        ensures wanted { IsErrOf result SinkFault.Memory → may_want self.old ≡ true }
-        ensures settled { may_want self.new ≡ may_want self.old }
+        ensures puts { PutsSome (view self.old) (view self.new) bytes.now result }
         ensures same_end { ended self.new ≡ ended self.old };
 
     /// Writes what is held. On an error first bytes of it may have been written, and the others are
     /// dropped.
     fn flush(&mut self) -> Result<(), SinkFault>
-        ensures written { OnOk result (Told (written self.old) (written self.new)
-            (λ w w'. w' ≡ w ++ held self.old)) }
-        ensures refused { OnErr result (Told (written self.old) (written self.new)
-            (λ w w'. GrowsByPrefix w w' (held self.old))) }
-        ensures emptied { held self.new ≡ [] }
-        ensures counted { CountsFaults (faults self.old) (faults self.new)
-            (IsErrOf result SinkFault.Failed) }
-        ensures wanted { IsErrOf result SinkFault.Memory → may_want self.old ≡ true }
-        ensures settled { may_want self.new ≡ may_want self.old }
+        ensures puts { Puts (view self.old) (view self.new) [] result }
+        ensures emptied { (view self.new).held ≡ [] }
         ensures same_end { ended self.new ≡ ended self.old };
 
     /// Ends the direction, so that a peer that waits for more learns that no more comes. It is
@@ -186,10 +158,7 @@ pub trait Sink {
     /// has no peer does nothing else than to count as ended.
     fn end(&mut self)
         ensures ended { ended self.new ≡ true }
-        ensures written { written self.new ≡ written self.old }
-        ensures held { held self.new ≡ held self.old }
-        ensures counted { faults self.new ≡ faults self.old }
-        ensures settled { may_want self.new ≡ may_want self.old };
+        ensures kept { view self.new ≡ view self.old };
 }
 
 /// Why a shelf didn't say what it has under a name.

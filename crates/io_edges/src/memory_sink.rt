@@ -76,13 +76,13 @@ impl MemorySink {
 }
 
 impl Sink for MemorySink {
-    ghost written = { λ s. Some s.written };
-
-    ghost held = { λ _. [] };
-
-    ghost faults = { λ s. s.plan.faults };
-
-    ghost may_want = { λ _. true };
+    ghost view = { λ s. record {
+      written = Some s.written;
+      held = [];
+      faults = s.plan.faults;
+      may_hold = false;
+      may_run_out = true;
+    } };
 
     ghost ended = { λ s. s.ended };
 

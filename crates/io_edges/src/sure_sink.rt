@@ -1,6 +1,6 @@
 //! A sink in memory that meets no I/O error.
 
-ghost use Rattle.std.specs.Prelude.{◌≡◌, [], ◌++◌, true, length, Some, OnOk, IfOk, IsOk, IsOkUnless, OnErr};
+ghost use Rattle.std.specs.Prelude.{◌≡◌, [], ◌++◌, true, false, length, Some, OnOk, IfOk, IsOk, IsOkUnless, OnErr};
 
 use crate::{Sink, SinkFault};
 use std::alloc::Global;
@@ -40,13 +40,13 @@ impl SureSink {
 }
 
 impl Sink for SureSink {
-    ghost written = { λ s. Some s };
-
-    ghost held = { λ _. [] };
-
-    ghost faults = { λ _. 0 };
-
-    ghost may_want = { λ _. true };
+    ghost view = { λ s. record {
+      written = Some s;
+      held = [];
+      faults = 0;
+      may_hold = false;
+      may_run_out = true;
+    } };
 
     ghost ended = { λ _. true };
 

@@ -44,13 +44,13 @@ impl<S> TcpSink<S> {
 }
 
 impl<S: Write + OpenStream> Sink for TcpSink<S> {
-    ghost written = { λ _. None };
-
-    ghost held = { λ _. [] };
-
-    ghost faults = { λ s. sink_faults s };
-
-    ghost may_want = { λ _. false };
+    ghost view = { λ s. record {
+      written = None;
+      held = [];
+      faults = sink_faults s;
+      may_hold = false;
+      may_run_out = false;
+    } };
 
     ghost ended = { λ s. has_ended s };
 

@@ -48,8 +48,8 @@ pub trait Wire {
         ensures reader { IfOk result (λ found. IfSome found (λ ends.
             (Self.Reader.faults ends.0 ≡ 0) × Fresh (closed self.old) (Self.Reader.taken ends.0))) }
         ensures writer { IfOk result (λ found. IfSome found (λ ends.
-            (Self.Writer.faults ends.1 ≡ 0) × Fresh (closed self.old) (Self.Writer.written ends.1)
-            × (Self.Writer.held ends.1 ≡ []))) }
+            ((Self.Writer.view ends.1).faults ≡ 0) × Fresh (closed self.old) (Self.Writer.view ends.1).written
+            × ((Self.Writer.view ends.1).held ≡ []))) }
         ensures unended { IfOk result (λ found. IfSome found (λ ends.
             Self.Writer.ended ends.1 ≡ false)) }
         ensures counted { CountsFaults (faults self.old) (faults self.new) (IsErr result) }
@@ -69,8 +69,8 @@ pub trait Wire {
         ensures reader { IfOk result (λ ends.
             (Self.Reader.faults ends.0 ≡ 0) × Fresh (closed self.old) (Self.Reader.taken ends.0)) }
         ensures writer { IfOk result (λ ends.
-            (Self.Writer.faults ends.1 ≡ 0) × Fresh (closed self.old) (Self.Writer.written ends.1)
-            × (Self.Writer.held ends.1 ≡ [])) }
+            ((Self.Writer.view ends.1).faults ≡ 0) × Fresh (closed self.old) (Self.Writer.view ends.1).written
+            × ((Self.Writer.view ends.1).held ≡ [])) }
         ensures unended { IfOk result (λ ends. Self.Writer.ended ends.1 ≡ false) }
         ensures counted { CountsFaults (faults self.old) (faults self.new) (IsErr result) }
         ensures ended { (closed self.new ≡ closed self.old)
@@ -80,11 +80,11 @@ pub trait Wire {
     fn close(&mut self, reader: Self::Reader, writer: Self::Writer)
         requires { 0 < out self.old }
         ensures closed { Told (closed self.old) (closed self.new) (λ c c'.
-            IfSome (Self.Reader.taken reader) (λ t. IfSome (Self.Writer.written writer) (λ w.
+            IfSome (Self.Reader.taken reader) (λ t. IfSome (Self.Writer.view writer).written (λ w.
             c' ≡ c ++ (t, w) ∷ []))) }
         ensures out { out self.old ≡ out self.new + 1 }
         ensures waiting { waiting self.new ≡ waiting self.old }
         ensures counted { end_faults self.new ≡ added_up (end_faults self.old)
-            (Self.Reader.faults reader) (Self.Writer.faults writer) }
+            (Self.Reader.faults reader) (Self.Writer.view writer).faults }
         ensures faults { faults self.new ≡ faults self.old };
 }

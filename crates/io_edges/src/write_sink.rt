@@ -65,13 +65,13 @@ impl<W> WriteSink<W> {
 }
 
 impl<W: Write> Sink for WriteSink<W> {
-    ghost written = { λ _. None };
-
-    ghost held = { λ _. [] };
-
-    ghost faults = { λ s. write_faults s };
-
-    ghost may_want = { λ _. false };
+    ghost view = { λ s. record {
+      written = None;
+      held = [];
+      faults = write_faults s;
+      may_hold = false;
+      may_run_out = false;
+    } };
 
     ghost ended = { λ _. true };
 

@@ -62,9 +62,12 @@ pub fn tables<'a>(
 }
 
 /// Writes the payload of a document into the buffer, in place of what it holds, and reads it at the
-/// other end, which gives the document. Both ends have the same session strings afterwards. A
-/// document that doesn't fit is refused as [`Encoder::encode`] does, and then nothing changes; the
-/// reader refuses none.
+/// other end, which gives the document. Both ends have the same session strings afterwards.
+///
+/// It fails with `Unsent` where the writer does, for a document that doesn't fit or without memory,
+/// as [`Encoder::encode`] says, and then both ends are as before. It fails with `Memory` where the
+/// reader has none: that one fails from then on, and the writer has the strings of the document.
+/// The reader refuses no document.
 pub fn carry(
     encoder: &mut Encoder<'_>,
     decoder: &mut Decoder<'_>,

@@ -7,11 +7,12 @@ use Rattle.string_tables.specs.{SessionStrings.used_cost, StaticStrings.Entry}
 use Rattle.nbfx_values.specs.{declared.content.Item.Item, Limits.Limits}
 use Rattle.nbfx_encoder.specs.{Envelopes.UnfitAt, Placing.Placed}
 use Rattle.stream_reader.specs.{Judging.offence, Stream.any_initiators}
-use Rattle.{stream_loop.specs.Edges.Output, session_generator.specs.Generated.session_of}
+use Rattle.{session_generator.specs.Generated.session_of}
 use Rattle.session_report.specs.Report.{line, string_words}
 use Rattle.session_generator.specs.{declared.summary.Summary.Summary, Ends.IsTooLong}
 use Rattle.session_generator.specs.declared.summary.Summary.TheVariants.{Memory, TooLong}
 use Rattle.session_generator.specs.declared.summary.Summary.TheVariants.{WriteFault, Written}
+use Rattle.io_edges.specs.Views.{SinkView}
 
 -- how many documents and bytes a session has, and how many strings it leaves, of which cost
 abbrev pub summary_line : (documents bytes strings used : ℕ) → List ℕ
@@ -39,7 +40,7 @@ pub record IsWithinQuota (limits : Limits) (statics : List Entry) (documents : L
 
 -- the session is within the session quota, and the line is written, behind what was held; or it
 -- isn't, since the session is longer; or, where the writing ended before, first bytes of it are
-abbrev pub Writes : Limits → List Entry → List (List Item) → (o o' : Output) → Summary → Type 0
+abbrev pub Writes : Limits → List Entry → List (List Item) → (o o' : SinkView) → Summary → Type 0
 Writes limits statics documents o o' Written =
     IsWithinQuota limits statics documents × Told o.written o'.written
     (λ w w'. w' ≡ w ++ o.held ++ summary_of limits statics documents)
@@ -50,7 +51,7 @@ Writes limits statics documents o o' summary = Told o.written o'.written
 
 -- that, and what calls that failed by the outside left of the output's count
 pub record Summarizes (limits : Limits) (statics : List Entry) (documents : List (List Item))
-    (o o' : Output) (summary : Summary) : Type 0 where
+    (o o' : SinkView) (summary : Summary) : Type 0 where
   pub writes : Writes limits statics documents o o' summary
   pub counted : CountsFaults o.faults o'.faults (summary ≡ WriteFault)
 

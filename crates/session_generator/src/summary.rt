@@ -3,7 +3,6 @@
 ghost use Rattle.std.specs.Prelude.{◌≡◌, [], OnOk};
 ghost use Rattle.io_edges.specs.Puts.{Puts};
 ghost use Rattle.nbfx_values.specs.QuotasOf.{limits_of};
-ghost use Rattle.stream_loop.specs.Edges.{output_at};
 ghost use Rattle.session_generator.specs.Documents.{documents};
 ghost use Rattle.session_generator.specs.Summary.{Summarizes, status_of, summary_line};
 ghost use Rattle.session_generator.specs.Measuring.{Measures, line_of, summary_by};
@@ -59,8 +58,7 @@ pub struct Measured {
 
 // Puts the line of a session that measures this.
 fn put_measured<O: Sink>(measured: Measured, output: &mut O) -> Result<(), SinkFault>
-    ensures { Puts O.written O.held O.faults O.may_want output.old output.new (line_of measured)
-        result }
+    ensures { Puts (O.view output.old) (O.view output.new) (line_of measured) result }
 {
     let words = [
         Word::Plain("documents"),
@@ -77,9 +75,8 @@ fn put_measured<O: Sink>(measured: Measured, output: &mut O) -> Result<(), SinkF
 
 // Puts it, and writes what the output holds.
 fn put_summary<O: Sink>(measured: Measured, output: &mut O) -> Result<(), SinkFault>
-    ensures puts { Puts O.written O.held O.faults O.may_want output.old output.new
-        (line_of measured) result }
-    ensures emptied { OnOk result (O.held output.new ≡ []) }
+    ensures puts { Puts (O.view output.old) (O.view output.new) (line_of measured) result }
+    ensures emptied { OnOk result ((O.view output.new).held ≡ []) }
 {
     put_measured(measured, output)?;
     output.flush()
@@ -126,9 +123,8 @@ pub fn summarize<O: Sink>(
     count: u32,
     output: O,
 ) -> (Summary, O)
-    ensures { Summarizes (limits_of quotas.now) statics.now (documents seed count)
-        (output_at O.written O.held O.faults output)
-        (output_at O.written O.held O.faults result.1) result.0 }
+    ensures { Summarizes (limits_of quotas.now) statics.now (documents seed count) (O.view output)
+        (O.view result.1) result.0 }
 {
     let measured = match measure(alloc, statics, quotas, seed, count) {
         Ok(measured) => measured,

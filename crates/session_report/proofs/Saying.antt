@@ -1,8 +1,8 @@
 -- What is written of events as they are said is what a report says of them.
 use Rattle.std.proofs.Common.{◌≡◌, ℕ, ◌^◌, ◌<◌, Bool, List, ◌++◌, length, take, Some, Ok, Err}
 use Rattle.std.proofs.Common.{Option, Result, sym, refl, ap, ◌∙◌, subst, arith}
-use Rattle.{io_edges.proofs.Putting.PutsAll-cut, string_tables.specs.SessionStrings.used_cost}
-use Rattle.io_edges.specs.{declared.SinkFault.SinkFault, Puts.PutsAll}
+use Rattle.{io_edges.proofs.Putting.Puts-cut, string_tables.specs.SessionStrings.used_cost}
+use Rattle.io_edges.specs.{declared.SinkFault.SinkFault, Puts.Puts}
 use Rattle.unit_streams.{proofs.Answers.answers_are_first, specs.Grammar.standing}
 use Rattle.unit_streams.specs.Judging.{Answer, answer, completes, event_at, goes_on, offends}
 use Rattle.nbfx_values.specs.declared.{content.Item.Item, refusals.Offence.Offence}
@@ -23,6 +23,7 @@ use Rattle.session_report.specs.declared.reporter.Outcome.{Outcome}
 use Rattle.session_report.specs.Report.{document_lines, event_line, lines_of, next_outcome, told_of}
 use Rattle.session_report.specs.Saying.{event_for, said_by, said_document, said_line, said_lines}
 use Rattle.session_report.specs.Saying.{said_outcome, SaysStep}
+use Rattle.io_edges.specs.Views.{SinkView}
 use Rattle.stream_reader.specs.declared.reader.StreamStep.TheVariants as steps
 use Rattle.session_report.specs.declared.reading.Event.TheVariants as events
 
@@ -59,11 +60,10 @@ lines_are d =
     (λ outcome o. refl)
 
 -- a line that was cut short is cut short of all lines of its event
-pub said_cut : (d : Detail) (event : Event) {e : SinkFault} {w w1 : Option (List ℕ)} {h h1 : List ℕ}
-    {f f1 : ℕ} {m m1 : Bool} → PutsAll (said_line event) (Err e) w w1 h h1 f f1 m m1
-    → PutsAll (said_lines d event) (Err e) w w1 h h1 f f1 m m1
+pub said_cut : (d : Detail) (event : Event) {e : SinkFault} {k k1 : SinkView}
+    → Puts k k1 (said_line event) (Err e) → Puts k k1 (said_lines d event) (Err e)
 said_cut Summary event p = p
-said_cut Whole event p = PutsAll-cut (said_document event) p
+said_cut Whole event p = Puts-cut (said_document event) p
 
 -- ---- what a step says
 

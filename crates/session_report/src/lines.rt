@@ -24,8 +24,7 @@ fn mode_name(mode: Mode) -> &'static str
 
 /// Puts the line of an initiator's preamble. It fails as the output does, as the others here.
 pub fn put_open<K: Sink>(mode: Mode, kind: Kind, via: &str, output: &mut K) -> Result<(), SinkFault>
-    ensures { Puts K.written K.held K.faults K.may_want output.old output.new
-        (open_line mode kind via.now) result }
+    ensures { Puts (K.view output.old) (K.view output.new) (open_line mode kind via.now) result }
 {
     let words = [
         Word::Plain(mode_name(mode)),
@@ -37,8 +36,7 @@ pub fn put_open<K: Sink>(mode: Mode, kind: Kind, via: &str, output: &mut K) -> R
 
 /// Puts the line of a receiver's Preamble Ack.
 pub fn put_accepted<K: Sink>(output: &mut K) -> Result<(), SinkFault>
-    ensures { Puts K.written K.held K.faults K.may_want output.old output.new accepted_line
-        result }
+    ensures { Puts (K.view output.old) (K.view output.new) accepted_line result }
 {
     put_plain("accepted\n", output)
 }
@@ -46,7 +44,7 @@ pub fn put_accepted<K: Sink>(output: &mut K) -> Result<(), SinkFault>
 // Puts the words of what an envelope's document measures.
 #[inline(always)]
 fn put_measures<K: Sink>(received: &Received, output: &mut K) -> Result<(), SinkFault>
-    ensures { Puts K.written K.held K.faults K.may_want output.old output.new
+    ensures { Puts (K.view output.old) (K.view output.new)
         (behind_spaces (measure_words received.now.doc received.now.content)) result }
 {
     put_labelled(" items ", received.doc.items().len() as u64, output)?;
@@ -57,7 +55,7 @@ fn put_measures<K: Sink>(received: &Received, output: &mut K) -> Result<(), Sink
 // Puts the words of how many strings there are after an envelope, and of what they cost.
 #[inline(always)]
 fn put_strings<K: Sink>(received: &Received, output: &mut K) -> Result<(), SinkFault>
-    ensures { Puts K.written K.held K.faults K.may_want output.old output.new
+    ensures { Puts (K.view output.old) (K.view output.new)
         (behind_spaces (string_words received.now.strings received.now.used)) result }
 {
     put_labelled(" strings ", u64::from(received.strings), output)?;
@@ -66,8 +64,7 @@ fn put_strings<K: Sink>(received: &Received, output: &mut K) -> Result<(), SinkF
 
 /// Puts the line of an envelope, without its document's.
 pub fn put_message<K: Sink>(received: &Received, output: &mut K) -> Result<(), SinkFault>
-    ensures { Puts K.written K.held K.faults K.may_want output.old output.new
-        (received_line received.now) result }
+    ensures { Puts (K.view output.old) (K.view output.new) (received_line received.now) result }
 {
     put_labelled("message ", received.number, output)?;
     put_labelled(" payload ", u64::from(received.size), output)?;
@@ -78,26 +75,24 @@ pub fn put_message<K: Sink>(received: &Received, output: &mut K) -> Result<(), S
 
 /// Puts the line of a session that ended after so many bytes.
 pub fn put_ended<K: Sink>(taken: u64, output: &mut K) -> Result<(), SinkFault>
-    ensures { Puts K.written K.held K.faults K.may_want output.old output.new
-        (ended_line taken) result }
+    ensures { Puts (K.view output.old) (K.view output.new) (ended_line taken) result }
 {
     put_words("ended", &[Word::Natural(u128::from(taken))], output)
 }
 
 /// Puts the line of a receiver's Fault Record, whose last byte is the one with this number, from 1.
 pub fn put_fault<K: Sink>(taken: u64, text: &str, output: &mut K) -> Result<(), SinkFault>
-    ensures { Puts K.written K.held K.faults K.may_want output.old output.new
-        (fault_line taken text.now) result }
+    ensures { Puts (K.view output.old) (K.view output.new) (fault_line taken text.now) result }
 {
     let words = [Word::Natural(u128::from(taken)), Word::Quoted(text)];
     put_words("fault", &words, output)
 }
 
-/// Puts the line of a refusal.
+/// Puts the line of a refusal, in several puts. On an error first bytes of it were put. Only the
+/// sink takes memory.
 #[tactic(auto, unfolding(crate::specs::Report::offence_line))]
 pub fn put_offence<K: Sink>(offence: Offence, output: &mut K) -> Result<(), SinkFault>
-    ensures { Puts K.written K.held K.faults K.may_want output.old output.new
-        (offence_line offence) result }
+    ensures { Puts (K.view output.old) (K.view output.new) (offence_line offence) result }
 {
     let number = Word::Natural(u128::from(offence.reason.number()));
     let name = Word::Plain(offence.reason.name());

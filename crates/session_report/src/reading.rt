@@ -192,7 +192,7 @@ impl<'s> ReadingEnd for StreamEnd<'s> {
         }
     }
 
-    fn hand_back(&mut self, event: Event) {
+    fn recycle(&mut self, event: Event) {
         if let Event::Message(received) = event {
             self.reader.reuse(received.doc);
         }

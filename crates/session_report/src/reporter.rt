@@ -40,8 +40,7 @@ fn outcome_after(outcome: Outcome, event: &Event) -> Outcome
 
 // Puts the line of an event.
 fn put_line<K: Sink>(event: &Event, output: &mut K) -> Result<(), SinkFault>
-    ensures { Puts K.written K.held K.faults K.may_want output.old output.new
-        (said_line event.now) result }
+    ensures { Puts (K.view output.old) (K.view output.new) (said_line event.now) result }
 {
     match event {
         Event::Opened { mode, kind, via } => lines::put_open(*mode, *kind, via.as_str(), output),
@@ -55,8 +54,7 @@ fn put_line<K: Sink>(event: &Event, output: &mut K) -> Result<(), SinkFault>
 // Puts the lines of the document that an event brings.
 #[inline(never)]
 fn put_document<K: Sink>(event: &Event, output: &mut K) -> Result<(), SinkFault>
-    ensures { Puts K.written K.held K.faults K.may_want output.old output.new
-        (said_document event.now) result }
+    ensures { Puts (K.view output.old) (K.view output.new) (said_document event.now) result }
 {
     match event {
         Event::Message(received) => print(&received.doc, output),
@@ -67,8 +65,7 @@ fn put_document<K: Sink>(event: &Event, output: &mut K) -> Result<(), SinkFault>
 // Puts the line at the end of a stream that isn't refused. Where no event has ended it, it is the
 // receiver's Ack alone.
 fn put_last<K: Sink>(outcome: Outcome, output: &mut K) -> Result<(), SinkFault>
-    ensures { Puts K.written K.held K.faults K.may_want output.old output.new
-        (last_line outcome None) result }
+    ensures { Puts (K.view output.old) (K.view output.new) (last_line outcome None) result }
 {
     match outcome {
         Outcome::Open => lines::put_ended(ACK_LENGTH, output),
@@ -86,7 +83,7 @@ pub struct LineReporter {
 }
 
 impl LineReporter {
-    /// A reporter before the first event.
+    /// A reporter before the first event, of documents with their lines or without.
     pub fn new(detail: Detail) -> LineReporter
         ensures { result ≡ record { detail = detail; outcome = Outcome.Open } }
     {

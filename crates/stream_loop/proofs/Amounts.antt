@@ -1,6 +1,6 @@
 -- How many bytes were written of a stream's events: all that is due for them, or first ones of
 -- that.
-use Rattle.std.proofs.Common.{◌≡◌, ℕ, Bool, List, [], ◌∷◌, ◌++◌, map, Option, sym, refl, ap, ◌∙◌}
+use Rattle.std.proofs.Common.{◌≡◌, ℕ, List, [], ◌∷◌, ◌++◌, map, Option, sym, refl, ap, ◌∙◌}
 use Rattle.std.proofs.Common.{subst, append_assoc, append-nil}
 use Rattle.{io_edges.specs.Flow.GrowsByPrefix, unit_streams.proofs.Telling.told_append}
 use Rattle.unit_streams.specs.{Grammar.Grammar, Judging.events, Judging.history}
@@ -10,6 +10,7 @@ use Rattle.stream_loop.specs.declared.outbound.Outbound.TheVariants.{Done, Memor
 use Rattle.stream_loop.{specs.Followed.AreFirst, specs.Followed.IsWhole, proofs.Writing.told_some}
 use Rattle.stream_loop.specs.Writing.{due_next, HasStopped, Wrote}
 use Rattle.stream_loop.proofs.Grown.{all_grew, all_written, Grew, grew_more}
+use Rattle.io_edges.specs.Views.{SinkView}
 
 -- what is told of events by the values that they are said with
 pub told_values : {S E V R : Type 0} (f : E → V) (t : Teller S V R) (es : List E) (s : S)
@@ -26,57 +27,55 @@ unfolding state_behind
 states_values f t [] s = refl
 states_values f t (e ∷ es) s = states_values f t es (t.next s (f e))
 
--- of sinks, by what they tell
-module _ {K : Type 0} (written : K → Option (List ℕ)) (held : K → List ℕ) (faults : K → ℕ)
-    (may_want : K → Bool) where
-  abbrev Grew' : K → K → List ℕ → Type 0
-  Grew' old new bytes = Grew written held faults may_want old new bytes
+abbrev Grew' : SinkView → SinkView → List ℕ → Type 0
+Grew' old new bytes = Grew old new bytes
 
-  module _ {S E R : Type 0} (t : Teller S E R) where
-    -- what is due next is the front of what is due
-    due_front : (s : S) (closing : List ℕ) (rest : List E) → (behind : List ℕ)
-        × (told_along t s rest ++ closing
-        ≡ due_next written held faults may_want t s closing rest ++ behind)
-    unfolding told_along
-    due_front s closing [] = ([], sym (append-nil closing))
-    due_front s closing (event ∷ rest) = (
-      told_along t (t.next s event) rest ++ closing,
-      append_assoc (t.told s event) (told_along t (t.next s event) rest) closing,
-    )
+module _ {S E R : Type 0} (t : Teller S E R) where
+  -- what is due next is the front of what is due
+  due_front : (s : S) (closing : List ℕ) (rest : List E) → (behind : List ℕ)
+      × (told_along t s rest ++ closing
+      ≡ due_next t s closing rest ++ behind)
+  unfolding told_along
+  due_front s closing [] = ([], sym (append-nil closing))
+  due_front s closing (event ∷ rest) = (
+    told_along t (t.next s event) rest ++ closing,
+    append_assoc (t.told s event) (told_along t (t.next s event) rest) closing,
+  )
 
-    abbrev told : List E → List ℕ
-    told events = told_along t t.start events
+  abbrev told : List E → List ℕ
+  told events = told_along t t.start events
 
-    stopped_grew : (o : Outbound) (closing : List ℕ) (first : K) (es : List E) (Left : S → Type 0)
-        (now : K) → HasStopped written held faults may_want t o closing first es Left now
-        → Grew' first now (told es ++ closing)
-    stopped_grew o closing first es Left now h =
-        let s = state_behind t t.start h.done in
-        let next : List ℕ = due_next written held faults may_want t s closing h.rest in
-        let front = due_front s closing h.rest in
-        let same : (told h.done ++ next) ++ front.0 ≡ told es ++ closing =
-        append_assoc (told h.done) next front.0
-        ∙ ap (λ l. told h.done ++ l) (sym front.1)
-        ∙ sym (append_assoc (told h.done) (told_along t s h.rest) closing)
-        ∙ ap (λ l. l ++ closing) (sym (told_append t h.done h.rest t.start)
-        ∙ ap (λ (l : List E). told l) (sym h.joined)) in
-        subst (Grew' first now) same (grew_more written held faults may_want first now
-        (told h.done ++ next) front.0 (λ w is. told_some (λ w w'.
-        GrowsByPrefix w w' (held first ++ (told h.done ++ next))) (written first) (written now) w is
-        h.grown))
+  stopped_grew : (o : Outbound) (closing : List ℕ) (first : SinkView) (es : List E) (Left : S
+      → Type 0)
+      (now : SinkView) → HasStopped t o closing first es Left now
+      → Grew' first now (told es ++ closing)
+  stopped_grew o closing first es Left now h =
+      let s = state_behind t t.start h.done in
+      let next : List ℕ = due_next t s closing h.rest in
+      let front = due_front s closing h.rest in
+      let same : (told h.done ++ next) ++ front.0 ≡ told es ++ closing =
+      append_assoc (told h.done) next front.0
+      ∙ ap (λ l. told h.done ++ l) (sym front.1)
+      ∙ sym (append_assoc (told h.done) (told_along t s h.rest) closing)
+      ∙ ap (λ l. l ++ closing) (sym (told_append t h.done h.rest t.start)
+      ∙ ap (λ (l : List E). told l) (sym h.joined)) in
+      subst (Grew' first now) same (grew_more first now
+      (told h.done ++ next) front.0 (λ w is. told_some (λ w w'.
+      GrowsByPrefix w w' (first.held ++ (told h.done ++ next))) first.written now.written w is
+      h.grown))
 
-    -- however the writing ends
-    pub wrote_grew : (o : Outbound) (closing : List ℕ) (first : K) (es : List E)
-        (Left : S → Type 0) (now : K)
-        → Wrote written held faults may_want t o closing first es Left now
-        → Grew' first now (told_along t t.start es ++ closing)
-    wrote_grew Done closing first es Left now h =
-        all_grew written held faults may_want first now (told es ++ closing)
-        (all_written written held faults may_want first now (told es ++ closing) h.puts h.emptied)
-    wrote_grew WriteFault closing first es Left now h =
-        stopped_grew WriteFault closing first es Left now h
-    wrote_grew Memory closing first es Left now h =
-        stopped_grew Memory closing first es Left now h
+  -- however the writing ends
+  pub wrote_grew : (o : Outbound) (closing : List ℕ) (first : SinkView) (es : List E)
+      (Left : S → Type 0) (now : SinkView)
+      → Wrote t o closing first es Left now
+      → Grew' first now (told_along t t.start es ++ closing)
+  wrote_grew Done closing first es Left now h =
+      all_grew first now (told es ++ closing)
+      (all_written first now (told es ++ closing) h.puts h.emptied)
+  wrote_grew WriteFault closing first es Left now h =
+      stopped_grew WriteFault closing first es Left now h
+  wrote_grew Memory closing first es Left now h =
+      stopped_grew Memory closing first es Left now h
 
 -- what is told of a stream whose history is this
 module _ {Z U E V R S : Type 0} (g : Grammar Z U E R) (f : E → V) (t : Teller S V R) where

@@ -3,27 +3,29 @@
 use Rattle.std.proofs.Common.{◌≡◌, ℕ, ◌+◌, ◌-◌, Bool, ◌⊎◌, ◌↔◌, List, [], ◌++◌, length, take, IfOk}
 use Rattle.std.proofs.Common.{IfErr, OnOk, OnErr, Some, None, Ok, Err, Option, Result, IsErrOf, sym}
 use Rattle.std.proofs.Common.{refl, ap, ◌∙◌, subst, inl, inr, append_assoc, append-nil, arith}
-use Rattle.{std.specs.Prelude.⊤, io_edges.proofs.Putting.PutsAll-then}
+use Rattle.{std.specs.Prelude.⊤, io_edges.proofs.Putting.Puts-then}
 use Rattle.std.proofs.{Math.Seq.take-append-add, lemmas.Bool.cases_lt, lemmas.List.take-append-le}
-use Rattle.io_edges.specs.{declared.SinkFault.SinkFault, Faults.CountsFaults, Puts.PutsAll}
+use Rattle.io_edges.specs.{declared.SinkFault.SinkFault, Faults.CountsFaults, Puts.Puts}
 use Rattle.io_edges.specs.Flow.{GrowsByPrefix, Passes, Told}
 use Rattle.unit_streams.proofs.{Pending.pending_open, Pieces.told_due, Telling.told_nothing}
 use Rattle.unit_streams.specs.{Going.IsPending, Grammar.Grammar}
 use Rattle.unit_streams.specs.Tellers.{AreDue, report, Teller, told_so_far}
-use Rattle.stream_loop.specs.{declared.reporting.Ending.Ending, Edges.Input, Edges.Output}
+use Rattle.stream_loop.specs.{declared.reporting.ReportEnding.ReportEnding, Edges.Input}
+use Rattle.io_edges.specs.Views.{SinkView}
 use Rattle.stream_loop.specs.LoopParts.{done, ended_by, HasReported, IsAllRead, ReportsAs}
-use Rattle.stream_loop.specs.Reported.{AsksOnce, Breaks, Decides, EndsAs, Grows, IsJudged, Judges}
+use Rattle.stream_loop.specs.Reported.{OneEmptyTake, Breaks, Decides, EndsAs, Grows, IsJudged}
+use Rattle.stream_loop.specs.Reported.{Judges}
 use Rattle.stream_loop.specs.Reported.{Reaches, Reports, Writes}
 use Rattle.stream_loop.proofs.Writing.{counted_with, grown_within, known_told, put_either}
 use Rattle.stream_loop.proofs.Writing.{puts_grow, told_as, told_some}
 use Rattle.io_edges.specs.declared.SinkFault.TheVariants as faults
-use Rattle.stream_loop.specs.declared.reporting.Ending.TheVariants as endings
+use Rattle.stream_loop.specs.declared.reporting.ReportEnding.TheVariants as endings
 
 -- what was put and then written, of what was reported so, and how that ends
-pub record Finished (R : Type 0) (r : Result (Ending R) SinkFault) (lines : List ℕ)
-    (o o1 o2 : Output) (m m2 : Bool) (e : Ending R) : Type 0 where
+pub record Finished (R : Type 0) (r : Result (ReportEnding R) SinkFault) (lines : List ℕ)
+    (o o1 o2 : SinkView) (e : ReportEnding R) : Type 0 where
   pub put : Result ⊤ SinkFault
-  pub puts : PutsAll lines put o.written o2.written o.held o2.held o.faults o2.faults m m2
+  pub puts : Puts o o2 lines put
   pub grew : Told o1.written o2.written Grows
   pub whole : OnOk put ((r ≡ Ok e) × (o2.held ≡ []))
   pub stopped : IfErr put (λ fault. e ≡ ended_by fault)
@@ -34,72 +36,68 @@ grows_not : (w : Option (List ℕ)) → Told w w Grows
 grows_not None = tt
 grows_not (Some w) = record { more = []; grown = sym (append-nil w) }
 
-module _ {Z U E R V : Type 0} (g : Grammar Z U E R) (t : Teller V E R) (S : Type 0) (seen : S
-    → Output) (mw : S → Bool) (first old new : S) (i i' : Input) (lines : List ℕ) (e : Ending R)
-  where
-    -- it ends so, of what was reported so
-    abbrev pub Finishes : Result (Ending R) SinkFault → Type 0
-    Finishes r = Finished R r lines (seen first) (seen old) (seen new) (mw first) (mw new) e
+module _ {Z U E R V : Type 0} (g : Grammar Z U E R) (t : Teller V E R)
+    (first old new : SinkView) (i i' : Input) (lines : List ℕ) (e : ReportEnding R) where
+  -- it ends so, of what was reported so
+  abbrev pub Finishes : Result (ReportEnding R) SinkFault → Type 0
+  Finishes r = Finished R r lines first old new e
 
-    abbrev Flushes : Ending R → Type 0
-    Flushes k = (flush : Result ⊤ SinkFault)
-        × PutsAll [] flush (seen old).written (seen new).written (seen old).held (seen new).held
-        (seen old).faults (seen new).faults (mw old) (mw new)
-        × OnOk flush ((e ≡ k) × ((seen new).held ≡ [])) × IfErr flush (λ fault. e ≡ ended_by fault)
+  abbrev Flushes : ReportEnding R → Type 0
+  Flushes k = (flush : Result ⊤ SinkFault)
+      × Puts old new [] flush × OnOk flush ((e ≡ k) × (new.held ≡ []))
+      × IfErr flush (λ fault. e ≡ ended_by fault)
 
-    flushed_whole : (k : Ending R) (r : Result (Ending R) SinkFault) → r ≡ Ok k
-        → (flush : Result ⊤ SinkFault) → OnOk flush ((e ≡ k) × ((seen new).held ≡ []))
-        → OnOk flush ((r ≡ Ok e) × ((seen new).held ≡ []))
-    flushed_whole k r is (Ok u) h = (is ∙ ap Ok (sym h.0), h.1)
-    flushed_whole k r is (Err fault) h = tt
+  flushed_whole : (k : ReportEnding R) (r : Result (ReportEnding R) SinkFault) → r ≡ Ok k
+      → (flush : Result ⊤ SinkFault) → OnOk flush ((e ≡ k) × (new.held ≡ []))
+      → OnOk flush ((r ≡ Ok e) × (new.held ≡ []))
+  flushed_whole k r is (Ok u) h = (is ∙ ap Ok (sym h.0), h.1)
+  flushed_whole k r is (Err fault) h = tt
 
-    -- what was put before
-    abbrev PutBefore : Result ⊤ SinkFault → Type 0
-    PutBefore r = PutsAll lines r (seen first).written (seen old).written (seen first).held
-        (seen old).held (seen first).faults (seen old).faults (mw first) (mw old)
+  -- what was put before
+  abbrev PutBefore : Result ⊤ SinkFault → Type 0
+  PutBefore r = Puts first old lines r
 
-    -- where the output is flushed
-    by_flush : (k : Ending R) → PutBefore (Ok tt) → (k ≡ endings.ReadFault → ⊥) → Flushes k
-        → Finishes (Ok k)
-    by_flush k puts not_read z = record {
-      put = z.0;
-      puts = rw append-nil at (PutsAll-then z.0 puts z.1);
-      grew = puts_grow z.0 z.1;
-      whole = flushed_whole k (Ok k) refl z.0 z.2;
-      stopped = z.3;
-      kept = λ is. absurd (not_read cc);
-    }
+  -- where the output is flushed
+  by_flush : (k : ReportEnding R) → PutBefore (Ok tt) → (k ≡ endings.ReadFault → ⊥) → Flushes k
+      → Finishes (Ok k)
+  by_flush k puts not_read z = record {
+    put = z.0;
+    puts = rw append-nil at (Puts-then z.0 puts z.1);
+    grew = puts_grow z.0 z.1;
+    whole = flushed_whole k (Ok k) refl z.0 z.2;
+    stopped = z.3;
+    kept = λ is. absurd (not_read cc);
+  }
 
-    pub finished_by : (state : V) (r : Result (Ending R) SinkFault) → PutBefore (done r)
-        → HasReported g t i i' (seen first) (seen old) state r lines
-        → (r ≡ Ok endings.ReadFault → (e ≡ endings.ReadFault) × (new ≡ old))
-        → IfErr r (λ fault. (e ≡ ended_by fault) × (new ≡ old))
-        → IfOk r (λ k. (k ≡ endings.ReadFault → ⊥) → Flushes k)
-        → Finishes r
-    finished_by state (Err fault) puts b kept failed flushed = rw failed.1
-        (record {
-          put = Err fault;
-          puts = puts;
-          grew = grows_not (seen old).written;
-          whole = tt;
-          stopped = failed.0;
-          kept = λ is. cc;
-        })
-    finished_by state (Ok endings.ReadFault) puts b kept failed flushed =
-        let k = kept refl in
-        rw k.1 (record {
-          put = Ok tt;
-          puts = puts;
-          grew = grows_not (seen old).written;
-          whole = (ap Ok (sym k.0), b.ends.2);
-          stopped = tt;
-          kept = λ is. k.0;
-        })
-    finished_by state (Ok (endings.Judged o)) puts b kept failed flushed =
-        by_flush (endings.Judged o) puts (λ no. cc) (flushed (λ no. cc))
-    finished_by state (Ok endings.WriteFault) puts b kept failed flushed = absurd b.ends
-    finished_by state (Ok endings.Memory) puts b kept failed flushed = by_flush endings.Memory puts
-        (λ no. cc) (flushed (λ no. cc))
+  pub finished_by : (state : V) (r : Result (ReportEnding R) SinkFault) → PutBefore (done r)
+      → HasReported g t i i' first old state r lines
+      → (r ≡ Ok endings.ReadFault → (e ≡ endings.ReadFault) × (new ≡ old))
+      → IfErr r (λ fault. (e ≡ ended_by fault) × (new ≡ old))
+      → IfOk r (λ k. (k ≡ endings.ReadFault → ⊥) → Flushes k)
+      → Finishes r
+  finished_by state (Err fault) puts b kept failed flushed = rw failed.1 (record {
+    put = Err fault;
+    puts = puts;
+    grew = grows_not old.written;
+    whole = tt;
+    stopped = failed.0;
+    kept = λ is. cc;
+  })
+  finished_by state (Ok endings.ReadFault) puts b kept failed flushed =
+      let k = kept refl in
+      rw k.1 (record {
+        put = Ok tt;
+        puts = puts;
+        grew = grows_not old.written;
+        whole = (ap Ok (sym k.0), b.ends.2);
+        stopped = tt;
+        kept = λ is. k.0;
+      })
+  finished_by state (Ok (endings.Judged o)) puts b kept failed flushed =
+      by_flush (endings.Judged o) puts (λ no. cc) (flushed (λ no. cc))
+  finished_by state (Ok endings.WriteFault) puts b kept failed flushed = absurd b.ends
+  finished_by state (Ok endings.Memory) puts b kept failed flushed = by_flush endings.Memory puts
+      (λ no. cc) (flushed (λ no. cc))
 
 module _ {R : Type 0} where
   -- a stop by the output is none of these
@@ -108,11 +106,12 @@ module _ {R : Type 0} where
   never_judged faults.Failed judged e = cc
   never_judged faults.Memory judged e = cc
 
-  never_read : (fault : SinkFault) → ◌≡◌ {A = Ending R} endings.ReadFault (ended_by fault) → ⊥
+  never_read : (fault : SinkFault) → ◌≡◌ {A = ReportEnding R} endings.ReadFault (ended_by fault) → ⊥
   never_read faults.Failed e = cc
   never_read faults.Memory e = cc
 
-  stopped_failed : (fault : SinkFault) → ◌≡◌ {A = Ending R} (ended_by fault) endings.WriteFault
+  stopped_failed : (fault : SinkFault)
+      → ◌≡◌ {A = ReportEnding R} (ended_by fault) endings.WriteFault
       → fault ≡ faults.Failed
   stopped_failed faults.Failed e = refl
   stopped_failed faults.Memory e = cc
@@ -166,14 +165,14 @@ module _ {Z U E R S : Type 0} (g : Grammar Z U E R) (t : Teller S E R) where
       (prefix_writes h lines w w2 all)
 
 module _ {Z U E R S : Type 0} (g : Grammar Z U E R) (t : Teller S E R) (i i' : Input)
-    (o o1 o2 : Output) (m m2 : Bool) (state : S) (r : Result (Ending R) SinkFault) (lines : List ℕ)
-    (e : Ending R)
-    (b : HasReported g t i i' o o1 state r lines) (z : Finished R r lines o o1 o2 m m2 e) where
+    (o o1 o2 : SinkView) (state : S) (r : Result (ReportEnding R) SinkFault) (lines : List ℕ)
+    (e : ReportEnding R)
+    (b : HasReported g t i i' o o1 state r lines) (z : Finished R r lines o o1 o2 e) where
   abbrev reached : Reaches g t i i' o o1
   reached = b.reached
 
   -- what was reported so ends so
-  abbrev ReportsSo : Result (Ending R) SinkFault → Type 0
+  abbrev ReportsSo : Result (ReportEnding R) SinkFault → Type 0
   ReportsSo v = ReportsAs g t i i' o o1 reached.before reached.piece state v lines
 
   abbrev AllRead : Type 0
@@ -182,7 +181,7 @@ module _ {Z U E R S : Type 0} (g : Grammar Z U E R) (t : Teller S E R) (i i' : I
   -- the lines begin the stream's report
   due : AllRead ⊎ AreDue g t (reached.before ++ reached.piece) [] lines
   due = go r b.ends where
-    go : (v : Result (Ending R) SinkFault) → ReportsSo v → AllRead
+    go : (v : Result (ReportEnding R) SinkFault) → ReportsSo v → AllRead
         ⊎ AreDue g t (reached.before ++ reached.piece) [] lines
     go (Ok (endings.Judged judged)) (inl all) = inl all.0
     go (Ok (endings.Judged judged)) (inr known) = inr (λ more. (
@@ -230,7 +229,7 @@ module _ {Z U E R S : Type 0} (g : Grammar Z U E R) (t : Teller S E R) (i i' : I
       ++ lines)
   judged_end judged is =
       let k = whole_end (λ fault by. never_judged fault judged (sym is ∙ by)) in
-      (subst (λ (v : Ending R). ReportsSo (Ok v)) is k.0, k.1)
+      (subst (λ (v : ReportEnding R). ReportsSo (Ok v)) is k.0, k.1)
 
   -- the first bytes of the lines are written, or all
   written_front : Told o.written o2.written (λ w w'. GrowsByPrefix w w' (o.held ++ lines))
@@ -287,7 +286,7 @@ module _ {Z U E R S : Type 0} (g : Grammar Z U E R) (t : Teller S E R) (i i' : I
 
     pub judges : Judges g t i i' o o2 bytes state e
     judges = go e refl where
-      go : (v : Ending R) → e ≡ v → Judges g t i i' o o2 bytes state v
+      go : (v : ReportEnding R) → e ≡ v → Judges g t i i' o o2 bytes state v
       go (endings.Judged judged) ended = (report_is judged ended).1
       go endings.ReadFault ended = tt
       go endings.WriteFault ended = tt
@@ -309,7 +308,7 @@ module _ {Z U E R S : Type 0} (g : Grammar Z U E R) (t : Teller S E R) (i i' : I
 
       pub reports : (l' : List ℕ) × (o2.written ≡ Some l') × Reports g t i i' o o2 bytes l l' e
       reports = go e refl where
-        go : (v : Ending R) → e ≡ v → (l' : List ℕ) × (o2.written ≡ Some l')
+        go : (v : ReportEnding R) → e ≡ v → (l' : List ℕ) × (o2.written ≡ Some l')
             × Reports g t i i' o o2 bytes l l' v
         go (endings.Judged judged) ended =
             let k = told_some (λ l l'. l' ≡ l ++ o.held ++ lines) o.written o2.written l before
@@ -373,7 +372,7 @@ module _ {Z U E R S : Type 0} (g : Grammar Z U E R) (t : Teller S E R) (i i' : I
       × Told o.written o2.written (λ w w'. w' ≡ w ++ o.held ++ lines)
   read_end ended =
       let k = whole_end (λ fault by. never_read fault (sym ended ∙ by)) in
-      (subst (λ (v : Ending R). ReportsSo (Ok v)) ended k.0, k.1)
+      (subst (λ (v : ReportEnding R). ReportsSo (Ok v)) ended k.0, k.1)
 
   pub breaks : e ≡ endings.ReadFault → Breaks g t i i' o o2
   breaks ended =
@@ -392,7 +391,7 @@ module _ {Z U E R S : Type 0} (g : Grammar Z U E R) (t : Teller S E R) (i i' : I
         wrote = told_as (λ l l'. l' ≡ l ++ o.held ++ lines) (λ l l'. l' ≡ l ++ o.held ++ told_so_far
             g t reached.before) o.written o2.written k.1 (λ l l' s. s ∙ ap (λ q. l ++ o.held ++ q)
             ends.1);
-        unasked = ends.3;
+        no_empty_take = ends.3;
       }
 
   pub reaches : Reaches g t i i' o o2
@@ -413,11 +412,11 @@ module _ {Z U E R S : Type 0} (g : Grammar Z U E R) (t : Teller S E R) (i i' : I
   read_as (Ok u) whole stopped ended = whole.0 ∙ ap Ok ended
   read_as (Err fault) whole stopped ended = absurd (never_read fault (sym ended ∙ stopped))
 
-  -- how often the input was asked at its end
-  pub asks_once : AsksOnce g t i i' o o2 e
-  asks_once = go r b.ends (read_as z.put z.whole z.stopped) where
-    go : (v : Result (Ending R) SinkFault) → ReportsSo v → (e ≡ endings.ReadFault
-        → v ≡ Ok endings.ReadFault) → AsksOnce g t i i' o o2 e
+  -- how many takes of the input gave nothing
+  pub one_empty_take : OneEmptyTake g t i i' o o2 e
+  one_empty_take = go r b.ends (read_as z.put z.whole z.stopped) where
+    go : (v : Result (ReportEnding R) SinkFault) → ReportsSo v → (e ≡ endings.ReadFault
+        → v ≡ Ok endings.ReadFault) → OneEmptyTake g t i i' o o2 e
     go (Ok (endings.Judged judged)) (inl all) read = inr (
       all.0.3,
       λ ended. let no = read ended in
@@ -435,7 +434,7 @@ module _ {Z U E R S : Type 0} (g : Grammar Z U E R) (t : Teller S E R) (i i' : I
       → IfErr put (λ fault. e ≡ ended_by fault) → (e ≡ endings.WriteFault) ↔ IsErrOf put
       faults.Failed
   failed_as (Ok u) whole stopped = (
-    λ ended. absurd (subst (λ (v : Ending R). ReportsSo (Ok v))
+    λ ended. absurd (subst (λ (v : ReportEnding R). ReportsSo (Ok v))
         ended (as_ended (Ok u) whole)),
     λ no. cc,
   )
@@ -464,7 +463,7 @@ module _ {Z U E R S : Type 0} (g : Grammar Z U E R) (t : Teller S E R) (i i' : I
     decides = decides;
     breaks = breaks;
     reaches = reaches;
-    asks_once = asks_once;
+    one_empty_take = one_empty_take;
     reads_counted = reads_counted counted;
     writes_counted = writes_counted;
   }

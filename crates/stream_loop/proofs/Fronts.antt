@@ -2,13 +2,14 @@
 use Rattle.std.proofs.Common.{ℕ, List, ◌++◌, length, sym, ap, ◌∙◌, append_assoc, arith, take_all}
 use Rattle.io_edges.specs.Flow.{GrowsByPrefix}
 use Rattle.unit_streams.specs.{Grammar.Grammar, Tellers.report, Tellers.Teller}
-use Rattle.stream_loop.specs.{declared.reporting.Ending.Ending, Reported.Reports}
-use Rattle.stream_loop.specs.{Edges.Input, Edges.Output, Laws.FrontsAreWritten, Laws.JudgedByBytes}
-use Rattle.stream_loop.specs.declared.reporting.Ending.TheVariants as endings
+use Rattle.stream_loop.specs.{declared.reporting.ReportEnding.ReportEnding, Reported.Reports}
+use Rattle.stream_loop.specs.{Edges.Input, Laws.FrontsAreWritten, Laws.JudgedByBytes}
+use Rattle.io_edges.specs.Views.{SinkView}
+use Rattle.stream_loop.specs.declared.reporting.ReportEnding.TheVariants as endings
 
 module _ {Z U E R S : Type 0} (g : Grammar Z U E R) (t : Teller S E R) where
   -- all of a report is a front of it
-  front_of : (i i' : Input) (o o' : Output) (bytes w w' : List ℕ) (ending : Ending R)
+  front_of : (i i' : Input) (o o' : SinkView) (bytes w w' : List ℕ) (ending : ReportEnding R)
       → Reports g t i i' o o' bytes w w' ending → GrowsByPrefix w w' (o.held ++ report g t bytes)
   front_of i i' o o' bytes w w' (endings.Judged judged) h = record {
     kept = length (o.held ++ report g t bytes);

@@ -18,10 +18,10 @@ module _ {Z U E R : Type 0} (g : Grammar Z U E R) where
   unfolding events
   events_are es judged bytes whole = ap (λ (h : History E R). h.events) whole
 
-  module _ (i i' : Input) (bytes : List ℕ) (left : i.left ≡ Some bytes) (Heard : List E → Type 0)
+  module _ (i i' : Input) (bytes : List ℕ) (left : i.left ≡ Some bytes) (Handled : List E → Type 0)
     where
       -- a stream that is judged
-      pub whole_of : (judged : Option R) (d : Decides g Heard i i' judged)
+      pub whole_of : (judged : Option R) (d : Decides g Handled i i' judged)
           → IsWhole g d.events judged bytes
       whole_of judged d =
           let Whole : List ℕ → Type 0 = IsWhole g d.events judged in
@@ -34,14 +34,14 @@ module _ {Z U E R : Type 0} (g : Grammar Z U E R) where
           ])
 
       -- first events of one that isn't
-      pub first_broken : (b : Breaks g Heard i i') → AreFirst g (events_of g b.bytes) bytes
+      pub first_broken : (b : Breaks g Handled i i') → AreFirst g (events_of g b.bytes) bytes
       first_broken b =
           let k = told_some (λ all rest. all ≡ b.bytes ++ rest) i.left i'.left bytes left b.stream
           in
           subst (AreFirst g (events_of g b.bytes)) (sym k.2)
           (first_of_open g b.bytes (pending_open g b.bytes b.pending) k.0)
 
-      pub first_starved : (s : Starves g Heard i i') → AreFirst g s.events bytes
+      pub first_starved : (s : Starves g Handled i i') → AreFirst g s.events bytes
       first_starved s =
           let k = told_some (λ all rest. all ≡ s.before ++ s.piece ++ rest) i.left i'.left bytes
           left s.stream in

@@ -17,16 +17,16 @@ pub mod Finishing
 pub mod Fronts
 -- for callers: two ways to say what is written, which are one
 pub mod Alike
--- what was taken of the stream, and heard of it, when the loop ends (src/following.rt)
+-- what was taken of the stream, and handled of it, when the loop ends (src/following.rt)
 pub mod Taking
 -- what puts leave of what is written
 pub mod Grown
 -- what was written when an event more comes, none, or a closing (specs/Writing)
 pub mod Written
--- and of what was gathered (specs/Gathering)
+-- and of what was gathered (specs/Gathering), part by part (src/part_writer.rt)
 pub mod Gathered
--- what stays when a sink's direction is ended
-pub mod Ended
+pub mod Within
+pub mod Parts
 -- how many bytes that is, and what it leaves of the counts of faults
 pub mod Amounts
 pub mod Counts

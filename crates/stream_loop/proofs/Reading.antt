@@ -12,26 +12,27 @@ use Rattle.unit_streams.specs.Judging.{ending_at, events_in, events_of, is_over_
 use Rattle.stream_loop.specs.{Answers.EndsWithin, Answers.said_at_end, Edges.Fills, Edges.Input}
 use Rattle.stream_loop.specs.Followed.{AreFirst, IsWhole}
 use Rattle.stream_loop.specs.Resumed.{Came, HasComeTo, RanOut, WasCut, WasHalted}
-use Rattle.stream_loop.specs.{Resumed.WasJudged, Steps.HearsOne}
+use Rattle.stream_loop.specs.{Resumed.WasJudged, Steps.HandlesOne}
 use Rattle.stream_loop.proofs.Bringing.{first_of_open, whole_at_end}
 use Rattle.stream_loop.proofs.Writing.{known_told}
 
 module _ {Z U E R : Type 0} (g : Grammar Z U E R) (i i' : Input) (stands : List ℕ → Type 0)
-    (Heard : List E → List E → Type 0) (p y : List ℕ) (h : HasComeTo g i i' stands Heard p y)
+    (Handled : List E → List E → Type 0) (p y : List ℕ) (h : HasComeTo g i i' stands Handled p y)
   where
     stream_is : (more : List ℕ) → p ++ (y ++ more) ≡ (h.before ++ h.piece) ++ more
     stream_is more = sym (append_assoc p y more) ∙ ap (λ l. l ++ more) (sym h.joined)
 
     -- one event more
-    one_more_heard : (e : E) → events_of g p ++ e ∷ [] ≡ events_of g h.before ++ (h.since ++ e ∷ [])
-    one_more_heard e =
+    one_more_handled : (e : E) → events_of g p ++ e ∷ [] ≡ events_of g h.before
+        ++ (h.since ++ e ∷ [])
+    one_more_handled e =
         ap (λ l. l ++ e ∷ []) h.events_are ∙ append_assoc (events_of g h.before) h.since (e ∷ [])
 
     -- the bytes that are left were read, and complete nothing
-    pub all_were_read : (stands' : List ℕ → Type 0) (Heard' : List E → List E → Type 0)
+    pub all_were_read : (stands' : List ℕ → Type 0) (Handled' : List E → List E → Type 0)
         → stands' (p ++ y) → IsOpenAt g (p ++ y) → events_of g (p ++ y) ≡ events_of g p
-        → Heard' (events_of g h.before) h.since → HasComeTo g i i' stands' Heard' (p ++ y) []
-    all_were_read stands' Heard' here on same heard = record {
+        → Handled' (events_of g h.before) h.since → HasComeTo g i i' stands' Handled' (p ++ y) []
+    all_were_read stands' Handled' here on same handled = record {
       stands_for = here;
       on = on;
       before = h.before;
@@ -40,24 +41,24 @@ module _ {Z U E R : Type 0} (g : Grammar Z U E R) (i i' : Input) (stands : List 
       joined = h.joined ∙ sym (append-nil (p ++ y));
       since = h.since;
       events_are = same ∙ h.events_are;
-      heard = heard;
-      unasked = h.unasked;
+      handled = handled;
+      no_empty_take = h.no_empty_take;
     }
 
     -- they show a refusal, or complete the last event
-    pub decides : (Heard' : List E → List E → Type 0) (judged : Option R) (since : List E)
-        → Heard' (events_of g h.before) since → (es : List E) → es ≡ events_of g h.before ++ since
+    pub decides : (Handled' : List E → List E → Type 0) (judged : Option R) (since : List E)
+        → Handled' (events_of g h.before) since → (es : List E) → es ≡ events_of g h.before ++ since
         → ((more : List ℕ) → IsWhole g es judged (p ++ (y ++ more)))
-        → WasJudged g i i' Heard' judged
-    decides Heard' judged since heard es is whole = record {
+        → WasJudged g i i' Handled' judged
+    decides Handled' judged since handled es is whole = record {
       before = h.before;
       piece = h.piece;
       came = h.came;
       since = since;
-      heard = heard;
+      handled = handled;
       whole = subst (IsWhole g (events_of g h.before ++ since) judged)
           (append-nil (h.before ++ h.piece)) (all []);
-      settled = inr (all, h.unasked);
+      settled = inr (all, h.no_empty_take);
     } where
       all : (more : List ℕ)
           → IsWhole g (events_of g h.before ++ since) judged ((h.before ++ h.piece) ++ more)
@@ -66,18 +67,18 @@ module _ {Z U E R : Type 0} (g : Grammar Z U E R) (i i' : Input) (stands : List 
           (subst (IsWhole g es judged) (stream_is more) (whole more))
 
     -- there was no memory to read them
-    pub ran_out : (Heard' : List E → List E → Type 0) → Heard' (events_of g h.before) h.since
-        → ((more : List ℕ) → AreFirst g (events_of g p) (p ++ more)) → RanOut g i i' Heard'
-    ran_out Heard' heard first = record {
+    pub ran_out : (Handled' : List E → List E → Type 0) → Handled' (events_of g h.before) h.since
+        → ((more : List ℕ) → AreFirst g (events_of g p) (p ++ more)) → RanOut g i i' Handled'
+    ran_out Handled' handled first = record {
       before = h.before;
       piece = h.piece;
       came = h.came;
       since = h.since;
-      heard = heard;
+      handled = handled;
       first = λ more.
           subst (λ (l : List E). AreFirst g l ((h.before ++ h.piece) ++ more)) h.events_are
           (subst (AreFirst g (events_of g p)) (stream_is more) (first (y ++ more)));
-      unasked = h.unasked;
+      no_empty_take = h.no_empty_take;
     }
 
     -- the first n of them complete an event
@@ -87,12 +88,12 @@ module _ {Z U E R : Type 0} (g : Grammar Z U E R) (i i' : Input) (stands : List 
       split = h.joined ∙ ap (λ l. p ++ l) (sym (take-append-drop n y))
           ∙ sym (append_assoc p (take n y) (drop n y))
 
-      -- which was heard
-      pub heard_one : (stands' : List ℕ → Type 0) (Heard' : List E → List E → Type 0) → 0 < n
+      -- which was handled
+      pub handled_one : (stands' : List ℕ → Type 0) (Handled' : List E → List E → Type 0) → 0 < n
           → stands' (p ++ take n y) → IsOpenAt g (p ++ take n y)
-          → Heard' (events_of g h.before) (h.since ++ e ∷ []) → (y' : List ℕ) → y' ≡ drop n y
-          → HearsOne g stands' Heard' i i' p y'
-      heard_one stands' Heard' some here on heard y' left = record {
+          → Handled' (events_of g h.before) (h.since ++ e ∷ []) → (y' : List ℕ) → y' ≡ drop n y
+          → HandlesOne g stands' Handled' i i' p y'
+      handled_one stands' Handled' some here on handled y' left = record {
         read = p ++ take n y;
         more = omega (arith, length-append p (take n y), length-take-le n y within, some);
         come = record {
@@ -103,30 +104,30 @@ module _ {Z U E R : Type 0} (g : Grammar Z U E R) (i i' : Input) (stands : List 
           came = h.came;
           joined = split ∙ ap (λ l. (p ++ take n y) ++ l) (sym left);
           since = h.since ++ e ∷ [];
-          events_are = events_are ∙ one_more_heard e;
-          heard = heard;
-          unasked = h.unasked;
+          events_are = events_are ∙ one_more_handled e;
+          handled = handled;
+          no_empty_take = h.no_empty_take;
         };
       }
 
       -- it ends the stream
-      pub decides_at : (Heard' : List E → List E → Type 0)
-          → Heard' (events_of g h.before) (h.since ++ e ∷ [])
+      pub decides_at : (Handled' : List E → List E → Type 0)
+          → Handled' (events_of g h.before) (h.since ++ e ∷ [])
           → ((more : List ℕ) → IsWhole g (events_of g p ++ e ∷ []) None (p ++ (y ++ more)))
-          → WasJudged g i i' Heard' None
-      decides_at Heard' heard whole =
-          decides Heard' None (h.since ++ e ∷ []) heard (events_of g p ++ e ∷ [])
-          (one_more_heard e) whole
+          → WasJudged g i i' Handled' None
+      decides_at Handled' handled whole =
+          decides Handled' None (h.since ++ e ∷ []) handled (events_of g p ++ e ∷ [])
+          (one_more_handled e) whole
 
-      -- the listener stopped at it
+      -- the handler stopped at it
       pub halted_at : (stands' : List ℕ → Type 0) (Halts : Option E → List E → List E → Type 0)
           → stands' (p ++ take n y) → Halts (Some e) (events_of g h.before) h.since
           → (y' : List ℕ) → y' ≡ drop n y
           → ((more : List ℕ) → AreFirst g (events_of g p ++ e ∷ []) (p ++ (y ++ more)))
-          → (ends : Bool) → (ends ≡ false → IsOpenAt g (p ++ take n y))
-          → (ends ≡ true → (more : List ℕ)
+          → (ends : E → Bool) → (ends e ≡ false → IsOpenAt g (p ++ take n y))
+          → (ends e ≡ true → (more : List ℕ)
           → IsWhole g (events_of g p ++ e ∷ []) None (p ++ (y ++ more)))
-          → WasHalted g i i' stands' Halts y'
+          → WasHalted g i i' ends stands' Halts y'
       halted_at stands' Halts here halted y' left first ends stays last = record {
         before = h.before;
         piece = h.piece;
@@ -141,21 +142,27 @@ module _ {Z U E R : Type 0} (g : Grammar Z U E R) (i i' : Input) (stands : List 
         joined = split ∙ ap (λ l. (p ++ take n y) ++ l) (sym left);
         stands_for = here;
         events_are = events_are ∙ es;
-        goes_on = by ends stays last;
-        unasked = h.unasked;
+        goes_on = by (ends e) refl stays last;
+        no_empty_take = h.no_empty_take;
       } where
         es : events_of g p ++ e ∷ [] ≡ (events_of g h.before ++ h.since) ++ e ∷ []
         es = ap (λ l. l ++ e ∷ []) h.events_are
 
-        by : (b : Bool) → (b ≡ false → IsOpenAt g (p ++ take n y)) → (b ≡ true → (more : List ℕ)
+        by : (b : Bool) → ends e ≡ b → (b ≡ false → IsOpenAt g (p ++ take n y))
+            → (b ≡ true → (more : List ℕ)
             → IsWhole g (events_of g p ++ e ∷ []) None (p ++ (y ++ more)))
-            → IsOpenAt g (p ++ take n y) ⊎ ((more : List ℕ) → IsWhole g
-            (events_of g (p ++ take n y)) None ((h.before ++ h.piece) ++ more))
-        by false stays last = inl (stays refl)
-        by true stays last = inr (λ more.
-            subst (λ (l : List E). IsWhole g l None ((h.before ++ h.piece) ++ more))
-            (sym events_are)
-            (subst (IsWhole g (events_of g p ++ e ∷ []) None) (stream_is more) (last refl more)))
+            → IsOpenAt g (p ++ take n y)
+            ⊎ (((last : E) × (Some e ≡ Some last) × (ends last ≡ true))
+            × ((more : List ℕ) → IsWhole g
+            (events_of g (p ++ take n y)) None ((h.before ++ h.piece) ++ more)))
+        by false is stays last = inl (stays refl)
+        by true is stays last = inr (
+          (e, refl, is),
+          λ more.
+              subst (λ (l : List E). IsWhole g l None ((h.before ++ h.piece) ++ more))
+              (sym events_are)
+              (subst (IsWhole g (events_of g p ++ e ∷ []) None) (stream_is more) (last refl more)),
+        )
 
 -- by the grammar that the end has now, which is the first one
 pub by_grammar : {Z U E R : Type 0} (now g : Grammar Z U E R) → now ≡ g
@@ -169,7 +176,8 @@ ending_is None u o said is = sym (is ∙ ap result_err said)
 ending_is (Some r) u o said is = sym (is ∙ ap result_err said)
 
 -- what is told after two calls, of the same source
-pub told_then : (P Q R : List ℕ → List ℕ → Type 0) (a b c : Option (List ℕ)) → Told a b P → Told b c Q
+pub told_then : (P Q R : List ℕ → List ℕ → Type 0) (a b c : Option (List ℕ)) → Told a b P
+    → Told b c Q
     → ((k l m : List ℕ) → P k l → Q l m → R k m) → Told a c R
 told_then P Q R None b c p q by = tt
 told_then P Q R (Some k) None c p q by = absurd p
@@ -188,15 +196,15 @@ nothing_of (b ∷ bytes) none = absurd (omega (arith, none))
 
 -- where all that was taken is read
 module _ {Z U E R : Type 0} (g : Grammar Z U E R) (i i1 : Input) (stands : List ℕ → Type 0)
-    (Heard : List E → List E → Type 0) (q : List ℕ) (h : HasComeTo g i i1 stands Heard q [])
+    (Handled : List E → List E → Type 0) (q : List ℕ) (h : HasComeTo g i i1 stands Handled q [])
   where
     all_of : h.before ++ h.piece ≡ q
     all_of = h.joined ∙ append-nil q
 
-    -- the listener stops before more is taken
-    pub halted_between : (Halts : Option E → List E → List E → Type 0)
-        → Halts None (events_of g h.before) h.since → WasHalted g i i1 stands Halts []
-    halted_between Halts halted = record {
+    -- the handler stops before more is taken
+    pub halted_between : (ends : E → Bool) (Halts : Option E → List E → List E → Type 0)
+        → Halts None (events_of g h.before) h.since → WasHalted g i i1 ends stands Halts []
+    halted_between ends Halts halted = record {
       before = h.before;
       piece = h.piece;
       came = h.came;
@@ -213,12 +221,12 @@ module _ {Z U E R : Type 0} (g : Grammar Z U E R) (i i1 : Input) (stands : List 
       stands_for = h.stands_for;
       events_are = h.events_are;
       goes_on = inl h.on;
-      unasked = h.unasked;
+      no_empty_take = h.no_empty_take;
     }
 
     -- bytes are taken
     module _ (pending : IsPending g q) (i2 : Input) (bytes : List ℕ)
-        (HeardNow : List E → List E → Type 0) (heard : HeardNow (events_of g q) []) where
+        (HandledNow : List E → List E → Type 0) (handled : HandledNow (events_of g q) []) where
       came : (answer : Result ℕ Failed) → Fills i1 i2 bytes answer → Came g i i2 q bytes
       came answer f = record {
         pending = pending;
@@ -235,7 +243,7 @@ module _ {Z U E R : Type 0} (g : Grammar Z U E R) (i i1 : Input) (stands : List 
 
       -- some
       pub filled : (answer : Result ℕ Failed) → Fills i1 i2 bytes answer → (answer ≡ Ok 0 → ⊥)
-          → HasComeTo g i i2 stands HeardNow q bytes
+          → HasComeTo g i i2 stands HandledNow q bytes
       filled answer f some = record {
         stands_for = h.stands_for;
         on = h.on;
@@ -245,30 +253,30 @@ module _ {Z U E R : Type 0} (g : Grammar Z U E R) (i i1 : Input) (stands : List 
         joined = refl;
         since = [];
         events_are = sym (append-nil (events_of g q));
-        heard = heard;
-        unasked = f.empty.same some ∙ h.unasked;
+        handled = handled;
+        no_empty_take = f.empty.same some ∙ h.no_empty_take;
       }
 
       -- the input failed
       pub was_cut : (fault : Failed) → Fills i1 i2 bytes (Err fault) → (Waits : Type 0) → Waits
-          → WasCut g i i2 HeardNow Waits
+          → WasCut g i i2 HandledNow Waits
       was_cut fault f Waits waits = record {
         before = q;
         came = subst (Came g i i2 q) f.none (came (Err fault) f);
-        heard = heard;
+        handled = handled;
         waits = waits;
-        unasked = f.empty.same (λ e. cc) ∙ h.unasked;
+        no_empty_take = f.empty.same (λ e. cc) ∙ h.no_empty_take;
       }
 
       -- the input is over
       pub was_over : (n : ℕ) → n ≡ 0 → Fills i1 i2 bytes (Ok n) → (judged : Option R)
-          → ending_at g q ≡ judged → WasJudged g i i2 HeardNow judged
+          → ending_at g q ≡ judged → WasJudged g i i2 HandledNow judged
       was_over n zero f judged is = record {
         before = q;
         piece = [];
         came = subst (Came g i i2 q) none (came (Ok n) f);
         since = [];
-        heard = heard;
+        handled = handled;
         whole = subst (λ (l : List E). IsWhole g l judged (q ++ []))
             (sym (append-nil (events_of g q)))
             (subst (IsWhole g (events_of g q) judged) (sym (append-nil q))
@@ -281,7 +289,7 @@ module _ {Z U E R : Type 0} (g : Grammar Z U E R) (i i1 : Input) (stands : List 
               (told_both (λ l l'. l ≡ bytes ++ l') (λ l l'. (n ≡ 0) ↔ (l ≡ [])) i1.left i2.left
               f.moved f.ended)
               (λ all rest rest' e k. ap (λ l. l ++ rest') (sym none) ∙ sym k.0 ∙ k.1.0 zero);
-          once = f.empty.once (ap Ok zero) ∙ ap one_more h.unasked;
+          once = f.empty.once (ap Ok zero) ∙ ap one_more h.no_empty_take;
         });
       } where
         none : bytes ≡ []
@@ -289,10 +297,10 @@ module _ {Z U E R : Type 0} (g : Grammar Z U E R) (i i1 : Input) (stands : List 
 
 -- before the first byte
 pub comes_first : {Z U E R : Type 0} (g : Grammar Z U E R) (i : Input) (stands : List ℕ → Type 0)
-    (Heard : List E → List E → Type 0) → IsPending g [] → stands [] → Heard [] []
-    → HasComeTo g i i stands Heard [] []
+    (Handled : List E → List E → Type 0) → IsPending g [] → stands [] → Handled [] []
+    → HasComeTo g i i stands Handled [] []
 unfolding events_of events_in
-comes_first g i stands Heard pending here heard = record {
+comes_first g i stands Handled pending here handled = record {
   stands_for = here;
   on = pending_open g [] pending;
   before = [];
@@ -308,8 +316,8 @@ comes_first g i stands Heard pending here heard = record {
   joined = refl;
   since = [];
   events_are = refl;
-  heard = heard;
-  unasked = refl;
+  handled = handled;
+  no_empty_take = refl;
 }
 
 -- bytes behind which the stream may go on are no more than one too many

@@ -1,14 +1,14 @@
--- What was read of a stream that is followed to its end, and what was heard of it then.
-use Rattle.std.proofs.Common.{◌≡◌, ℕ, ◌⊎◌, List, [], ◌∷◌, ◌++◌, map, Some, None, Option, sym, refl}
+-- What was read of a stream that is followed to its end, and what was handled of it then.
+use Rattle.std.proofs.Common.{◌≡◌, ℕ, Bool, ◌⊎◌, List, [], ◌∷◌, ◌++◌, map, Some, None, Option, sym, refl}
 use Rattle.std.proofs.Common.{ap, ◌∙◌, subst, inl, inr, append_assoc, append-nil, arith}
 use Rattle.std.proofs.lemmas.List.{map-append}
 use Rattle.io_edges.specs.Flow.{Told}
 use Rattle.unit_streams.{proofs.Pending.pending_open, specs.Going.IsPending, specs.Grammar.Grammar}
 use Rattle.unit_streams.specs.Judging.{events_of}
-use Rattle.stream_loop.specs.declared.following.Ending.{Ending}
-use Rattle.stream_loop.specs.declared.following.Ending.TheVariants.{Judged, Memory, ReadFault}
-use Rattle.stream_loop.specs.{Edges.Input, Resumed.Came, Resumed.IsOver, Resumed.IsUnasked}
-use Rattle.stream_loop.specs.Followed.{AreFirst, AreHeard, Breaks, Decides, Follows, IsWhole}
+use Rattle.stream_loop.specs.declared.following.FollowEnding.{FollowEnding}
+use Rattle.stream_loop.specs.declared.following.FollowEnding.TheVariants.{Judged, Memory, ReadFault}
+use Rattle.stream_loop.specs.{Edges.Input, Resumed.Came, Resumed.IsOver, Resumed.NoEmptyTake}
+use Rattle.stream_loop.specs.Followed.{AreFirst, AreHandled, Breaks, Decides, Follows, IsWhole}
 use Rattle.stream_loop.specs.{Followed.Starves, Resumed.RanOut, Resumed.then_at, Resumed.WasCut}
 use Rattle.stream_loop.specs.{Resumed.WasHalted, Resumed.WasJudged}
 use Rattle.stream_loop.proofs.{Bringing.first_of_open, Reading.told_both, Writing.known_told}
@@ -16,8 +16,8 @@ use Rattle.stream_loop.proofs.Writing.{told_as}
 
 module _ {Z U E V R : Type 0} (g : Grammar Z U E R) (f : E → V) (H : List V → List V → Type 0)
     (i i' : Input) where
-  abbrev HeardBy : List E → List E → Type 0
-  HeardBy paused since = H (map f paused) (map f since)
+  abbrev HandledBy : List E → List E → Type 0
+  HandledBy paused since = H (map f paused) (map f since)
 
   -- what was taken of the input, as one list
   all_taken : (before piece : List ℕ) → Came g i i' before piece
@@ -27,16 +27,16 @@ module _ {Z U E V R : Type 0} (g : Grammar Z U E R) (f : E → V) (H : List V �
       (λ t t' e. e ∙ append_assoc t before piece)
 
   -- a stream that was judged
-  pub decided : (judged : Option R) → WasJudged g i i' HeardBy judged
-      → Decides g (AreHeard f H) i i' judged
+  pub decided : (judged : Option R) → WasJudged g i i' HandledBy judged
+      → Decides g (AreHandled f H) i i' judged
   decided judged w = record {
     bytes = w.before ++ w.piece;
     events = events_of g w.before ++ w.since;
-    heard = record {
+    handled = record {
       paused = events_of g w.before;
       since = w.since;
       joined = refl;
-      heard = w.heard;
+      handled = w.handled;
     };
     whole = w.whole;
     settled = elim w.settled [
@@ -63,58 +63,58 @@ module _ {Z U E V R : Type 0} (g : Grammar Z U E R) (f : E → V) (H : List V �
         (subst (IsPending g) (sym (append-nil w.before)) w.came.pending)
 
   -- a read failed
-  pub broken : (Waits : Type 0) → WasCut g i i' HeardBy Waits → Breaks g (AreHeard f H) i i'
+  pub broken : (Waits : Type 0) → WasCut g i i' HandledBy Waits → Breaks g (AreHandled f H) i i'
   broken Waits w = record {
     bytes = w.before;
     pending = w.came.pending;
-    heard = record {
+    handled = record {
       paused = events_of g w.before;
       since = [];
       joined = sym (append-nil (events_of g w.before));
-      heard = w.heard;
+      handled = w.handled;
     };
     stream = told_as (λ all rest. all ≡ w.before ++ [] ++ rest) (λ all rest. all ≡ w.before ++ rest)
         i.left i'.left w.came.stream
         (λ all rest e. e ∙ ap (λ l. l ++ rest) (append-nil w.before));
     took = told_as (λ t t'. t' ≡ t ++ w.before ++ []) (λ t t'. t' ≡ t ++ w.before) i.taken i'.taken
         w.came.took (λ t t' e. e ∙ append-nil (t ++ w.before));
-    unasked = w.unasked;
+    no_empty_take = w.no_empty_take;
   }
 
   -- memory ran out
   starved_at : (before piece : List ℕ) (since : List E) → Came g i i' before piece
-      → HeardBy (events_of g before) since
+      → HandledBy (events_of g before) since
       → ((more : List ℕ) → AreFirst g (events_of g before ++ since) ((before ++ piece) ++ more))
-      → IsUnasked g i i' → Starves g (AreHeard f H) i i'
-  starved_at before piece since came heard first unasked = record {
+      → NoEmptyTake g i i' → Starves g (AreHandled f H) i i'
+  starved_at before piece since came handled first no_empty_take = record {
     before = before;
     piece = piece;
     pending = came.pending;
     short = came.short;
     events = events_of g before ++ since;
-    heard = record {
+    handled = record {
       paused = events_of g before;
       since = since;
       joined = refl;
-      heard = heard;
+      handled = handled;
     };
     first = first;
     stream = came.stream;
     took = came.took;
-    unasked = unasked;
+    no_empty_take = no_empty_take;
   }
 
-  pub starved : RanOut g i i' HeardBy → Starves g (AreHeard f H) i i'
-  starved w = starved_at w.before w.piece w.since w.came w.heard w.first w.unasked
+  pub starved : RanOut g i i' HandledBy → Starves g (AreHandled f H) i i'
+  starved w = starved_at w.before w.piece w.since w.came w.handled w.first w.no_empty_take
 
-  -- the listener stopped, and hasn't heard the event
-  pub starved_hearing : (stands : List ℕ → Type 0) (Halts : Option E → List E → List E → Type 0)
+  -- the handler stopped, and hasn't handled the event
+  pub starved_handling : (ends : E → Bool) (stands : List ℕ → Type 0) (Halts : Option E → List E → List E → Type 0)
       (y : List ℕ) → ((at : Option E) (paused since : List E) → Halts at paused since
-      → HeardBy paused since) → WasHalted g i i' stands Halts y → Starves g (AreHeard f H) i i'
-  starved_hearing stands Halts y unheard w =
+      → HandledBy paused since) → WasHalted g i i' ends stands Halts y → Starves g (AreHandled f H) i i'
+  starved_handling ends stands Halts y unheard w =
       starved_at w.before w.piece w.since w.came
       (unheard w.at (events_of g w.before) w.since w.halted)
-      (λ more. fewer w.at ((w.before ++ w.piece) ++ more) (w.first more)) w.unasked where
+      (λ more. fewer w.at ((w.before ++ w.piece) ++ more) (w.first more)) w.no_empty_take where
         fewer : (at : Option E) (bytes : List ℕ)
             → AreFirst g (then_at (events_of g w.before ++ w.since) at) bytes
             → AreFirst g (events_of g w.before ++ w.since) bytes
@@ -126,59 +126,59 @@ module _ {Z U E V R : Type 0} (g : Grammar Z U E R) (f : E → V) (H : List V �
         }
 
 -- no memory to begin with
-pub unbegun : {Z U E R : Type 0} (g : Grammar Z U E R) (Heard : List E → Type 0) (i : Input)
-    → IsPending g [] → Heard (events_of g []) → Starves g Heard i i
-unbegun g Heard i pending heard = record {
+pub unbegun : {Z U E R : Type 0} (g : Grammar Z U E R) (Handled : List E → Type 0) (i : Input)
+    → IsPending g [] → Handled (events_of g []) → Starves g Handled i i
+unbegun g Handled i pending handled = record {
   before = [];
   piece = [];
   pending = pending;
   short = omega arith;
   events = events_of g [];
-  heard = heard;
+  handled = handled;
   first = first_of_open g [] (pending_open g [] pending);
   stream = known_told (λ all rest. all ≡ [] ++ [] ++ rest) i.left i.left
       (λ bytes e. (bytes, e, refl));
   took = known_told (λ t t'. t' ≡ t ++ [] ++ []) i.taken i.taken
       (λ t e. (t, e, sym (append-nil (t ++ []) ∙ append-nil t)));
-  unasked = refl;
+  no_empty_take = refl;
 }
 
--- what was heard before the last pause and since then was heard
-pub heard_whole : {E V : Type 0} (f : E → V) (P : List V → Type 0) (events : List E)
-    → AreHeard f (λ paused since. P (paused ++ since)) events → P (map f events)
-heard_whole f P events h =
-    subst P (sym (ap (map f) h.joined ∙ map-append f h.paused h.since)) h.heard
+-- what was handled before the last pause and since then was handled
+pub handled_whole : {E V : Type 0} (f : E → V) (P : List V → Type 0) (events : List E)
+    → AreHandled f (λ paused since. P (paused ++ since)) events → P (map f events)
+handled_whole f P events h =
+    subst P (sym (ap (map f) h.joined ∙ map-append f h.paused h.since)) h.handled
 
--- what was heard says what follows from it
-pub follows_as : {Z U E R : Type 0} (g : Grammar Z U E R) (Heard Said : List E → Type 0)
-    (i i' : Input) (ending : Ending R) → ((events : List E) → Heard events → Said events)
-    → Follows g Heard i i' ending → Follows g Said i i' ending
-follows_as g Heard Said i i' (Judged judged) weaker h = record {
+-- what was handled says what follows from it
+pub follows_as : {Z U E R : Type 0} (g : Grammar Z U E R) (Handled Said : List E → Type 0)
+    (i i' : Input) (ending : FollowEnding R) → ((events : List E) → Handled events → Said events)
+    → Follows g Handled i i' ending → Follows g Said i i' ending
+follows_as g Handled Said i i' (Judged judged) weaker h = record {
   bytes = h.bytes;
   events = h.events;
-  heard = weaker h.events h.heard;
+  handled = weaker h.events h.handled;
   whole = h.whole;
   settled = h.settled;
   stream = h.stream;
   took = h.took;
 }
-follows_as g Heard Said i i' ReadFault weaker h = record {
+follows_as g Handled Said i i' ReadFault weaker h = record {
   bytes = h.bytes;
   pending = h.pending;
-  heard = weaker _ h.heard;
+  handled = weaker _ h.handled;
   stream = h.stream;
   took = h.took;
-  unasked = h.unasked;
+  no_empty_take = h.no_empty_take;
 }
-follows_as g Heard Said i i' Memory weaker h = record {
+follows_as g Handled Said i i' Memory weaker h = record {
   before = h.before;
   piece = h.piece;
   pending = h.pending;
   short = h.short;
   events = h.events;
-  heard = weaker h.events h.heard;
+  handled = weaker h.events h.handled;
   first = h.first;
   stream = h.stream;
   took = h.took;
-  unasked = h.unasked;
+  no_empty_take = h.no_empty_take;
 }

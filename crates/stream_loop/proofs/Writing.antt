@@ -3,10 +3,11 @@ use Rattle.std.proofs.Common.{◌≡◌, ℕ, Bool, true, List, [], ◌++◌, le
 use Rattle.std.proofs.Common.{None, Ok, Err, Option, Result, IsErrOf, sym, refl, ap, ◌∙◌, subst}
 use Rattle.std.proofs.Common.{inl, inr, append_assoc, append-nil, arith, take_all}
 use Rattle.std.{specs.Prelude.⊤, proofs.lemmas.Bool.cases_lt, proofs.lemmas.List.take-append-le}
-use Rattle.io_edges.proofs.Putting.{flush_puts, PutsAll-then}
-use Rattle.io_edges.specs.{declared.SinkFault.SinkFault, Faults.CountsFaults, Puts.PutsAll}
+use Rattle.io_edges.proofs.Putting.{Puts-then}
+use Rattle.io_edges.specs.{declared.SinkFault.SinkFault, Faults.CountsFaults, Puts.Puts}
 use Rattle.io_edges.specs.Flow.{GrowsByPrefix, Passes, Told}
 use Rattle.stream_loop.specs.Reported.{Grows}
+use Rattle.io_edges.specs.Views.{SinkView}
 use Rattle.io_edges.specs.declared.SinkFault.TheVariants as faults
 
 -- what was told before, and what it became
@@ -94,13 +95,13 @@ pub prefix_grows : (b : List ℕ) (w w' : Option (List ℕ)) → Told w w' (λ w
 prefix_grows b w w' h = told_as (λ l l'. GrowsByPrefix l l' b) Grows w w' h
     (λ l l' k. record { more = take k.kept b; grown = k.grown })
 
-pub puts_grow : {lines : List ℕ} (r : Result ⊤ SinkFault) {w w' : Option (List ℕ)} {h h' : List ℕ}
-    {f f' : ℕ} {m m' : Bool} → PutsAll lines r w w' h h' f f' m m' → Told w w' Grows
-puts_grow {lines = lines} (Ok u) {w = w} {w' = w'} {h = h} {h' = h'} p = told_as
-    (λ l l'. Passes l l' h h' lines) Grows w w' p.written
-    (λ l l' k. record { more = k.put; grown = k.grown })
-puts_grow {lines = lines} (Err fault) {w = w} {w' = w'} {h = h} p = prefix_grows (h ++ lines) w w'
-    p.refused
+pub puts_grow : {lines : List ℕ} (r : Result ⊤ SinkFault) {k k' : SinkView} → Puts k k' lines r
+    → Told k.written k'.written Grows
+puts_grow {lines = lines} (Ok u) {k = k} {k' = k'} p = told_as
+    (λ l l'. Passes l l' k.held k'.held lines) Grows k.written k'.written p.written
+    (λ l l' m. record { more = m.put; grown = m.grown })
+puts_grow {lines = lines} (Err fault) {k = k} {k' = k'} p =
+    prefix_grows (k.held ++ lines) k.written k'.written p.refused
 
 -- more is written after what was
 pub grows_more : (front : List ℕ → List ℕ) (w w1 w2 : Option (List ℕ))
@@ -116,11 +117,6 @@ grows_more front (Some w) (Some w1) (Some w2) h more = record {
 }
 
 -- what was put, and then written
-pub after_flush : {lines : List ℕ} (r : Result ⊤ SinkFault) {w w1 w2 : Option (List ℕ)}
-    {h h1 h2 : List ℕ} {f f1 f2 : ℕ} {m m1 m2 : Bool} → PutsAll lines (Ok tt) w w1 h h1 f f1 m m1
-    → OnOk r (Told w1 w2 (λ w w'. w' ≡ w ++ h1))
-    → OnErr r (Told w1 w2 (λ w w'. GrowsByPrefix w w' h1)) → h2 ≡ []
-    → CountsFaults f1 f2 (IsErrOf r faults.Failed) → (IsErrOf r faults.Memory → m1 ≡ true) → m2 ≡ m1
-    → PutsAll lines r w w2 h h2 f f2 m m2
-after_flush r p written refused emptied counted wanted settled = rw append-nil at
-    (PutsAll-then r p (flush_puts r written refused emptied counted wanted settled))
+pub after_flush : {lines : List ℕ} (r : Result ⊤ SinkFault) {k k1 k2 : SinkView}
+    → Puts k k1 lines (Ok tt) → Puts k1 k2 [] r → Puts k k2 lines r
+after_flush r p flushed = rw append-nil at (Puts-then r p flushed)

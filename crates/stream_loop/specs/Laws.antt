@@ -2,22 +2,23 @@
 use Rattle.std.specs.Prelude.{◌≡◌, ℕ, List, ◌++◌, Some, Option}
 use Rattle.io_edges.specs.Flow.{GrowsByPrefix}
 use Rattle.unit_streams.specs.{Grammar.Grammar, Tellers.report, Tellers.Teller}
-use Rattle.stream_loop.specs.declared.reporting.Ending.{Ending, TheVariants.Judged}
-use Rattle.stream_loop.specs.{Edges.Input, Edges.Output, Reported.EndsAs}
+use Rattle.stream_loop.specs.declared.reporting.ReportEnding.{ReportEnding, TheVariants.Judged}
+use Rattle.stream_loop.specs.{Edges.Input, Reported.EndsAs}
+use Rattle.io_edges.specs.Views.{SinkView}
 
 module _ {Z U E R S : Type 0} (g : Grammar Z U E R) (t : Teller S E R) where
   -- a stream of these bytes was reported, which left such a state and ended so
-  pub record Reported (bytes : List ℕ) (state : S) (ending : Ending R) : Type 0 where
+  pub record Reported (bytes : List ℕ) (state : S) (ending : ReportEnding R) : Type 0 where
     pub input : Input
     pub input' : Input
-    pub output : Output
-    pub output' : Output
+    pub output : SinkView
+    pub output' : SinkView
     pub bytes_are : input.left ≡ Some bytes
     pub ends : EndsAs g t input input' output output' state ending
 
   -- however that ends, what is written is a front of what was held and of the report
   abbrev pub FrontsAreWritten : Type 0
-  FrontsAreWritten = (bytes w : List ℕ) (state : S) (ending : Ending R)
+  FrontsAreWritten = (bytes w : List ℕ) (state : S) (ending : ReportEnding R)
       (r : Reported bytes state ending) → r.output.written ≡ Some w
       → (w' : List ℕ) × (r.output'.written ≡ Some w')
       × GrowsByPrefix w w' (r.output.held ++ report g t bytes)

@@ -4,8 +4,10 @@ use Rattle.std.specs.Prelude.{◌≡◌, ℕ, ◌≤◌, ◌⊎◌, List, [], �
 use Rattle.io_edges.specs.{Faults.CountsFaults, Faults.one_more, Flow.GrowsByPrefix, Flow.Told}
 use Rattle.unit_streams.specs.{Going.IsPending, Grammar.Grammar, Judging.events, Judging.offence}
 use Rattle.unit_streams.specs.Tellers.{report, state_behind, Teller, told_so_far}
-use Rattle.stream_loop.specs.{declared.reporting.Ending.Ending, Edges.Input, Edges.Output}
-use Rattle.stream_loop.specs.declared.reporting.Ending.TheVariants.{Judged, ReadFault, WriteFault}
+use Rattle.stream_loop.specs.{declared.reporting.ReportEnding.ReportEnding, Edges.Input}
+use Rattle.stream_loop.specs.declared.reporting.ReportEnding.TheVariants.{Judged, ReadFault}
+use Rattle.stream_loop.specs.declared.reporting.ReportEnding.TheVariants.{WriteFault}
+use Rattle.io_edges.specs.Views.{SinkView}
 
 -- more is written after what was
 pub record Grows (w w' : List ℕ) : Type 0 where
@@ -27,7 +29,7 @@ module _ {Z U E R S : Type 0} (g : Grammar Z U E R) (t : Teller S E R) where
   abbrev pub IsJudged : (judged : Option R) (state : S) → List ℕ → Type 0
   IsJudged judged state bytes = (offence g bytes ≡ judged) × (state ≡ last_state bytes)
 
-  module _ (i i' : Input) (o o' : Output) where
+  module _ (i i' : Input) (o o' : SinkView) where
     -- What was read and written where reading failed: bytes of which no prefix is refused or ends
     -- the stream, and what is written of their events. No take gave nothing.
     pub record Breaks : Type 0 where
@@ -36,7 +38,7 @@ module _ {Z U E R S : Type 0} (g : Grammar Z U E R) (t : Teller S E R) where
       pub stream : Told i.left i'.left (λ all rest. all ≡ bytes ++ rest)
       pub took : Told i.taken i'.taken (λ t t'. t' ≡ t ++ bytes)
       pub wrote : Told o.written o'.written (λ w w'. w' ≡ w ++ o.held ++ told_so_far g t bytes)
-      pub unasked : i'.empty_takes ≡ i.empty_takes
+      pub no_empty_take : i'.empty_takes ≡ i.empty_takes
 
     -- What was read and written however it ends: such bytes, and at most one piece after them; all
     -- that is written of the events of the bytes, and maybe more.
@@ -64,30 +66,30 @@ module _ {Z U E R S : Type 0} (g : Grammar Z U E R) (t : Teller S E R) where
       pub wrote : Told o.written o'.written (λ w w'. w' ≡ w ++ o.held ++ report g t bytes)
 
     -- the judgement of a stream is its offence, and the state is what its events leave
-    abbrev pub Judges : List ℕ → (state : S) → Ending R → Type 0
+    abbrev pub Judges : List ℕ → (state : S) → ReportEnding R → Type 0
     Judges bytes state (Judged judged) = IsJudged judged state bytes
     Judges bytes state _ = Unit {0}
 
     -- what is written of a stream after what was held: its report, or the first bytes of both
-    abbrev pub Reports : List ℕ → (w w' : List ℕ) → Ending R → Type 0
+    abbrev pub Reports : List ℕ → (w w' : List ℕ) → ReportEnding R → Type 0
     Reports bytes w w' (Judged judged) = w' ≡ w ++ o.held ++ report g t bytes
     Reports bytes w w' _ = GrowsByPrefix w w' (o.held ++ report g t bytes)
 
     -- of the takes at most one gave nothing, and none failed after it
-    abbrev pub AsksOnce : Ending R → Type 0
-    AsksOnce ending = (i'.empty_takes ≡ i.empty_takes)
+    abbrev pub OneEmptyTake : ReportEnding R → Type 0
+    OneEmptyTake ending = (i'.empty_takes ≡ i.empty_takes)
         ⊎ ((i'.empty_takes ≡ one_more i.empty_takes) × (ending ≡ ReadFault → ⊥))
 
     -- What is known of a stream's reporting, which leaves such a state and ends so: what was read
-    -- and written, how often the input was asked at its end, and what the calls that failed by the
+    -- and written, how many takes of the input gave nothing, and what the calls that failed by the
     -- outside left of the counts of the input and of the output.
-    pub record EndsAs (state : S) (ending : Ending R) : Type 0 where
+    pub record EndsAs (state : S) (ending : ReportEnding R) : Type 0 where
       pub judges : (bytes : List ℕ) → i.left ≡ Some bytes → Judges bytes state ending
       pub reports : (bytes w : List ℕ) → i.left ≡ Some bytes → o.written ≡ Some w
           → (w' : List ℕ) × (o'.written ≡ Some w') × Reports bytes w w' ending
       pub decides : (judged : Option R) → ending ≡ Judged judged → Decides judged state
       pub breaks : ending ≡ ReadFault → Breaks
       pub reaches : Reaches
-      pub asks_once : AsksOnce ending
+      pub one_empty_take : OneEmptyTake ending
       pub reads_counted : CountsFaults i.faults i'.faults (ending ≡ ReadFault)
       pub writes_counted : CountsFaults o.faults o'.faults (ending ≡ WriteFault)

@@ -1,7 +1,7 @@
 -- How far the reading of a stream has come, and how it stopped: what was read of it, and which of
--- its events were heard.
-use Rattle.std.specs.Prelude.{◌≡◌, ℕ, ◌≤◌, ◌⊎◌, List, [], ◌∷◌, ◌++◌, length, Some, None}
-use Rattle.std.specs.Prelude.{Option}
+-- its events were handled.
+use Rattle.std.specs.Prelude.{◌≡◌, ℕ, ◌≤◌, Bool, true, ◌⊎◌, List, [], ◌∷◌, ◌++◌, length, Some}
+use Rattle.std.specs.Prelude.{None, Option}
 use Rattle.io_edges.specs.{Faults.one_more, Flow.Told}
 use Rattle.unit_streams.specs.{Going.IsOpenAt, Going.IsPending, Grammar.Grammar}
 use Rattle.unit_streams.specs.Judging.{events_of}
@@ -26,8 +26,8 @@ module _ {Z U E R : Type 0} (g : Grammar Z U E R) (i i' : Input) where
     pub took : Told i.taken i'.taken (λ t t'. t' ≡ t ++ before ++ piece)
 
   -- no take gave nothing
-  abbrev pub IsUnasked : Type 0
-  IsUnasked = i'.empty_takes ≡ i.empty_takes
+  abbrev pub NoEmptyTake : Type 0
+  NoEmptyTake = i'.empty_takes ≡ i.empty_takes
 
   -- of the pieces of a stream, the last of which is this: all that was to come has come, and one
   -- take gave nothing
@@ -37,9 +37,9 @@ module _ {Z U E R : Type 0} (g : Grammar Z U E R) (i i' : Input) where
     pub once : i'.empty_takes ≡ one_more i.empty_takes
 
   -- The reading has come to p, and y is buffered. An end that stands so has read p, of which no
-  -- shorter prefix is refused or ends the stream. Its events were heard: those of the pieces that
+  -- shorter prefix is refused or ends the stream. Its events were handled: those of the pieces that
   -- came before the last pause, and the others since then.
-  pub record HasComeTo (stands : List ℕ → Type 0) (Heard : List E → List E → Type 0)
+  pub record HasComeTo (stands : List ℕ → Type 0) (Handled : List E → List E → Type 0)
       (p y : List ℕ) : Type 0 where
     pub stands_for : stands p
     pub on : IsOpenAt g p
@@ -49,43 +49,43 @@ module _ {Z U E R : Type 0} (g : Grammar Z U E R) (i i' : Input) where
     pub joined : before ++ piece ≡ p ++ y
     pub since : List E
     pub events_are : events_of g p ≡ events_of g before ++ since
-    pub heard : Heard (events_of g before) since
-    pub unasked : IsUnasked
+    pub handled : Handled (events_of g before) since
+    pub no_empty_take : NoEmptyTake
 
   -- the stream was judged: by the end of the input, or however it goes on
-  pub record WasJudged (Heard : List E → List E → Type 0) (judged : Option R) : Type 0 where
+  pub record WasJudged (Handled : List E → List E → Type 0) (judged : Option R) : Type 0 where
     pub before : List ℕ
     pub piece : List ℕ
     pub came : Came before piece
     pub since : List E
-    pub heard : Heard (events_of g before) since
+    pub handled : Handled (events_of g before) since
     pub whole : IsWhole g (events_of g before ++ since) judged (before ++ piece)
     pub settled : IsOver piece
         ⊎ (((more : List ℕ) → IsWhole g (events_of g before ++ since) judged
-        ((before ++ piece) ++ more)) × IsUnasked)
+        ((before ++ piece) ++ more)) × NoEmptyTake)
 
-  -- A read failed behind these pieces, whose events were heard. What was due for them has left.
-  pub record WasCut (Heard : List E → List E → Type 0) (Waits : Type 0) : Type 0 where
+  -- A read failed behind these pieces, whose events were handled. What was due for them has left.
+  pub record WasCut (Handled : List E → List E → Type 0) (Waits : Type 0) : Type 0 where
     pub before : List ℕ
     pub came : Came before []
-    pub heard : Heard (events_of g before) []
+    pub handled : Handled (events_of g before) []
     pub waits : Waits
-    pub unasked : IsUnasked
+    pub no_empty_take : NoEmptyTake
 
-  -- memory ran out, where these events had been heard
-  pub record RanOut (Heard : List E → List E → Type 0) : Type 0 where
+  -- memory ran out, where these events had been handled
+  pub record RanOut (Handled : List E → List E → Type 0) : Type 0 where
     pub before : List ℕ
     pub piece : List ℕ
     pub came : Came before piece
     pub since : List E
-    pub heard : Heard (events_of g before) since
+    pub handled : Handled (events_of g before) since
     pub first : (more : List ℕ)
         → AreFirst g (events_of g before ++ since) ((before ++ piece) ++ more)
-    pub unasked : IsUnasked
+    pub no_empty_take : NoEmptyTake
 
-  -- The listener stopped the reading: behind an event or before more was taken. An end that stands
-  -- so has read the bytes up to there, and y is buffered. The stream goes on, or it is judged.
-  pub record WasHalted (stands : List ℕ → Type 0)
+  -- The handler stopped the reading: behind an event or before more was taken. An end that stands
+  -- so has read the bytes up to there, and y is buffered. The stream goes on, or that event ends it.
+  pub record WasHalted (ends : E → Bool) (stands : List ℕ → Type 0)
       (Halts : Option E → List E → List E → Type 0) (y : List ℕ) : Type 0 where
     pub before : List ℕ
     pub piece : List ℕ
@@ -100,14 +100,15 @@ module _ {Z U E R : Type 0} (g : Grammar Z U E R) (i i' : Input) where
     pub stands_for : stands read
     pub events_are : events_of g read ≡ then_at (events_of g before ++ since) at
     pub goes_on : IsOpenAt g read
-        ⊎ ((more : List ℕ) → IsWhole g (events_of g read) None ((before ++ piece) ++ more))
-    pub unasked : IsUnasked
+        ⊎ (((last : E) × (at ≡ Some last) × (ends last ≡ true))
+        × ((more : List ℕ) → IsWhole g (events_of g read) None ((before ++ piece) ++ more)))
+    pub no_empty_take : NoEmptyTake
 
-  -- what was read and heard, however that ended
-  abbrev pub ReadsOn : {H : Type 0} → (stands : List ℕ → Type 0)
-      → (Heard : List E → List E → Type 0) → (Halts : H → Option E → List E → List E → Type 0)
+  -- what was read and handled, however that ended
+  abbrev pub ReadsOn : {H : Type 0} → (ends : E → Bool) → (stands : List ℕ → Type 0)
+      → (Handled : List E → List E → Type 0) → (Halts : H → Option E → List E → List E → Type 0)
       → (Waits : Type 0) → (y : List ℕ) → ReadOn R H → Type 0
-  ReadsOn stands Heard Halts Waits y (Judged judged) = WasJudged Heard judged
-  ReadsOn stands Heard Halts Waits y ReadFault = WasCut Heard Waits
-  ReadsOn stands Heard Halts Waits y Memory = RanOut Heard
-  ReadsOn stands Heard Halts Waits y (Halted halt) = WasHalted stands (Halts halt) y
+  ReadsOn ends stands Handled Halts Waits y (Judged judged) = WasJudged Handled judged
+  ReadsOn ends stands Handled Halts Waits y ReadFault = WasCut Handled Waits
+  ReadsOn ends stands Handled Halts Waits y Memory = RanOut Handled
+  ReadsOn ends stands Handled Halts Waits y (Halted halt) = WasHalted ends stands (Halts halt) y

@@ -5,10 +5,10 @@ ghost use Rattle.io_edges.specs.Faults.{CountsFaults};
 ghost use Rattle.unit_streams.specs.declared.Memory.{Memory as Want};
 ghost use Rattle.stream_loop.specs.Answers.{EndsWithin};
 ghost use Rattle.stream_loop.specs.Edges.{input_at};
-ghost use Rattle.stream_loop.specs.Followed.{AreHeard, Follows};
+ghost use Rattle.stream_loop.specs.Followed.{AreHandled, Follows};
 
+use crate::event_handler::EventHandler;
 use crate::input_buffer::InputBuffer;
-use crate::listener::Listener;
 use crate::reading_end::ReadingEnd;
 use crate::resuming::{ReadOn, read_on};
 use io_edges::Source;
@@ -17,49 +17,49 @@ use unit_streams::Memory;
 
 /// How the reading of a stream ended.
 #[derive(Clone, Copy, Debug, PartialEq, Eq, Drop)]
-pub enum Ending<R> {
+pub enum FollowEnding<R> {
     /// The stream ended well, or this is why it is refused.
     Judged(Option<R>),
     /// The input failed.
     ReadFault,
-    /// Out of memory while reading, or while hearing an event.
+    /// Out of memory while reading, or while handling an event.
     Memory,
 }
 
-/// Reads the stream that the input gives to its end, by an end that has read nothing of it, and has
-/// each event heard by a listener that has heard none. The buffer for a piece, of 64 KiB, is
-/// allocated once. The listener stops the reading only for want of memory, and hasn't heard the
+/// Reads the stream that the input gives to its end, by an end that has read nothing of it, and
+/// hands each event to a handler that has handled none. The buffer for a piece, of 64 KiB, is
+/// allocated once. The handler stops the reading only for want of memory, and hasn't handled the
 /// event then.
-pub fn follow_stream<I: Source, E: ReadingEnd, O, L: Listener<E::Event, O, Halt = Memory>>(
+pub fn follow_stream<I: Source, E: ReadingEnd, O, H: EventHandler<E::Event, O, Halt = Memory>>(
     alloc: Global,
     end: &mut E,
-    listener: &mut L,
+    handler: &mut H,
     input: &mut I,
     output: &mut O,
-) -> Ending<E::Refusal>
+) -> FollowEnding<E::Refusal>
     requires ends { EndsWithin (E.grammar end.old) E.ends (E.most end.old) }
     requires fresh { E.stands end.old [] }
-    requires first { L.heard output.old [] [] listener.old output.old }
+    requires first { H.handled output.old [] [] handler.old output.old }
     requires halts { (first now : O) (paused since : List E.Event) (at : Option E.Event)
-        (halt : Want) (listener' : L) → L.halted first paused since at halt listener' now
-        → L.heard first paused since listener' now }
-    ensures follows { Follows (E.grammar end.old) (AreHeard E.event_for
-        (λ paused since. L.heard output.old paused since listener.new output.new))
+        (halt : Want) (handler' : H) → H.halted first paused since at halt handler' now
+        → H.handled first paused since handler' now }
+    ensures follows { Follows (E.grammar end.old) (AreHandled E.event_for
+        (λ paused since. H.handled output.old paused since handler.new output.new))
         (input_at I.left I.taken I.faults I.empty_takes input.old)
         (input_at I.left I.taken I.faults I.empty_takes input.new) result }
     ensures counted { CountsFaults (I.faults input.old) (I.faults input.new)
-        (result ≡ Ending.ReadFault) }
-    ensures same_end { (L.has_stopped listener.new → ⊥) → L.ended output.new ≡ L.ended output.old }
+        (result ≡ FollowEnding.ReadFault) }
+    ensures same_end { (H.has_stopped handler.new → ⊥) → H.ended output.new ≡ H.ended output.old }
     ensures grammar { E.grammar end.new ≡ E.grammar end.old }
-    ensures settings { L.settings listener.new ≡ L.settings listener.old }
+    ensures settings { H.settings handler.new ≡ H.settings handler.old }
 {
     let Ok(mut buffer) = InputBuffer::new(alloc) else {
-        return Ending::Memory;
+        return FollowEnding::Memory;
     };
-    match read_on(&mut buffer, end, listener, input, output) {
-        ReadOn::Judged(judged) => Ending::Judged(judged),
-        ReadOn::ReadFault => Ending::ReadFault,
-        ReadOn::Memory => Ending::Memory,
-        ReadOn::Halted(Memory) => Ending::Memory,
+    match read_on(&mut buffer, end, handler, input, output) {
+        ReadOn::Judged(judged) => FollowEnding::Judged(judged),
+        ReadOn::ReadFault => FollowEnding::ReadFault,
+        ReadOn::Memory => FollowEnding::Memory,
+        ReadOn::Halted(Memory) => FollowEnding::Memory,
     }
 }

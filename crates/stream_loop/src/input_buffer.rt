@@ -33,7 +33,7 @@ impl Model for InputBuffer {
 }
 
 impl InputBuffer {
-    /// Without bytes.
+    /// An empty buffer. It fails without memory for its 64 KiB.
     pub fn new(alloc: Global) -> Result<Self, Memory>
         ensures { IfOk result (λ buffer. buffer ≡ []) }
     {
@@ -69,8 +69,9 @@ impl InputBuffer {
         self.from = self.to;
     }
 
-    /// Takes the next bytes of the input, where none are left. They may be long in coming. Answers
-    /// how many they are, which is 0 at the end of the input.
+    /// Takes the next bytes of the input, by one read, where none are left. They may be long in
+    /// coming. Answers how many they are, which is 0 at the end of the input. It fails where the
+    /// read met an I/O error, and then no bytes are there.
     pub fn fill<I: Source>(&mut self, input: &mut I) -> Result<usize, Failed>
         requires { self.old ≡ [] }
         ensures { Fills (input_at I.left I.taken I.faults I.empty_takes input.old)

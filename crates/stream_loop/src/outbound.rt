@@ -2,8 +2,9 @@
 
 ghost use Rattle.std.specs.Prelude.{◌≡◌, ⊤, Result, List, ℕ, [], true, false};
 ghost use Rattle.io_edges.specs.declared.SinkFault.{SinkFault as Fault};
-ghost use Rattle.stream_loop.specs.Writing.{Goes, IsCut, PutsParts, PutsTo};
+ghost use Rattle.stream_loop.specs.Writing.{Goes, IsCut, PutsParts};
 ghost use Rattle.stream_loop.specs.Writing.{outbound_by, outbound_of};
+ghost use Rattle.io_edges.specs.Puts.{Puts};
 
 use io_edges::{Sink, SinkFault};
 
@@ -39,8 +40,8 @@ fn outbound_of(fault: SinkFault) -> Outbound
 
 /// Puts bytes, if there are any, and answers how the writing stands.
 pub fn put_bytes<K: Sink>(bytes: &[u8], sink: &mut K) -> Outbound
-    ensures goes { Goes K.written K.held K.faults K.may_want result bytes.now sink.old sink.new }
-    ensures wanted { result ≡ Outbound.Memory → K.may_want sink.old ≡ true }
+    ensures goes { Goes result bytes.now (K.view sink.old) (K.view sink.new) }
+    ensures memory { result ≡ Outbound.Memory → (K.view sink.old).may_run_out ≡ true }
     ensures same_end { K.ended sink.new ≡ K.ended sink.old }
 {
     if bytes.is_empty() {
@@ -55,8 +56,7 @@ pub fn put_bytes<K: Sink>(bytes: &[u8], sink: &mut K) -> Outbound
 /// Puts bytes, a part at a time. Answers how many were put, and how the writing stands: all were
 /// put, or a put failed at the next one.
 pub fn put_parts<K: Sink>(bytes: &[u8], sink: &mut K) -> (usize, Outbound)
-    ensures puts { PutsParts K.written K.held K.faults K.may_want bytes.now sink.old sink.new
-        result.0 result.1 }
+    ensures puts { PutsParts bytes.now (K.view sink.old) (K.view sink.new) result.0 result.1 }
     ensures same_end { K.ended sink.new ≡ K.ended sink.old }
 {
     let mut at = 0;
@@ -72,9 +72,9 @@ pub fn put_parts<K: Sink>(bytes: &[u8], sink: &mut K) -> (usize, Outbound)
 /// Writes what the sink holds, and answers how the writing stands.
 pub fn flush<K: Sink>(sink: &mut K) -> Outbound
     ensures flushed { (flush : Result ⊤ Fault)
-        × PutsTo K.written K.held K.faults K.may_want sink.old sink.new [] flush
+        × Puts (K.view sink.old) (K.view sink.new) [] flush
         × (result ≡ outbound_by flush) }
-    ensures emptied { K.held sink.new ≡ [] }
+    ensures emptied { (K.view sink.new).held ≡ [] }
     ensures same_end { K.ended sink.new ≡ K.ended sink.old }
 {
     match sink.flush() {
@@ -85,9 +85,8 @@ pub fn flush<K: Sink>(sink: &mut K) -> Outbound
 
 /// Ends the writing since there is no memory for the next bytes. What the sink holds is written
 /// first.
-pub fn starve<K: Sink>(sink: &mut K) -> Outbound
-    ensures cut { (next : List ℕ) → IsCut K.written K.held K.faults K.may_want result next
-        sink.old sink.new }
+pub fn run_out<K: Sink>(sink: &mut K) -> Outbound
+    ensures cut { (next : List ℕ) → IsCut result next (K.view sink.old) (K.view sink.new) }
     ensures same_end { K.ended sink.new ≡ K.ended sink.old }
 {
     match flush(sink) {

@@ -82,7 +82,7 @@ pub trait ReadingEnd {
             → result ≡ ends completed };
 
     /// Takes back an event that is no longer needed; the next one reuses its memory.
-    fn hand_back(&mut self, event: Self::Event)
+    fn recycle(&mut self, event: Self::Event)
         ensures stands { (p : List ℕ) → stands self.old p → stands self.new p }
         ensures grammar { grammar self.new ≡ grammar self.old };
 

@@ -1,8 +1,8 @@
-//! A reporter as what hears the events of a stream.
+//! A reporter as what handles the events of a stream.
 
 ghost use Rattle.std.specs.Prelude.{◌≡◌, ℕ, [], ⊤, true};
 
-use crate::{Listener, Reporter};
+use crate::{EventHandler, Reporter};
 use io_edges::{Sink, SinkFault};
 use std::marker::PhantomData;
 
@@ -13,7 +13,7 @@ pub struct Reporting<'t, R, T> {
     pub refusals: PhantomData<R>,
 }
 
-impl<'t, Event: Drop, R, T: Reporter<Event, R>, K: Sink> Listener<Event, K>
+impl<'t, Event: Drop, R, T: Reporter<Event, R>, K: Sink> EventHandler<Event, K>
     for Reporting<'t, R, T> {
     ghost use Rattle.unit_streams.specs.Tellers.{Teller};
     ghost use Rattle.stream_loop.specs.Report.{HasFailed, HasPut};
@@ -24,15 +24,15 @@ impl<'t, Event: Drop, R, T: Reporter<Event, R>, K: Sink> Listener<Event, K>
 
     ghost settings = { λ r. (T.rules r.reporter.now, r.reporter.ghost_name) };
 
-    ghost heard = { λ first paused since r now. HasPut K.written K.held K.faults K.may_want
-        (T.rules r.reporter.now) first paused since (T.state r.reporter.now) now };
+    ghost handled = { λ first paused since r now. HasPut (T.rules r.reporter.now) (K.view first)
+        paused since (T.state r.reporter.now) (K.view now) };
 
-    ghost halted = { λ first paused since at fault r now. HasFailed K.written K.held K.faults
-        K.may_want (T.rules r.reporter.now) first paused since at fault now };
+    ghost halted = { λ first paused since at fault r now. HasFailed (T.rules r.reporter.now)
+        (K.view first) paused since at fault (K.view now) };
 
     ghost may_halt = { λ r. ⊤ };
 
-    ghost may_wait = { λ r now. K.held now ≡ [] };
+    ghost may_wait = { λ r now. (K.view now).held ≡ [] };
 
     ghost ended = { λ sink. true };
 
@@ -40,7 +40,7 @@ impl<'t, Event: Drop, R, T: Reporter<Event, R>, K: Sink> Listener<Event, K>
 
     ghost is_unput = { λ old new. ⊤ };
 
-    fn hear(&mut self, event: Event, output: &mut K) -> Result<Event, SinkFault> {
+    fn handle(&mut self, event: Event, output: &mut K) -> Result<Event, SinkFault> {
         self.reporter.put_event(&event, output)?;
         Ok(event)
     }

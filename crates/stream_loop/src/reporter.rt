@@ -22,7 +22,7 @@ pub trait Reporter<Event, Refusal> {
 
     /// Puts what is written of an event. It fails as the output does.
     fn put_event<K: Sink>(&mut self, event: &Event, output: &mut K) -> Result<(), SinkFault>
-        ensures puts { Puts K.written K.held K.faults K.may_want output.old output.new
+        ensures puts { Puts (K.view output.old) (K.view output.new)
             ((rules self.old).told (state self.old) event.now) result }
         ensures next { OnOk result (state self.new
             ≡ (rules self.old).next (state self.old) event.now) }
@@ -35,7 +35,7 @@ pub trait Reporter<Event, Refusal> {
         refusal: &Option<Refusal>,
         output: &mut K,
     ) -> Result<(), SinkFault>
-        ensures puts { Puts K.written K.held K.faults K.may_want output.old output.new
+        ensures puts { Puts (K.view output.old) (K.view output.new)
             ((rules self.old).ends (state self.old) refusal.now) result }
         ensures state { state self.new ≡ state self.old }
         ensures rules { rules self.new ≡ rules self.old };

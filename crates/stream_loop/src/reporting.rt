@@ -5,7 +5,7 @@ ghost use Rattle.io_edges.specs.Faults.{CountsFaults};
 ghost use Rattle.io_edges.specs.Puts.{Puts};
 ghost use Rattle.io_edges.specs.declared.SinkFault.{SinkFault as Fault};
 ghost use Rattle.stream_loop.specs.Answers.{EndsWithin, written_by};
-ghost use Rattle.stream_loop.specs.Edges.{input_at, output_at};
+ghost use Rattle.stream_loop.specs.Edges.{input_at};
 ghost use Rattle.stream_loop.specs.LoopParts.{HasReported, done, ended_by};
 ghost use Rattle.stream_loop.specs.Reported.{EndsAs};
 
@@ -19,7 +19,7 @@ use std::marker::PhantomData;
 
 /// How the reporting of a stream ended.
 #[derive(Clone, Copy, Debug, PartialEq, Eq, Drop)]
-pub enum Ending<R> {
+pub enum ReportEnding<R> {
     /// The stream ended as it may; or it is refused, for this reason.
     Judged(Option<R>),
     /// A read met an I/O error.
@@ -38,23 +38,22 @@ fn put_lines<I: Source, O: Sink, E: ReadingEnd, T: Reporter<E::Event, E::Refusal
     reporting: &mut Reporting<'_, E::Refusal, T>,
     input: &mut I,
     output: &mut O,
-) -> Result<Ending<E::Refusal>, SinkFault>
+) -> Result<ReportEnding<E::Refusal>, SinkFault>
     requires ends { EndsWithin (E.grammar end.old) E.ends (E.most end.old) }
     requires fresh { E.stands end.old [] }
     requires empty { buffer.old ≡ [] }
     requires first { T.state reporting.old.reporter.now
         ≡ (T.rules reporting.old.reporter.now).start }
     ensures reports { (lines : List ℕ)
-        × Puts O.written O.held O.faults O.may_want output.old output.new lines (done result)
+        × Puts (O.view output.old) (O.view output.new) lines (done result)
         × HasReported (E.grammar end.old)
         (written_by E.event_for (T.rules reporting.old.reporter.now))
         (input_at I.left I.taken I.faults I.empty_takes input.old)
         (input_at I.left I.taken I.faults I.empty_takes input.new)
-        (output_at O.written O.held O.faults output.old)
-        (output_at O.written O.held O.faults output.new)
+        (O.view output.old) (O.view output.new)
         (T.state reporting.new.reporter.now) result lines }
     ensures counted { CountsFaults (I.faults input.old) (I.faults input.new)
-        (result ≡ Ok Ending.ReadFault) }
+        (result ≡ Ok ReportEnding.ReadFault) }
     ensures grammar { E.grammar end.new ≡ E.grammar end.old }
     ensures rules { T.rules reporting.new.reporter.now ≡ T.rules reporting.old.reporter.now }
     ensures same_reporter { reporting.new.reporter.ghost_name
@@ -64,10 +63,10 @@ fn put_lines<I: Source, O: Sink, E: ReadingEnd, T: Reporter<E::Event, E::Refusal
     match read_on(buffer, end, reporting, input, output) {
         ReadOn::Judged(refusal) => {
             reporting.reporter.put_ending(&refusal, output)?;
-            Ok(Ending::Judged(refusal))
+            Ok(ReportEnding::Judged(refusal))
         }
-        ReadOn::ReadFault => Ok(Ending::ReadFault),
-        ReadOn::Memory => Ok(Ending::Memory),
+        ReadOn::ReadFault => Ok(ReportEnding::ReadFault),
+        ReadOn::Memory => Ok(ReportEnding::Memory),
         ReadOn::Halted(fault) => Err(fault),
     }
 }
@@ -79,25 +78,24 @@ fn put_report<I: Source, O: Sink, E: ReadingEnd, T: Reporter<E::Event, E::Refusa
     reporter: &mut T,
     input: &mut I,
     output: &mut O,
-) -> Result<Ending<E::Refusal>, SinkFault>
+) -> Result<ReportEnding<E::Refusal>, SinkFault>
     requires ends { EndsWithin (E.grammar end.old) E.ends (E.most end.old) }
     requires fresh { E.stands end.old [] }
     requires first { T.state reporter.old ≡ (T.rules reporter.old).start }
     ensures reports { (last : T) × (last ≡ reporter.new) × (lines : List ℕ)
-        × Puts O.written O.held O.faults O.may_want output.old output.new lines (done result)
+        × Puts (O.view output.old) (O.view output.new) lines (done result)
         × HasReported (E.grammar end.old) (written_by E.event_for (T.rules reporter.old))
         (input_at I.left I.taken I.faults I.empty_takes input.old)
         (input_at I.left I.taken I.faults I.empty_takes input.new)
-        (output_at O.written O.held O.faults output.old)
-        (output_at O.written O.held O.faults output.new)
+        (O.view output.old) (O.view output.new)
         (T.state last) result lines }
     ensures counted { CountsFaults (I.faults input.old) (I.faults input.new)
-        (result ≡ Ok Ending.ReadFault) }
+        (result ≡ Ok ReportEnding.ReadFault) }
     ensures grammar { E.grammar end.new ≡ E.grammar end.old }
     ensures rules { T.rules reporter.new ≡ T.rules reporter.old }
 {
     let Ok(mut buffer) = InputBuffer::new(alloc) else {
-        return Ok(Ending::Memory);
+        return Ok(ReportEnding::Memory);
     };
     let mut reporting = Reporting {
         reporter,
@@ -107,19 +105,22 @@ fn put_report<I: Source, O: Sink, E: ReadingEnd, T: Reporter<E::Event, E::Refusa
 }
 
 // Writes what the output holds, unless it has failed. Where a read failed it holds nothing.
-fn written<R: Drop, O: Sink>(ending: Result<Ending<R>, SinkFault>, output: &mut O) -> Ending<R>
-    ensures kept { ending ≡ Ok Ending.ReadFault → (result ≡ Ending.ReadFault)
-        × (output.new ≡ output.old) }
+fn written<R: Drop, O: Sink>(
+    ending: Result<ReportEnding<R>, SinkFault>,
+    output: &mut O,
+) -> ReportEnding<R>
+    ensures kept { ending ≡ Ok ReportEnding.ReadFault → (result ≡ ReportEnding.ReadFault)
+        × (O.view output.new ≡ O.view output.old) }
     ensures failed { IfErr ending (λ fault. (result ≡ ended_by fault)
-        × (output.new ≡ output.old)) }
-    ensures flushed { IfOk ending (λ e. (e ≡ Ending.ReadFault → ⊥) → (flush : Result ⊤ Fault)
-        × Puts O.written O.held O.faults O.may_want output.old output.new [] flush
-        × OnOk flush ((result ≡ e) × (O.held output.new ≡ []))
+        × (O.view output.new ≡ O.view output.old)) }
+    ensures flushed { IfOk ending (λ e. (e ≡ ReportEnding.ReadFault → ⊥) → (flush : Result ⊤ Fault)
+        × Puts (O.view output.old) (O.view output.new) [] flush
+        × OnOk flush ((result ≡ e) × ((O.view output.new).held ≡ []))
         × IfErr flush (λ fault. result ≡ ended_by fault)) }
 {
     match ending {
         Err(fault) => stopped(fault),
-        Ok(Ending::ReadFault) => Ending::ReadFault,
+        Ok(ReportEnding::ReadFault) => ReportEnding::ReadFault,
         Ok(ending) => match output.flush() {
             Ok(()) => ending,
             Err(fault) => stopped(fault),
@@ -137,15 +138,14 @@ pub fn report_stream<I: Source, O: Sink, E: ReadingEnd, T: Reporter<E::Event, E:
     reporter: &mut T,
     input: &mut I,
     output: &mut O,
-) -> Ending<E::Refusal>
+) -> ReportEnding<E::Refusal>
     requires ends { EndsWithin (E.grammar end.old) E.ends (E.most end.old) }
     requires fresh { E.stands end.old [] }
     requires first { T.state reporter.old ≡ (T.rules reporter.old).start }
     ensures reported { EndsAs (E.grammar end.old) (written_by E.event_for (T.rules reporter.old))
         (input_at I.left I.taken I.faults I.empty_takes input.old)
         (input_at I.left I.taken I.faults I.empty_takes input.new)
-        (output_at O.written O.held O.faults output.old)
-        (output_at O.written O.held O.faults output.new)
+        (O.view output.old) (O.view output.new)
         (T.state reporter.new) result }
     ensures grammar { E.grammar end.new ≡ E.grammar end.old }
     ensures rules { T.rules reporter.new ≡ T.rules reporter.old }
@@ -154,11 +154,11 @@ pub fn report_stream<I: Source, O: Sink, E: ReadingEnd, T: Reporter<E::Event, E:
     written(ending, output)
 }
 
-fn stopped<R>(fault: SinkFault) -> Ending<R>
+fn stopped<R>(fault: SinkFault) -> ReportEnding<R>
     ensures { result ≡ ended_by fault }
 {
     match fault {
-        SinkFault::Failed => Ending::WriteFault,
-        SinkFault::Memory => Ending::Memory,
+        SinkFault::Failed => ReportEnding::WriteFault,
+        SinkFault::Memory => ReportEnding::Memory,
     }
 }

@@ -109,8 +109,8 @@ module _ (g : Over) (f : After-read_piece g) where
       f.loop-n.invariant.reads.4
 
   -- the take gave something
-  unasked : i2.empty_takes ≡ i.empty_takes
-  unasked = f.in-Ok-fill.ensures.empty.same (λ e. f.if-n-eq0.false (let is = e in cc))
+  no_empty_take : i2.empty_takes ≡ i.empty_takes
+  no_empty_take = f.in-Ok-fill.ensures.empty.same (λ e. f.if-n-eq0.false (let is = e in cc))
       ∙ f.loop-n.invariant.empty_takes
 
 -- more was taken, of what the quota admits
@@ -139,7 +139,7 @@ loop-n-preserved g c =
       empty = c.clear.ensures;
       quota = c.in_ok-read_piece.ensures.quota ∙ c.loop-n.invariant.quota;
       faults = c.in-Ok-fill.ensures.counted.same (λ e. cc) ∙ c.loop-n.invariant.faults;
-      empty_takes = unasked g f;
+      empty_takes = no_empty_take g f;
       reads =
           let first = c.args.reader.now.keeper in
           let before = c.loop-n.invariant.reads.1 in
@@ -177,6 +177,6 @@ returns-in_err-read_piece-clause-takes g c =
     rw (r.1, r.2) (taken_lines kept quota (i g f) (i2 g f) new (before ++ y g f) _ (left g f)
     (taken g f)
     (piece_taken kept quota new before (y g f) (Told (g.S.Source.left f.args.source.now)
-    (g.S.Source.left f.fill.new.input) (λ all rest. rest ≡ [])) _ reads) (inl (unasked g f))
+    (g.S.Source.left f.fill.new.input) (λ all rest. rest ≡ [])) _ reads) (inl (no_empty_take g f))
     (counted_none _ _ _ (c.in-Ok-fill.ensures.counted.same (λ e. cc) ∙ c.loop-n.invariant.faults)
     (λ is. piece_read kept quota new before (y g f) _ reads (let same = is in cc))))

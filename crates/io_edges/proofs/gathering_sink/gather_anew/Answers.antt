@@ -1,24 +1,15 @@
 use Rattle.std.proofs.{Common.[], lemmas.Result.err_from_is_err_and}
-use Rattle.io_edges.proofs.Putting.{beside_no_room, PutsAll-cut, PutsAll-then}
+use Rattle.io_edges.proofs.Putting.{beside_no_room, Puts-cut, Puts-then}
 use Rattle.io_edges.proofs.gathering_sink.gather_anew.Goals as goal
 
 pub returns-in_err-put_gathered-clause-adds : goal.returns-in_err-put_gathered-clause-adds
 returns-in_err-put_gathered-clause-adds g c =
     let p = err_from_is_err_and c.from_residual.result c.from_residual.ensures.1 in
     rw (p.1, p.2, c.in_err-put_gathered.ensures.emptied)
-    (PutsAll-cut {a = []} c.args.bytes.now c.in_err-put_gathered.ensures.puts)
+    (Puts-cut {a = []} c.args.bytes.now c.in_err-put_gathered.ensures.puts)
 
 pub returns-clause-adds : goal.returns-clause-adds
 returns-clause-adds g c =
-    let e = c.put.ensures in
     rw c.in_ok-put_gathered.ensures.emptied
-    (PutsAll-then {a = []} {b = c.args.bytes.now} c.put.result c.in_ok-put_gathered.ensures.puts
-    (beside_no_room
-    (record {
-      written = e.written;
-      refused = e.refused;
-      dropped = e.dropped;
-      counted = e.counted;
-      wanted = e.wanted;
-      settled = e.settled;
-    })))
+    (Puts-then {a = []} {b = c.args.bytes.now} c.put.result c.in_ok-put_gathered.ensures.puts
+    (beside_no_room c.put.ensures.puts))

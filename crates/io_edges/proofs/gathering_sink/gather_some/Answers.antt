@@ -10,14 +10,7 @@ returns-in_err-put_gathered-clause-adds g c =
 
 pub returns-clause-adds : goal.returns-clause-adds
 returns-clause-adds g c =
-    let e = c.put_some.ensures in
     rw c.in_ok-put_gathered.ensures.emptied
-    (some_behind (g.K.Sink.held c.args.sink.now) (take c.args.used.now c.args.room.now)
-    c.put_some.result c.in_ok-put_gathered.ensures.puts (record {
-      written = e.written;
-      refused = e.refused;
-      dropped = e.dropped;
-      counted = e.counted;
-      wanted = e.wanted;
-      settled = e.settled;
-    }))
+    (some_behind (g.K.Sink.view c.args.sink.now) (take c.args.used.now c.args.room.now)
+    c.put_some.result
+    c.in_ok-put_gathered.ensures.puts c.put_some.ensures.puts)

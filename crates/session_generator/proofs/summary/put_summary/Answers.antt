@@ -3,5 +3,4 @@ use Rattle.session_generator.proofs.summary.put_summary.Goals as goal
 
 pub returns-clause-puts : goal.returns-clause-puts
 returns-clause-puts g c = after_flush c.flush.result c.in_ok-put_measured.ensures
-    c.flush.ensures.written c.flush.ensures.refused c.flush.ensures.emptied
-    c.flush.ensures.counted c.flush.ensures.wanted c.flush.ensures.settled
+    c.flush.ensures.puts

@@ -1,6 +1,6 @@
-use Rattle.std.proofs.Common.{◌≡◌, ℕ, Bool, List, ◌++◌, Err, Option, sym, ap, subst}
+use Rattle.std.proofs.Common.{◌≡◌, Err, sym, ap, subst}
 use Rattle.io_edges.specs.{declared.SinkFault.TheVariants.Failed, Faults.CountsFaults}
-use Rattle.{io_edges.specs.Gathering.Gathering, stream_loop.specs.Edges.output_at}
+use Rattle.io_edges.specs.{Gathering.with_room, Views.SinkView}
 use Rattle.nbfx_values.specs.QuotasOf.{limits_of}
 use Rattle.session_generator.specs.{Documents.documents, Summary.Summarizes}
 use Rattle.session_generator.specs.Measuring.{line_of, summary_by}
@@ -9,27 +9,24 @@ use Rattle.session_generator.proofs.summary.summarize.Goals as goal
 
 pub returns : goal.returns
 returns g c =
-    let written = g.O.Sink.written in
-    let held = g.O.Sink.held in
-    let faults = g.O.Sink.faults in
     let first = c.new-gathered.result in
     let last = c.put_summary-put.new.output in
     let answer = c.put_summary-put.result in
     let e = c.put_summary-put.ensures in
     let new = c.new-gathered.ensures in
     let line = line_of c.in-Ok.measured in
-    let w = wrote (λ (s : Gathering g.row.O.Denot). written s.sink)
-    (λ (s : Gathering g.row.O.Denot). held s.sink ++ s.gathered)
-    (λ (s : Gathering g.row.O.Denot). faults s.sink)
-    (λ (s : Gathering g.row.O.Denot). g.O.Sink.may_want s.sink) first last line answer e.puts
-    e.emptied in
-    let begun = subst (λ s. CountsFaults (faults s) (faults last.sink) (answer ≡ Err Failed))
-    new.sink e.puts.counted in
-    let counted = subst (λ s. CountsFaults (faults c.args.output) (faults s) (answer ≡ Err Failed))
-    (sym c.into_sink.ensures) begun in
+    let beneath_first : SinkView = g.O.Sink.view first.sink in
+    let beneath_last : SinkView = g.O.Sink.view last.sink in
+    let output : SinkView = g.O.Sink.view c.args.output in
+    let result : SinkView = g.O.Sink.view c.into_sink.result in
+    let w = wrote (with_room first.gathered beneath_first) (with_room last.gathered beneath_last)
+    line answer e.puts e.emptied in
+    let begun = subst (λ (k : SinkView). CountsFaults k.faults beneath_last.faults
+    (answer ≡ Err Failed)) (ap g.O.Sink.view new.sink) e.puts.counted in
+    let counted = subst (λ (k : SinkView). CountsFaults output.faults k.faults
+    (answer ≡ Err Failed)) (sym (ap g.O.Sink.view c.into_sink.ensures)) begun in
     rw c.summary_by.ensures (summarized (limits_of c.args.quotas.now) c.args.statics.now
-    (documents c.args.seed c.args.count) written held faults c.args.output c.into_sink.result line
-    answer c.in-Ok.ensures.0 c.in-Ok.ensures.1 (beneath written held (Wrote line answer) first.sink
-    c.args.output last.sink c.into_sink.result first.gathered new.sink new.nothing
-    c.into_sink.ensures w)
-    counted)
+    (documents c.args.seed c.args.count) output result line answer c.in-Ok.ensures.0
+    c.in-Ok.ensures.1 (beneath (Wrote line answer) beneath_first output beneath_last result
+    first.gathered (ap g.O.Sink.view new.sink) new.nothing
+    (ap g.O.Sink.view c.into_sink.ensures) w) counted)

@@ -1,6 +1,6 @@
 use Rattle.std.proofs.Common.{◌≡◌, ℕ, List, [], ◌∷◌, ◌++◌, codes, decimal, ap, ◌∙◌, append_assoc}
 use Rattle.std.proofs.lemmas.{Grind.flat_map-append, Result.err_from_is_err_and}
-use Rattle.io_edges.proofs.Putting.{PutsAll-cut, PutsAll-then}
+use Rattle.io_edges.proofs.Putting.{Puts-cut, Puts-then}
 use Rattle.line_notation.specs.Words.{behind_spaces}
 use Rattle.session_report.specs.Report.{line, measure_words, string_words}
 use Rattle.session_report.proofs.lines.put_message.Goals as goal
@@ -30,7 +30,7 @@ returns-in_err-put_labelled g c =
       parts (decimal e.number) (decimal e.size) (measure_words e.doc e.content)
           (string_words e.strings e.used),
     )
-    (PutsAll-cut _ c.in_err-put_labelled.ensures)
+    (Puts-cut _ c.in_err-put_labelled.ensures)
 
 pub returns-in_err-put_labelled-2 : goal.returns-in_err-put_labelled-2
 returns-in_err-put_labelled-2 g c =
@@ -43,7 +43,7 @@ returns-in_err-put_labelled-2 g c =
       parts (decimal e.number) (decimal e.size) (measure_words e.doc e.content)
           (string_words e.strings e.used),
     )
-    (PutsAll-then _ c.in_ok-put_labelled.ensures (PutsAll-cut _
+    (Puts-then _ c.in_ok-put_labelled.ensures (Puts-cut _
     (rw c.from.ensures at c.in_err-put_labelled-2.ensures)))
 
 pub returns-in_err-put_measures : goal.returns-in_err-put_measures
@@ -57,9 +57,9 @@ returns-in_err-put_measures g c =
       parts (decimal e.number) (decimal e.size) (measure_words e.doc e.content)
           (string_words e.strings e.used),
     )
-    (PutsAll-then _ c.in_ok-put_labelled.ensures (PutsAll-then _
+    (Puts-then _ c.in_ok-put_labelled.ensures (Puts-then _
     (rw c.from.ensures at c.in_ok-put_labelled-2.ensures)
-    (PutsAll-cut _ c.in_err-put_measures.ensures)))
+    (Puts-cut _ c.in_err-put_measures.ensures)))
 
 pub returns-in_err-put_strings : goal.returns-in_err-put_strings
 returns-in_err-put_strings g c =
@@ -72,16 +72,16 @@ returns-in_err-put_strings g c =
       parts (decimal e.number) (decimal e.size) (measure_words e.doc e.content)
           (string_words e.strings e.used),
     )
-    (PutsAll-then _ c.in_ok-put_labelled.ensures (PutsAll-then _
+    (Puts-then _ c.in_ok-put_labelled.ensures (Puts-then _
     (rw c.from.ensures at c.in_ok-put_labelled-2.ensures)
-    (PutsAll-then _ c.in_ok-put_measures.ensures (PutsAll-cut _ c.in_err-put_strings.ensures))))
+    (Puts-then _ c.in_ok-put_measures.ensures (Puts-cut _ c.in_err-put_strings.ensures))))
 
 pub returns : goal.returns
 returns g c =
     let e = c.args.received.now in
     rw (parts (decimal e.number) (decimal e.size) (measure_words e.doc e.content)
     (string_words e.strings e.used))
-    (PutsAll-then _ c.in_ok-put_labelled.ensures (PutsAll-then _
+    (Puts-then _ c.in_ok-put_labelled.ensures (Puts-then _
     (rw c.from.ensures at c.in_ok-put_labelled-2.ensures)
-    (PutsAll-then _ c.in_ok-put_measures.ensures
-    (PutsAll-then _ c.in_ok-put_strings.ensures c.put_plain.ensures))))
+    (Puts-then _ c.in_ok-put_measures.ensures
+    (Puts-then _ c.in_ok-put_strings.ensures c.put_plain.ensures))))

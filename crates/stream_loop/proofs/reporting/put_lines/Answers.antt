@@ -1,20 +1,20 @@
 use Rattle.std.proofs.Common.{◌≡◌, ℕ, List, [], map, Ok, Err, Option, sym, refl, ap, ◌∙◌}
-use Rattle.std.proofs.Common.{Result, subst}
+use Rattle.std.proofs.Common.{append-nil, Result, subst}
 use Rattle.std.specs.Prelude.{⊤}
 use Rattle.std.{specs.Option.option_map, proofs.lemmas.Result.err_from_is_err_and}
-use Rattle.io_edges.proofs.Putting.{flush_puts}
 use Rattle.io_edges.specs.declared.SinkFault.{SinkFault}
 use Rattle.unit_streams.specs.{Grammar.Grammar, Tellers.Teller}
-use Rattle.stream_loop.specs.declared.{reporting.Ending.Ending, resuming.ReadOn.ReadOn}
-use Rattle.stream_loop.specs.declared.reporting.Ending.TheVariants as endings
-use Rattle.stream_loop.specs.{Answers.written_by, Edges.Input, Edges.input_at, Edges.output_at}
+use Rattle.stream_loop.specs.declared.{reporting.ReportEnding.ReportEnding, resuming.ReadOn.ReadOn}
+use Rattle.stream_loop.specs.declared.reporting.ReportEnding.TheVariants as endings
+use Rattle.stream_loop.specs.{Answers.written_by, Edges.Input, Edges.input_at}
 use Rattle.stream_loop.specs.{Report.HasFailed, Report.HasPut, Resumed.HasComeTo}
-use Rattle.stream_loop.specs.{Resumed.ReadsOn, Writing.PutsTo}
+use Rattle.stream_loop.specs.{Resumed.ReadsOn}
 use Rattle.stream_loop.proofs.{Lines.puts_first, LoopSteps.first_pending, Reading.comes_first}
 use Rattle.stream_loop.proofs.Reports.{cut_reports, halted_reports, judged_reports, Reports}
 use Rattle.stream_loop.proofs.Reports.{starved_reports, unsaid_reports, unwritten_reports}
 use Rattle.stream_loop.proofs.Writing.{counted_none, counted_with}
 use Rattle.stream_loop.proofs.reporting.put_lines.{Given.Over, Goals.After-read_on}
+use Rattle.io_edges.specs.{Puts.Puts, Views.SinkView}
 use Rattle.stream_loop.proofs.reporting.put_lines.Goals as goal
 
 module _ (g : Over) where
@@ -28,11 +28,10 @@ module _ (g : Over) where
   abbrev Rules : Type 0
   Rules = Teller g.T.Reporter.State g.row.E-Event.Denot g.row.E-Refusal.Denot
 
-  abbrev HeardBy : Rules → g.row.O.Denot → g.T.Reporter.State → g.row.O.Denot
+  abbrev HandledBy : Rules → SinkView → g.T.Reporter.State → SinkView
       → List g.E.ReadingEnd.Completed → List g.E.ReadingEnd.Completed → Type 0
-  HeardBy t first state output paused since =
-      HasPut g.O.Sink.written g.O.Sink.held g.O.Sink.faults g.O.Sink.may_want t first
-      (map event_for paused) (map event_for since) state output
+  HandledBy t first state output paused since =
+      HasPut t first (map event_for paused) (map event_for since) state output
 
 -- what the output held isn't written
 pub returns-in_err-flush-clause-reports : goal.returns-in_err-flush-clause-reports
@@ -43,13 +42,11 @@ returns-in_err-flush-clause-reports g c =
     let r = err_from_is_err_and c.from_residual.result c.from_residual.ensures.1 in
     rw (r.1, r.2) (
       [],
-      flush_puts (Err c.in_err-flush.field-0.0) tt e.refused e.emptied e.counted e.wanted
-          e.settled,
+      e.puts,
       unwritten_reports x (written_by (event_for g) t) (input_of g c.args.input.now)
-          (output_at g.O.Sink.written g.O.Sink.held g.O.Sink.faults c.args.output.now)
-          (output_at g.O.Sink.written g.O.Sink.held g.O.Sink.faults c.flush.new.self)
+          (g.O.Sink.view c.args.output.now) (g.O.Sink.view c.flush.new.self)
           (first_pending x g.E.ReadingEnd.ends (g.E.ReadingEnd.most c.args.end.now)
-          c.requires.ends) _ _ e.refused,
+          c.requires.ends) _ _ (rw append-nil at e.puts.refused),
     )
 
 pub returns-in_err-flush-clause-counted : goal.returns-in_err-flush-clause-counted
@@ -63,16 +60,15 @@ read_on-requires-clause-going g c =
     let i : Input = input_of g c.args.input.now in
     let t : Rules g = g.T.Reporter.rules c.args.reporting.now.reporter.now in
     let s : g.T.Reporter.State = g.T.Reporter.state c.args.reporting.now.reporter.now in
-    let first : g.row.O.Denot = c.flush.new.self in (
+    let first : SinkView = g.O.Sink.view c.flush.new.self in (
       i,
-      first,
+      c.flush.new.self,
       [],
       subst (λ (b : List ℕ). HasComeTo x i i (g.E.ReadingEnd.stands c.args.end.now)
-          (HeardBy g t first s first) [] b) (sym c.requires.empty)
+          (HandledBy g t first s first) [] b) (sym c.requires.empty)
           (comes_first x i _ _ (first_pending x g.E.ReadingEnd.ends
           (g.E.ReadingEnd.most c.args.end.now) c.requires.ends) c.requires.fresh
-          (puts_first g.O.Sink.written g.O.Sink.held g.O.Sink.faults g.O.Sink.may_want t first
-          c.in_ok-flush.ensures.emptied s c.requires.first)),
+          (puts_first t first c.in_ok-flush.ensures.emptied s c.requires.first)),
     )
 
 -- what was read and put
@@ -91,72 +87,66 @@ module _ (g : Over) (f : After-read_on g) where
   t = g.T.Reporter.rules f.args.reporting.now.reporter.now
 
   abbrev s : g.T.Reporter.State
-  s = g.T.Reporter.state f.read_on.new.listener.reporter.now
+  s = g.T.Reporter.state f.read_on.new.handler.reporter.now
 
   -- the output at first, and when the reading stopped
-  abbrev start : g.row.O.Denot
-  start = f.args.output.now
+  abbrev start : SinkView
+  start = g.O.Sink.view f.args.output.now
 
-  abbrev first : g.row.O.Denot
-  first = f.flush.new.self
+  abbrev first : SinkView
+  first = g.O.Sink.view f.flush.new.self
 
-  abbrev mid : g.row.O.Denot
-  mid = f.read_on.new.output
+  abbrev mid : SinkView
+  mid = g.O.Sink.view f.read_on.new.output
 
-  flushed : PutsTo g.O.Sink.written g.O.Sink.held g.O.Sink.faults g.O.Sink.may_want start first []
-      (Ok tt)
-  flushed =
-      let e = f.in_ok-flush.ensures in
-      flush_puts (Ok tt) e.written tt e.emptied e.counted e.wanted e.settled
+  flushed : Puts start first [] (Ok tt)
+  flushed = f.in_ok-flush.ensures.puts
 
   abbrev ReadsBy : Rules g → ReadOn g.row.E-Refusal.Denot SinkFault → Type 0
-  ReadsBy u r = ReadsOn x i i' (g.E.ReadingEnd.stands f.read_on.new.end)
-      (HeardBy g u first s mid)
-      (λ fault at paused since. HasFailed g.O.Sink.written g.O.Sink.held g.O.Sink.faults
-      g.O.Sink.may_want u first (map (event_for g) paused) (map (event_for g) since)
-      (option_map (event_for g) at) fault mid) (g.O.Sink.held mid ≡ []) f.read_on.new.buffer r
+  ReadsBy u r = ReadsOn x i i' g.E.ReadingEnd.ends (g.E.ReadingEnd.stands f.read_on.new.end)
+      (HandledBy g u first s mid)
+      (λ fault at paused since. HasFailed u first (map (event_for g) paused)
+      (map (event_for g) since)
+      (option_map (event_for g) at) fault mid) (mid.held ≡ []) f.read_on.new.buffer r
 
-  rules_are : g.T.Reporter.rules f.read_on.new.listener.reporter.now ≡ t
+  rules_are : g.T.Reporter.rules f.read_on.new.handler.reporter.now ≡ t
   rules_are = ap (λ (p : Rules g × ℕ). p.0) f.read_on.ensures.settings
 
-  same_reporter : f.read_on.new.listener.reporter.ghost_name
+  same_reporter : f.read_on.new.handler.reporter.ghost_name
       ≡ f.args.reporting.now.reporter.ghost_name
   same_reporter = ap (λ (p : Rules g × ℕ). p.1) f.read_on.ensures.settings
 
   come : HasComeTo x i i (g.E.ReadingEnd.stands f.args.end.now)
-      (HeardBy g t first (g.T.Reporter.state f.args.reporting.now.reporter.now) first) []
+      (HandledBy g t first (g.T.Reporter.state f.args.reporting.now.reporter.now) first) []
       f.args.buffer.now
   come = subst (λ (b : List ℕ). HasComeTo x i i (g.E.ReadingEnd.stands f.args.end.now)
-      (HeardBy g t first (g.T.Reporter.state f.args.reporting.now.reporter.now) first) [] b)
+      (HandledBy g t first (g.T.Reporter.state f.args.reporting.now.reporter.now) first) [] b)
       (sym f.requires.empty)
       (comes_first x i _ _ (first_pending x g.E.ReadingEnd.ends
       (g.E.ReadingEnd.most f.args.end.now) f.requires.ends) f.requires.fresh
-      (puts_first g.O.Sink.written g.O.Sink.held g.O.Sink.faults g.O.Sink.may_want t first
-      f.in_ok-flush.ensures.emptied (g.T.Reporter.state f.args.reporting.now.reporter.now)
+      (puts_first t first f.in_ok-flush.ensures.emptied
+      (g.T.Reporter.state f.args.reporting.now.reporter.now)
       f.requires.first))
 
   reads : ReadsBy t f.read_on.result
   reads = subst (λ u. ReadsBy u f.read_on.result) rules_are
-      (f.read_on.ensures.reads i first [] come)
+      (f.read_on.ensures.reads i f.flush.new.self [] come)
 
   reads_as : (r : ReadOn g.row.E-Refusal.Denot SinkFault) → f.read_on.result ≡ r → ReadsBy t r
   reads_as r is = subst (ReadsBy t) is reads
 
   -- what is put at the end, by the first rules
   ending_put : (refusal : Option g.row.E-Refusal.Denot) (answer : Result ⊤ SinkFault)
-      (now : g.row.O.Denot) → PutsTo g.O.Sink.written g.O.Sink.held g.O.Sink.faults
-      g.O.Sink.may_want mid now
-      ((g.T.Reporter.rules f.read_on.new.listener.reporter.now).ends s refusal) answer
-      → PutsTo g.O.Sink.written g.O.Sink.held g.O.Sink.faults g.O.Sink.may_want mid now
-      (t.ends s refusal) answer
-  ending_put refusal answer now puts = subst (λ (u : Rules g). PutsTo g.O.Sink.written
-      g.O.Sink.held g.O.Sink.faults g.O.Sink.may_want mid now (u.ends s refusal) answer) rules_are
-      puts
+      (now : SinkView) → Puts mid now
+      ((g.T.Reporter.rules f.read_on.new.handler.reporter.now).ends s refusal) answer
+      → Puts mid now (t.ends s refusal) answer
+  ending_put refusal answer now puts =
+      subst (λ (u : Rules g). Puts mid now (u.ends s refusal) answer) rules_are puts
 
-  abbrev ReportsBy : g.row.O.Denot → g.T.Reporter.State
-      → Result (Ending g.row.E-Refusal.Denot) SinkFault → Type 0
-  ReportsBy now state r = Reports g.O.Sink.written g.O.Sink.held g.O.Sink.faults g.O.Sink.may_want
-      x (event_for g) t i i' start first flushed f.in_ok-flush.ensures.emptied now state r
+  abbrev ReportsBy : SinkView → g.T.Reporter.State
+      → Result (ReportEnding g.row.E-Refusal.Denot) SinkFault → Type 0
+  ReportsBy now state r =
+      Reports x (event_for g) t i i' start first flushed f.in_ok-flush.ensures.emptied now state r
 
 -- the stream was judged
 pub returns-in_err-put_ending-in-Judged-clause-reports :
@@ -166,13 +156,14 @@ returns-in_err-put_ending-in-Judged-clause-reports g c =
     c).After-read_on in
     let r = err_from_is_err_and c.from_residual-in_err-put_ending-in-Judged.result
     c.from_residual-in_err-put_ending-in-Judged.ensures.1 in
-    rw (r.1, r.2) (subst (λ (z : g.T.Reporter.State). ReportsBy g f c.put_ending.new.output z
+    rw (r.1, r.2) (subst (λ (z : g.T.Reporter.State). ReportsBy g f
+    (g.O.Sink.view c.put_ending.new.output) z
     (Err c.in_err-put_ending-in-Judged.field-0.0)) (sym c.put_ending.ensures.state)
-    (unsaid_reports g.O.Sink.written g.O.Sink.held g.O.Sink.faults g.O.Sink.may_want (x g f)
-    (event_for g) (t g f) (i g f) (i' g f) (start g f) (first g f) (flushed g f)
-    f.in_ok-flush.ensures.emptied c.in-Judged.refusal (mid g f) c.put_ending.new.output (s g f)
+    (unsaid_reports (x g f) (event_for g) (t g f) (i g f) (i' g f) (start g f) (first g f)
+    (flushed g f) f.in_ok-flush.ensures.emptied c.in-Judged.refusal (mid g f)
+    (g.O.Sink.view c.put_ending.new.output) (s g f)
     (reads_as g f _ c.in-Judged.is) c.in_err-put_ending-in-Judged.field-0.0
-    (ending_put g f c.in-Judged.refusal _ c.put_ending.new.output
+    (ending_put g f c.in-Judged.refusal _ (g.O.Sink.view c.put_ending.new.output)
     c.in_err-put_ending-in-Judged.ensures.puts)))
 
 pub returns-in_err-put_ending-in-Judged-clause-counted :
@@ -186,25 +177,27 @@ returns-in_err-put_ending-in-Judged-clause-counted g c =
 pub returns-in_err-put_ending-in-Judged-clause-rules :
     goal.returns-in_err-put_ending-in-Judged-clause-rules
 returns-in_err-put_ending-in-Judged-clause-rules g c =
-    c.put_ending.ensures.rules ∙ rules_are g (goal.at-returns-in_err-put_ending-in-Judged-clause-rules g c).After-read_on
+    c.put_ending.ensures.rules
+    ∙ rules_are g (goal.at-returns-in_err-put_ending-in-Judged-clause-rules g c).After-read_on
 
 pub returns-in_err-put_ending-in-Judged-clause-same_reporter :
     goal.returns-in_err-put_ending-in-Judged-clause-same_reporter
 returns-in_err-put_ending-in-Judged-clause-same_reporter g c =
-    same_reporter g (goal.at-returns-in_err-put_ending-in-Judged-clause-same_reporter g c).After-read_on
+    same_reporter g (goal.at-returns-in_err-put_ending-in-Judged-clause-same_reporter g
+    c).After-read_on
 
 pub returns-in_ok-put_ending-in-Judged-clause-reports :
     goal.returns-in_ok-put_ending-in-Judged-clause-reports
 returns-in_ok-put_ending-in-Judged-clause-reports g c =
     let f : After-read_on g = (goal.at-returns-in_ok-put_ending-in-Judged-clause-reports g
     c).After-read_on in
-    subst (λ (z : g.T.Reporter.State). ReportsBy g f c.put_ending.new.output z
+    subst (λ (z : g.T.Reporter.State). ReportsBy g f (g.O.Sink.view c.put_ending.new.output) z
     (Ok (endings.Judged c.in-Judged.refusal))) (sym c.put_ending.ensures.state)
-    (judged_reports g.O.Sink.written g.O.Sink.held g.O.Sink.faults g.O.Sink.may_want (x g f)
-    (event_for g) (t g f) (i g f) (i' g f) (start g f) (first g f) (flushed g f)
-    f.in_ok-flush.ensures.emptied c.in-Judged.refusal (mid g f) c.put_ending.new.output (s g f)
+    (judged_reports (x g f) (event_for g) (t g f) (i g f) (i' g f) (start g f) (first g f)
+    (flushed g f) f.in_ok-flush.ensures.emptied c.in-Judged.refusal (mid g f)
+    (g.O.Sink.view c.put_ending.new.output) (s g f)
     (reads_as g f _ c.in-Judged.is)
-    (ending_put g f c.in-Judged.refusal _ c.put_ending.new.output
+    (ending_put g f c.in-Judged.refusal _ (g.O.Sink.view c.put_ending.new.output)
     c.in_ok-put_ending-in-Judged.ensures.puts))
 
 pub returns-in_ok-put_ending-in-Judged-clause-counted :
@@ -216,20 +209,21 @@ returns-in_ok-put_ending-in-Judged-clause-counted g c =
 pub returns-in_ok-put_ending-in-Judged-clause-rules :
     goal.returns-in_ok-put_ending-in-Judged-clause-rules
 returns-in_ok-put_ending-in-Judged-clause-rules g c =
-    c.put_ending.ensures.rules ∙ rules_are g (goal.at-returns-in_ok-put_ending-in-Judged-clause-rules g c).After-read_on
+    c.put_ending.ensures.rules
+    ∙ rules_are g (goal.at-returns-in_ok-put_ending-in-Judged-clause-rules g c).After-read_on
 
 pub returns-in_ok-put_ending-in-Judged-clause-same_reporter :
     goal.returns-in_ok-put_ending-in-Judged-clause-same_reporter
 returns-in_ok-put_ending-in-Judged-clause-same_reporter g c =
-    same_reporter g (goal.at-returns-in_ok-put_ending-in-Judged-clause-same_reporter g c).After-read_on
+    same_reporter g (goal.at-returns-in_ok-put_ending-in-Judged-clause-same_reporter g
+    c).After-read_on
 
 -- a read failed
 pub returns-in-ReadFault-clause-reports : goal.returns-in-ReadFault-clause-reports
 returns-in-ReadFault-clause-reports g c =
     let f : After-read_on g = (goal.at-returns-in-ReadFault-clause-reports g c).After-read_on in
-    cut_reports g.O.Sink.written g.O.Sink.held g.O.Sink.faults g.O.Sink.may_want (x g f)
-    (event_for g) (t g f) (i g f) (i' g f) (start g f) (first g f) (flushed g f)
-    f.in_ok-flush.ensures.emptied (mid g f) (s g f) (reads_as g f _ c.in-ReadFault.is)
+    cut_reports (x g f) (event_for g) (t g f) (i g f) (i' g f) (start g f) (first g f)
+    (flushed g f) f.in_ok-flush.ensures.emptied (mid g f) (s g f) (reads_as g f _ c.in-ReadFault.is)
 
 pub returns-in-ReadFault-clause-counted : goal.returns-in-ReadFault-clause-counted
 returns-in-ReadFault-clause-counted g c =
@@ -247,9 +241,8 @@ returns-in-ReadFault-clause-same_reporter g c =
 pub returns-in-Memory-clause-reports : goal.returns-in-Memory-clause-reports
 returns-in-Memory-clause-reports g c =
     let f : After-read_on g = (goal.at-returns-in-Memory-clause-reports g c).After-read_on in
-    starved_reports g.O.Sink.written g.O.Sink.held g.O.Sink.faults g.O.Sink.may_want (x g f)
-    (event_for g) (t g f) (i g f) (i' g f) (start g f) (first g f) (flushed g f)
-    f.in_ok-flush.ensures.emptied (mid g f) (s g f) (reads_as g f _ c.in-Memory.is)
+    starved_reports (x g f) (event_for g) (t g f) (i g f) (i' g f) (start g f) (first g f)
+    (flushed g f) f.in_ok-flush.ensures.emptied (mid g f) (s g f) (reads_as g f _ c.in-Memory.is)
 
 pub returns-in-Memory-clause-counted : goal.returns-in-Memory-clause-counted
 returns-in-Memory-clause-counted g c =
@@ -268,9 +261,8 @@ returns-in-Memory-clause-same_reporter g c =
 pub returns-in-Halted-clause-reports : goal.returns-in-Halted-clause-reports
 returns-in-Halted-clause-reports g c =
     let f : After-read_on g = (goal.at-returns-in-Halted-clause-reports g c).After-read_on in
-    halted_reports g.O.Sink.written g.O.Sink.held g.O.Sink.faults g.O.Sink.may_want (x g f)
-    (event_for g) (t g f) (i g f) (i' g f) (start g f) (first g f) (flushed g f)
-    f.in_ok-flush.ensures.emptied (mid g f) (s g f) _ _ c.in-Halted.fault
+    halted_reports (x g f) (event_for g) (t g f) (i g f) (i' g f) (start g f) (first g f)
+    (flushed g f) f.in_ok-flush.ensures.emptied _ (mid g f) (s g f) _ _ c.in-Halted.fault
     (reads_as g f _ c.in-Halted.is)
 
 pub returns-in-Halted-clause-counted : goal.returns-in-Halted-clause-counted

@@ -1,6 +1,6 @@
 use Rattle.std.proofs.Common.{◌≡◌, [], refl, rules, subst}
-use Rattle.io_edges.proofs.Putting.{PutsAll-nothing}
-use Rattle.stream_loop.specs.{Answers.written_by, Edges.input_at, Edges.output_at}
+use Rattle.io_edges.proofs.Putting.{Puts-nothing}
+use Rattle.stream_loop.specs.{Answers.written_by, Edges.input_at}
 use Rattle.stream_loop.proofs.{LoopSteps.first_pending, Reports.unbegun_reports}
 use Rattle.stream_loop.proofs.reporting.put_report.Goals as goal
 
@@ -8,11 +8,11 @@ use Rattle.stream_loop.proofs.reporting.put_report.Goals as goal
 pub returns-in_default-clause-reports : goal.returns-in_default-clause-reports
 returns-in_default-clause-reports g c =
     let x = g.E.ReadingEnd.grammar c.args.end.now in
-    let o = output_at g.O.Sink.written g.O.Sink.held g.O.Sink.faults c.args.output.now in (
+    let o = g.O.Sink.view c.args.output.now in (
       c.args.reporter.now,
       refl,
       [],
-      PutsAll-nothing _ _ _ _,
+      Puts-nothing _,
       unbegun_reports x (written_by g.E.ReadingEnd.event_for
           (g.T.Reporter.rules c.args.reporter.now))
           (input_at g.I.Source.left g.I.Source.taken g.I.Source.faults g.I.Source.empty_takes

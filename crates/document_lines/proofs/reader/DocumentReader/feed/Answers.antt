@@ -17,25 +17,25 @@ unfolding settings_of
 session_of r = refl
 
 -- the bytes that a unit is read from, and those behind them
-module _ (piece : List ℕ) (used room : ℕ) where
+module _ (piece : List ℕ) (used allowed : ℕ) where
   abbrev here : List ℕ
-  here = take (room - used) (drop used piece)
+  here = take (allowed - used) (drop used piece)
 
   abbrev behind : List ℕ
-  behind = drop (room - used) (drop used piece)
+  behind = drop (allowed - used) (drop used piece)
 
   split : drop used piece ≡ here ++ behind
-  split = sym (take-append-drop (room - used) (drop used piece))
+  split = sym (take-append-drop (allowed - used) (drop used piece))
 
-  here_len : used ≤ room → room ≤ length piece → length here ≡ room - used
-  here_len le within = length-take-le (room - used) (drop used piece)
+  here_len : used ≤ allowed → allowed ≤ length piece → length here ≡ allowed - used
+  here_len le within = length-take-le (allowed - used) (drop used piece)
       (let n = length-drop used piece in omega (arith, le, within, n))
 
 -- a piece that fits is used whole
-all_used : (room len session taken : ℕ) → room ≤ len → (room < len → session ≤ taken + room)
-    → taken + room < session → room ≡ len
-all_used room len session taken within full short =
-    elim (cases_lt room len) [
+all_used : (allowed len session taken : ℕ) → allowed ≤ len → (allowed < len → session ≤ taken + allowed)
+    → taken + allowed < session → allowed ≡ len
+all_used allowed len session taken within full short =
+    elim (cases_lt allowed len) [
       | inl less ↦ let past = full less in absurd (omega (arith, past, short))
       | inr le ↦ omega (arith, within, le)
     ]
@@ -51,8 +51,8 @@ module _ (f : At-loop-used) where
   abbrev used : ℕ
   used = f.loop-used.used
 
-  abbrev room : ℕ
-  room = f.room-room.result
+  abbrev allowed : ℕ
+  allowed = f.allowed-allowed.result
 
   abbrev so_far : (p : List ℕ) → StandsFor f.args.self.now p → Along f.loop-used.self x p piece used
   so_far p stands = f.loop-used.invariant.along p stands
@@ -61,11 +61,11 @@ module _ (f : At-loop-used) where
   unit_answers : (new : DocumentReader)
       (result : Result (ℕ × Option (List ℕ)) (FeedFault InputFault))
       → WhereItStands f.loop-used.self (λ p. UnitAnswers (settings_of f.loop-used.self) p
-      (here piece used room) new result)
+      (here piece used allowed) new result)
       → (p : List ℕ) → StandsFor f.args.self.now p
-      → UnitAnswers x (p ++ take used piece) (here piece used room) new result
+      → UnitAnswers x (p ++ take used piece) (here piece used allowed) new result
   unit_answers new result answers p stands =
-      unit_by f.loop-used.self x (p ++ take used piece) (here piece used room) new result
+      unit_by f.loop-used.self x (p ++ take used piece) (here piece used allowed) new result
       f.loop-used.invariant.settings answers (so_far p stands).reached
 
   -- how many bytes there are then
@@ -80,7 +80,7 @@ pub loop-used-preserved : goal.loop-used-preserved
 loop-used-preserved c =
     let f : At-loop-used = (goal.at-loop-used-preserved c).At-loop-used in
     let inv = c.loop-used.invariant in
-    let len = here_len (piece f) (used f) (room f) inv.within c.room-room.ensures.within in
+    let len = here_len (piece f) (used f) (allowed f) inv.within c.allowed-allowed.ensures.within in
     let none = sym c.is_some.ensures ∙ c.if-is_some.false in
     record {
       within = omega (arith, c.in-Ok.ensures.within, inv.within, len);
@@ -88,8 +88,8 @@ loop-used-preserved c =
       quotas = c.in-Ok.ensures.quotas ∙ inv.quotas;
       taken = omega (arith, c.in-Ok.ensures.taken, inv.taken);
       along = λ p stands. along_more (x f) p (piece f) c.loop-used.self (used f) (so_far f p stands)
-          (here (piece f) (used f) (room f)) (behind (piece f) (used f) (room f))
-          (split (piece f) (used f) (room f)) c.unit.new.self c.in-Ok.answer.0 c.in-Ok.answer.1
+          (here (piece f) (used f) (allowed f)) (behind (piece f) (used f) (allowed f))
+          (split (piece f) (used f) (allowed f)) c.unit.new.self c.in-Ok.answer.0 c.in-Ok.answer.1
           none (unit_answers f c.unit.new.self (Ok c.in-Ok.answer) c.in-Ok.ensures.answers p
           stands);
     }
@@ -98,8 +98,8 @@ pub returns-in-Err-clause-answers : goal.returns-in-Err-clause-answers
 returns-in-Err-clause-answers c =
     let f : At-loop-used = (goal.at-returns-in-Err-clause-answers c).At-loop-used in
     λ p stands. rw c.fail.ensures.same (along_refused (x f) p (piece f) c.loop-used.self (used f)
-    (so_far f p stands) (here (piece f) (used f) (room f)) (behind (piece f) (used f) (room f))
-    (split (piece f) (used f) (room f)) c.unit.new.self c.in-Err.fault
+    (so_far f p stands) (here (piece f) (used f) (allowed f)) (behind (piece f) (used f) (allowed f))
+    (split (piece f) (used f) (allowed f)) c.unit.new.self c.in-Err.fault
     (unit_answers f c.unit.new.self (Err c.in-Err.fault) c.in-Err.ensures.answers p stands))
 
 -- an envelope
@@ -107,8 +107,8 @@ pub returns-then-is_some-clause-answers : goal.returns-then-is_some-clause-answe
 returns-then-is_some-clause-answers c =
     let f : At-loop-used = (goal.at-returns-then-is_some-clause-answers c).At-loop-used in
     λ p stands. (along_event (x f) p (piece f) c.loop-used.self (used f) (so_far f p stands)
-    (here (piece f) (used f) (room f)) (behind (piece f) (used f) (room f))
-    (split (piece f) (used f) (room f)) c.unit.new.self c.in-Ok.answer.0 c.in-Ok.answer.1
+    (here (piece f) (used f) (allowed f)) (behind (piece f) (used f) (allowed f))
+    (split (piece f) (used f) (allowed f)) c.unit.new.self c.in-Ok.answer.0 c.in-Ok.answer.1
     (sym c.is_some.ensures ∙ c.if-is_some.true)
     (unit_answers f c.unit.new.self (Ok c.in-Ok.answer) c.in-Ok.ensures.answers p stands)).0
 
@@ -118,8 +118,8 @@ returns-then-is_some-clause-stands c =
     λ p stands. stands_by c.unit.new.self _ (x f)
     (c.in-Ok.ensures.settings ∙ c.loop-used.invariant.settings)
     (along_event (x f) p (piece f) c.loop-used.self (used f) (so_far f p stands)
-    (here (piece f) (used f) (room f)) (behind (piece f) (used f) (room f))
-    (split (piece f) (used f) (room f)) c.unit.new.self c.in-Ok.answer.0 c.in-Ok.answer.1
+    (here (piece f) (used f) (allowed f)) (behind (piece f) (used f) (allowed f))
+    (split (piece f) (used f) (allowed f)) c.unit.new.self c.in-Ok.answer.0 c.in-Ok.answer.1
     (sym c.is_some.ensures ∙ c.if-is_some.true)
     (unit_answers f c.unit.new.self (Ok c.in-Ok.answer) c.in-Ok.ensures.answers p stands)).1
 
@@ -140,13 +140,13 @@ pub returns-clause-answers : goal.returns-clause-answers
 returns-clause-answers c =
     let f : At-loop-used = (goal.at-returns-clause-answers c).At-loop-used in
     let inv = c.loop-used.invariant in
-    let at_room : used f ≡ room f = omega (arith, inv.within, c.loop-used-test.false) in
+    let at_room : used f ≡ allowed f = omega (arith, inv.within, c.loop-used-test.false) in
     let same = ap (λ (q : Quotas). q.session) inv.quotas in
-    let short : c.args.self.now.taken + room f < c.args.self.now.quotas.session = omega
+    let short : c.args.self.now.taken + allowed f < c.args.self.now.quotas.session = omega
     (arith, c.if-self.false, inv.taken, at_room, same) in
-    let all : used f ≡ length (piece f) = at_room ∙ all_used (room f) (length (piece f))
-    c.args.self.now.quotas.session c.args.self.now.taken c.room-room.ensures.within
-    c.room-room.ensures.full short in
+    let all : used f ≡ length (piece f) = at_room ∙ all_used (allowed f) (length (piece f))
+    c.args.self.now.quotas.session c.args.self.now.taken c.allowed-allowed.ensures.within
+    c.allowed-allowed.ensures.full short in
     λ p stands. along_end (x f) p (piece f) c.loop-used.self (used f) (so_far f p stands) all
     (let taken = (so_far f p stands).reached.taken in
     let session = session_of c.args.self.now in

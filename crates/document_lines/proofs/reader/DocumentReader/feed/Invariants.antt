@@ -5,7 +5,7 @@ use Rattle.document_lines.proofs.reader.DocumentReader.feed.Given as goal
 
 abbrev pub invariant-loop-used : goal.invariant-loop-used
 invariant-loop-used l = record {
-  within : l.used ≤ l.room;
+  within : l.used ≤ l.allowed;
   settings : settings_of l.self ≡ settings_of l.initial.self;
   quotas : l.self.quotas ≡ l.initial.self.quotas;
   taken : l.self.taken ≡ l.initial.self.taken + l.used;
@@ -14,4 +14,4 @@ invariant-loop-used l = record {
 }
 
 abbrev pub decreases-loop-used : goal.decreases-loop-used
-decreases-loop-used l = l.room - l.used
+decreases-loop-used l = l.allowed - l.used

@@ -1,4 +1,4 @@
-use Rattle.{std.proofs.lemmas.Result.err_from_is_err_and, io_edges.proofs.Putting.PutsAll-then}
+use Rattle.{std.proofs.lemmas.Result.err_from_is_err_and, io_edges.proofs.Putting.Puts-then}
 use Rattle.session_report.proofs.Saying.{said_cut}
 use Rattle.session_report.proofs.reporter.LineReporterReporterEventOffence.put_event.Goals as goal
 
@@ -9,4 +9,4 @@ returns-in_err-put_line-clause-puts g c =
 
 pub returns-in-Whole-clause-puts : goal.returns-in-Whole-clause-puts
 returns-in-Whole-clause-puts g c =
-    rw c.in-Whole.is (PutsAll-then _ c.in_ok-put_line.ensures c.put_document.ensures)
+    rw c.in-Whole.is (Puts-then _ c.in_ok-put_line.ensures c.put_document.ensures)

@@ -1,29 +1,29 @@
-//! What hears the events of a stream.
+//! What handles the events of a stream.
 
 ghost use Rattle.std.specs.Prelude.{◌≡◌, Bool, List, [], ◌∷◌, ◌++◌, Some, None, Option, OnOk, OnErr, IfErr};
 
-/// What hears the events of a stream as they come, and may write to an output of type `O`. It may
+/// What handles the events of a stream as they come, and may write to an output of type `O`. It may
 /// stop the reading at an event, or before more is waited for.
-pub trait Listener<Event, O> {
+pub trait EventHandler<Event, O> {
     /// Why it stops the reading.
     type Halt: Drop;
 
-    /// What a listener is set to.
+    /// What a handler is set to.
     ghost Settings: { Type 0 };
 
-    /// What this one is set to, which hearing leaves.
+    /// What this one is set to, which handling leaves.
     ghost settings: { Self → Settings };
 
-    /// Since the output was like the first, exactly these events were heard, in this order: the
-    /// first of them before the last pause, and the others after it. The listener and the output
+    /// Since the output was like the first, exactly these events were handled, in this order: the
+    /// first of them before the last pause, and the others after it. The handler and the output
     /// are like these now.
-    ghost heard: { O → List Event → List Event → Self → O → Type 0 };
+    ghost handled: { O → List Event → List Event → Self → O → Type 0 };
 
     /// The same where it stopped the reading so: at this event, or at a pause.
     ghost halted: { O → List Event → List Event → Option Event → Self.Halt → Self → O → Type 0 };
 
-    /// It may stop the reading. Where it may not, as after a failed write, each event is heard, and
-    /// the stream is read on.
+    /// It may stop the reading. Where it may not, as after a failed write, each event is handled,
+    /// and the stream is read on.
     ghost may_halt: { Self → Type 0 };
 
     /// More may be waited for: what is due so far has left, or the output's direction was ended.
@@ -38,17 +38,17 @@ pub trait Listener<Event, O> {
     /// Nothing was put to the direction in between.
     ghost is_unput: { O → O → Type 0 };
 
-    /// Hears an event, and gives an event back whose memory the reading end may use again. An error
-    /// stops the reading right behind the event.
-    fn hear(&mut self, event: Event, output: &mut O) -> Result<Event, Self::Halt>
-        ensures heard { (first : O) (paused since : List Event)
-            → heard first paused since self.old output.old
-            → OnOk result (heard first paused (since ++ event ∷ []) self.new output.new) }
+    /// Handles an event, and gives an event back whose memory the reading end may use again. An
+    /// error stops the reading right behind the event.
+    fn handle(&mut self, event: Event, output: &mut O) -> Result<Event, Self::Halt>
+        ensures handled { (first : O) (paused since : List Event)
+            → handled first paused since self.old output.old
+            → OnOk result (handled first paused (since ++ event ∷ []) self.new output.new) }
         ensures halted { (first : O) (paused since : List Event)
-            → heard first paused since self.old output.old
+            → handled first paused since self.old output.old
             → IfErr result (λ halt. halted first paused since (Some event) halt self.new
             output.new) }
-        ensures wanted { OnErr result (may_halt self.old) }
+        ensures may_halt { OnErr result (may_halt self.old) }
         ensures same_end { ended output.new ≡ ended output.old }
         ensures stopped { has_stopped self.old
             → has_stopped self.new × is_unput output.old output.new }
@@ -59,13 +59,13 @@ pub trait Listener<Event, O> {
     /// stopped: nothing is put to it any more then. After an error no more is taken.
     fn pause(&mut self, output: &mut O) -> Result<(), Self::Halt>
         ensures may_wait { OnOk result (may_wait self.new output.new) }
-        ensures heard { (first : O) (paused since : List Event)
-            → heard first paused since self.old output.old
-            → OnOk result (heard first (paused ++ since) [] self.new output.new) }
+        ensures handled { (first : O) (paused since : List Event)
+            → handled first paused since self.old output.old
+            → OnOk result (handled first (paused ++ since) [] self.new output.new) }
         ensures halted { (first : O) (paused since : List Event)
-            → heard first paused since self.old output.old
+            → handled first paused since self.old output.old
             → IfErr result (λ halt. halted first paused since None halt self.new output.new) }
-        ensures wanted { OnErr result (may_halt self.old) }
+        ensures may_halt { OnErr result (may_halt self.old) }
         ensures same_end { (has_stopped self.new → ⊥) → ended output.new ≡ ended output.old }
         ensures stopped { has_stopped self.old
             → has_stopped self.new × is_unput output.old output.new }

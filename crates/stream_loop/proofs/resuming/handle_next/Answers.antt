@@ -8,10 +8,10 @@ use Rattle.stream_loop.specs.{declared.reading_end.FeedFault.TheVariants.Refused
 use Rattle.stream_loop.specs.{Edges.Input, Resumed.HasComeTo}
 use Rattle.stream_loop.proofs.Bringing.{brings_event, brings_none, brings_refusal, BringsEvent}
 use Rattle.stream_loop.proofs.Bringing.{first_of_open}
-use Rattle.stream_loop.proofs.Reading.{all_were_read, decides, decides_at, halted_at, heard_one}
+use Rattle.stream_loop.proofs.Reading.{all_were_read, decides, decides_at, halted_at, handled_one}
 use Rattle.stream_loop.proofs.Reading.{ran_out}
-use Rattle.stream_loop.proofs.resuming.hear_next.{Given.Over, Goals.After-feed}
-use Rattle.stream_loop.proofs.resuming.hear_next.Goals as goal
+use Rattle.stream_loop.proofs.resuming.handle_next.{Given.Over, Goals.After-feed}
+use Rattle.stream_loop.proofs.resuming.handle_next.Goals as goal
 
 -- what is left is fed to an end that has read p
 module _ (g : Over) (f : After-feed g) where
@@ -25,14 +25,14 @@ module _ (g : Over) (f : After-feed g) where
   abbrev y : List ℕ
   y = f.args.buffer.now
 
-  abbrev HeardBy : g.row.O.Denot → g.row.L.Denot → g.row.O.Denot → List g.E.ReadingEnd.Completed
+  abbrev HandledBy : g.row.O.Denot → g.row.H.Denot → g.row.O.Denot → List g.E.ReadingEnd.Completed
       → List g.E.ReadingEnd.Completed → Type 0
-  HeardBy first listener output paused since =
-      g.L.Listener.heard first (map event_for paused) (map event_for since) listener output
+  HandledBy first handler output paused since =
+      g.H.EventHandler.handled first (map event_for paused) (map event_for since) handler output
 
   module _ (i i' : Input) (first : g.row.O.Denot) (p : List ℕ)
       (h : HasComeTo x i i' (g.E.ReadingEnd.stands f.args.end.now)
-      (HeardBy first f.args.listener.now f.args.output.now) p f.args.buffer.now) where
+      (HandledBy first f.args.handler.now f.args.output.now) p f.args.buffer.now) where
     says : is_over_at x p ≡ false → Says event_for (length y) (answer x p y) f.feed.result
     says on = subst (λ (l : List ℕ). Says event_for (length l) (answer x p l) f.feed.result)
         f.bytes.ensures (f.feed.ensures.answers p h.stands_for on)
@@ -64,26 +64,26 @@ consume-requires g c =
     (event g f r.0 r.1 r.2 r.3 r.4 n v is).within
 
 -- there was no memory to read on
-pub returns-in-Err-Memory-clause-hears : goal.returns-in-Err-Memory-clause-hears
-returns-in-Err-Memory-clause-hears g c = λ i i' first p h.
-    let f : After-feed g = (goal.at-returns-in-Err-Memory-clause-hears g c).After-feed in
-    ran_out (x g f) i i' _ _ p (y g f) h _ h.heard (first_of_open (x g f) p h.on)
+pub returns-in-Err-Memory-clause-handles : goal.returns-in-Err-Memory-clause-handles
+returns-in-Err-Memory-clause-handles g c = λ i i' first p h.
+    let f : After-feed g = (goal.at-returns-in-Err-Memory-clause-handles g c).After-feed in
+    ran_out (x g f) i i' _ _ p (y g f) h _ h.handled (first_of_open (x g f) p h.on)
 
 -- a refusal
-pub returns-in-Err-Refused-clause-hears : goal.returns-in-Err-Refused-clause-hears
-returns-in-Err-Refused-clause-hears g c = λ i i' first p h.
-    let f : After-feed g = (goal.at-returns-in-Err-Refused-clause-hears g c).After-feed in
+pub returns-in-Err-Refused-clause-handles : goal.returns-in-Err-Refused-clause-handles
+returns-in-Err-Refused-clause-handles g c = λ i i' first p h.
+    let f : After-feed g = (goal.at-returns-in-Err-Refused-clause-handles g c).After-feed in
     let o = c.in-Err-Refused.refusal in
     let is : f.feed.result ≡ Err (Refused o) = c.in-Err-Refused.is
     ∙ ap Err (c.in-Err-Refused.field-0-is ∙ ap Refused c.in-Err-Refused.refusal-is) in
-    decides (x g f) i i' _ _ p (y g f) h _ (Some o) h.since h.heard (events_of (x g f) p)
+    decides (x g f) i i' _ _ p (y g f) h _ (Some o) h.since h.handled (events_of (x g f) p)
     h.events_are (brings_refusal (x g f) (event_for g f) g.E.ReadingEnd.ends f.requires.closes p
     (y g f) h.on f.feed.result (says g f i i' first p h) o is)
 
 -- nothing more
-pub returns-in-Ok-default-None-clause-hears : goal.returns-in-Ok-default-None-clause-hears
-returns-in-Ok-default-None-clause-hears g c = λ i i' first p h.
-    let f : After-feed g = (goal.at-returns-in-Ok-default-None-clause-hears g c).After-feed in
+pub returns-in-Ok-default-None-clause-handles : goal.returns-in-Ok-default-None-clause-handles
+returns-in-Ok-default-None-clause-handles g c = λ i i' first p h.
+    let f : After-feed g = (goal.at-returns-in-Ok-default-None-clause-handles g c).After-feed in
     let n = c.in-Ok-default-None.field-0-0 in
     let is : f.feed.result ≡ Ok (n, None) = c.in-Ok-default-None.is
     ∙ ap (λ v. Ok (n, v)) c.in-Ok-default-None.field-0-1-is in
@@ -96,13 +96,13 @@ returns-in-Ok-default-None-clause-hears g c = λ i i' first p h.
           (subst (λ (l : List ℕ). g.E.ReadingEnd.stands c.feed.new.self (p ++ l))
           (ap (take n) f.bytes.ensures ∙ m.0)
           (c.in-Ok-default-None.ensures.stands p h.stands_for (not_over g f i i' first p h)))
-          (pending_open (x g f) (p ++ y g f) m.1) m.2 h.heard;
+          (pending_open (x g f) (p ++ y g f) m.1) m.2 h.handled;
     }
 
--- the listener stopped
-pub returns-in-Err-clause-hears : goal.returns-in-Err-clause-hears
-returns-in-Err-clause-hears g c = λ i i' first p h.
-    let f : After-feed g = (goal.at-returns-in-Err-clause-hears g c).After-feed in
+-- the handler stopped
+pub returns-in-Err-clause-handles : goal.returns-in-Err-clause-handles
+returns-in-Err-clause-handles g c = λ i i' first p h.
+    let f : After-feed g = (goal.at-returns-in-Err-clause-handles g c).After-feed in
     let v = c.in-Ok-default-Some.event in
     let n = c.in-Ok-default-Some.n in
     let is : f.feed.result ≡ Ok (n, Some v) = (let a = c.in-Ok-default-Some.is in let
@@ -113,16 +113,16 @@ returns-in-Err-clause-hears g c = λ i i' first p h.
     (g.E.ReadingEnd.stands c.feed.new.self) _
     (subst (λ (l : List ℕ). g.E.ReadingEnd.stands c.feed.new.self (p ++ take n l)) f.bytes.ensures
     (c.in-Ok-default-Some.ensures.stands p h.stands_for (not_over g f i i' first p h)))
-    (subst (λ (w : g.row.E-Event.Denot). g.L.Listener.halted first
+    (subst (λ (w : g.row.E-Event.Denot). g.H.EventHandler.halted first
     (map (event_for g f) (events_of (x g f) h.before)) (map (event_for g f) h.since) (Some w)
-    c.in-Err.halt c.hear.new.self c.hear.new.output) b.is
-    (c.in-Err.ensures.halted first _ _ h.heard)) c.consume.new.self
-    c.consume.ensures b.first (g.E.ReadingEnd.ends b.event) b.stays_open b.last
+    c.in-Err.halt c.handle.new.self c.handle.new.output) b.is
+    (c.in-Err.ensures.halted first _ _ h.handled)) c.consume.new.self
+    c.consume.ensures b.first g.E.ReadingEnd.ends b.stays_open b.last
 
 -- an end
-pub returns-then-is_last-clause-hears : goal.returns-then-is_last-clause-hears
-returns-then-is_last-clause-hears g c = λ i i' first p h.
-    let f : After-feed g = (goal.at-returns-then-is_last-clause-hears g c).After-feed in
+pub returns-then-is_last-clause-handles : goal.returns-then-is_last-clause-handles
+returns-then-is_last-clause-handles g c = λ i i' first p h.
+    let f : After-feed g = (goal.at-returns-then-is_last-clause-handles g c).After-feed in
     let v = c.in-Ok-default-Some.event in
     let n = c.in-Ok-default-Some.n in
     let is : f.feed.result ≡ Ok (n, Some v) = (let a = c.in-Ok-default-Some.is in let
@@ -130,24 +130,26 @@ returns-then-is_last-clause-hears g c = λ i i' first p h.
     e = c.in-Ok-default-Some.event-is in cc) in
     let b = event g f i i' first p h n v is in
     decides_at (x g f) i i' _ _ p (y g f) h n b.event b.within b.events_are _
-    (rw (← values_more g f i i' first p h b.event v b.is) (c.in-Ok.ensures.heard first _ _ h.heard))
+    (rw (← values_more g f i i' first p h b.event v b.is)
+    (c.in-Ok.ensures.handled first _ _ h.handled))
     (b.last (sym (c.is_end-is_last.ensures b.event b.is) ∙ c.if-is_last.true))
 
 -- one more event
-pub returns-else-is_last-clause-hears : goal.returns-else-is_last-clause-hears
-returns-else-is_last-clause-hears g c = λ i i' first p h.
-    let f : After-feed g = (goal.at-returns-else-is_last-clause-hears g c).After-feed in
+pub returns-else-is_last-clause-handles : goal.returns-else-is_last-clause-handles
+returns-else-is_last-clause-handles g c = λ i i' first p h.
+    let f : After-feed g = (goal.at-returns-else-is_last-clause-handles g c).After-feed in
     let v = c.in-Ok-default-Some.event in
     let n = c.in-Ok-default-Some.n in
     let is : f.feed.result ≡ Ok (n, Some v) = (let a = c.in-Ok-default-Some.is in let
     b = c.in-Ok-default-Some.field-0-1-is in let d = c.in-Ok-default-Some.n-is in let
     e = c.in-Ok-default-Some.event-is in cc) in
     let b = event g f i i' first p h n v is in
-    heard_one (x g f) i i' _ _ p (y g f) h n b.event b.within b.events_are
-    (g.E.ReadingEnd.stands c.hand_back.new.self) _ b.some
-    (c.hand_back.ensures.stands _
+    handled_one (x g f) i i' _ _ p (y g f) h n b.event b.within b.events_are
+    (g.E.ReadingEnd.stands c.recycle.new.self) _ b.some
+    (c.recycle.ensures.stands _
     (subst (λ (l : List ℕ). g.E.ReadingEnd.stands c.feed.new.self (p ++ take n l)) f.bytes.ensures
     (c.in-Ok-default-Some.ensures.stands p h.stands_for (not_over g f i i' first p h))))
     (b.stays_open (sym (c.is_end-is_last.ensures b.event b.is) ∙ c.if-is_last.false))
-    (rw (← values_more g f i i' first p h b.event v b.is) (c.in-Ok.ensures.heard first _ _ h.heard))
+    (rw (← values_more g f i i' first p h b.event v b.is)
+    (c.in-Ok.ensures.handled first _ _ h.handled))
     c.consume.new.self c.consume.ensures
