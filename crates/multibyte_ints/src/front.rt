@@ -15,7 +15,8 @@ pub enum IntRead {
     Bad,
 }
 
-/// Reads the integer at the front of the bytes, in whatever spelling it stands there.
+/// Reads the MultiByteInt31 of MC-NBFX at the front of the bytes, in whatever spelling it stands
+/// there.
 pub fn read_int(bytes: &[u8]) -> IntRead
     ensures { StandsAtFront bytes.now result }
 {

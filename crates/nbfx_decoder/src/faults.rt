@@ -8,7 +8,7 @@ use nbfx_records::{NodeFault, RecordFault, Stop};
 use nbfx_values::Reason;
 use unit_streams::Memory;
 
-/// Why a payload isn't read on.
+/// Why a payload isn't read on. The decoder answers the same from then on.
 #[derive(Clone, Copy, Debug, PartialEq, Eq)]
 pub enum DecodeFault {
     /// The payload is refused: what begins at offset `at`, a record or a part of the string table.

@@ -194,7 +194,7 @@ impl UnitReader<'_> {
         if !self.add_quickly(node) {
             return None;
         }
-        self.pass(used);
+        self.advance(used);
         Some(used)
     }
 }

@@ -107,9 +107,9 @@ impl<'s> UnitReader<'s> {
         }
     }
 
-    /// Goes past a unit of so many bytes.
+    /// Goes on behind a unit of so many bytes.
     #[inline(always)]
-    pub(crate) fn pass(&mut self, used: usize) -> UnitRead
+    pub(crate) fn advance(&mut self, used: usize) -> UnitRead
         requires { self.old.from + used < 2 ^ 32 }
         ensures done { result ≡ UnitRead.Done used }
         ensures from { self.new.from ≡ self.old.from + used }
@@ -137,7 +137,7 @@ impl<'s> UnitReader<'s> {
             }),
             IntRead::Done { value, used } => {
                 self.section = Section::behind(value);
-                Ok(self.pass(used))
+                Ok(self.advance(used))
             }
             IntRead::Bad => refused(Reason::BadInt, 5),
         }
@@ -159,7 +159,7 @@ impl<'s> UnitReader<'s> {
             StringRead::Done { text, used } => match self.table.add(text) {
                 Ok(_id) => {
                     self.section = Section::behind(left.saturating_sub(used as u32));
-                    Ok(self.pass(used))
+                    Ok(self.advance(used))
                 }
                 Err(AddFault::Full) => refused(Reason::DictionaryFull, used),
                 Err(AddFault::Memory) => Err(UnitFault::Memory),
@@ -246,7 +246,7 @@ impl<'s> UnitReader<'s> {
         self.judge(part, used)?;
         let meant = self.said(part)?;
         self.add(meant)?;
-        Ok(self.pass(used))
+        Ok(self.advance(used))
     }
 
     /// What identifiers name.

@@ -17,8 +17,8 @@ use crate::records::{RecordPart, misplaced};
 use crate::resume::Resume;
 use crate::type_bytes::record_kind;
 
-/// The kind of the record that the bytes begin; None where their first byte begins no record, or is
-/// missing.
+/// The kind of the record of MC-NBFX that the bytes begin, by its type byte; None where the first
+/// byte begins no record, or is missing.
 #[inline(always)]
 pub fn kind_at(bytes: &[u8]) -> Option<RecordKind>
     ensures begins { IfSome result (BeginsKind bytes.now) }
@@ -35,8 +35,10 @@ pub fn may_stand(place: NodePlace, kind: RecordKind) -> bool
     misplaced(place, kind).is_none()
 }
 
-/// The parts of the element at the front of the bytes, whose prefix and name have these forms, and
-/// how many bytes it has. It fails where the element is incomplete or wrong.
+/// The parts of the record of MC-NBFX that begins an element, which stands at the front of the
+/// bytes and whose prefix and name have these forms, and how many bytes it has. Its texts aren't
+/// judged. It fails where the bytes end within it, with how many are wanted at least, or where it
+/// is wrong, with the fault.
 #[inline(always)]
 pub fn element_parts(
     prefix: PrefixForm,
@@ -51,8 +53,10 @@ pub fn element_parts(
     element_at(prefix, name, bytes, 1)
 }
 
-/// The parts of the attribute at the front of the bytes, whose prefix and name have these forms,
-/// and how many bytes it has. It fails where the attribute is incomplete or wrong.
+/// The parts of the record of MC-NBFX that is an attribute with its value, which stands at the
+/// front of the bytes and whose prefix and name have these forms, and how many bytes it has. Its
+/// texts aren't judged. It fails where the bytes end within it, with how many are wanted at least,
+/// or where it is wrong, with the fault.
 #[inline(always)]
 pub fn attribute_parts(
     prefix: PrefixForm,
@@ -68,8 +72,10 @@ pub fn attribute_parts(
     attribute_at(prefix, name, bytes, 1, &mut Resume::new())
 }
 
-/// The parts of the declaration at the front of the bytes, whose prefix and URI have these forms,
-/// and how many bytes it has. It fails where the declaration is incomplete or wrong.
+/// The parts of the record of MC-NBFX that declares a namespace, which stands at the front of the
+/// bytes and whose prefix and URI have these forms, and how many bytes it has. Its texts aren't
+/// judged. It fails where the bytes end within it, with how many are wanted at least, or where it
+/// is wrong, with the fault.
 #[inline(always)]
 pub fn declaration_parts(
     prefix: PrefixForm,
@@ -85,8 +91,9 @@ pub fn declaration_parts(
     declaration_at(prefix, uri, bytes, 1)
 }
 
-/// The value of the text at the front of the bytes, which is of this kind and no list, and how many
-/// bytes the text has. It fails where the text is incomplete or wrong.
+/// The value of the text record of MC-NBFX at the front of the bytes, which is of this kind and no
+/// list, and how many bytes the record has. The value isn't judged. It fails where the bytes end
+/// within it, with how many are wanted at least, or where it is wrong, with the fault.
 #[inline(always)]
 pub fn scalar_parts(
     kind: TextKind,

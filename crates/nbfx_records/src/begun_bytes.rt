@@ -37,7 +37,7 @@ impl Model for BegunBytes {
 }
 
 impl BegunBytes {
-    /// No bytes.
+    /// The bytes of a record of which none has come.
     pub fn new(alloc: Global) -> BegunBytes
         ensures { result ≡ [] }
     {
@@ -47,7 +47,7 @@ impl BegunBytes {
         }
     }
 
-    /// The bytes.
+    /// The bytes so far.
     pub fn as_slice(&self) -> &[u8]
         ensures { result.now ≡ self.now }
     {

@@ -143,7 +143,7 @@ pub enum RecordFault {
     BadValue,
 }
 
-/// Why a record isn't read as a node.
+/// Why the bytes of a record give no node: they are refused, or there is no memory for it.
 #[derive(Clone, Copy, Debug, PartialEq, Eq)]
 pub enum NodeFault {
     /// The record is refused.

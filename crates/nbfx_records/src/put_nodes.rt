@@ -105,8 +105,8 @@ fn put(node: &Node, out: &mut Vec<u8>) -> Result<(), Memory>
     }
 }
 
-/// Appends the record of a node, in its chosen spelling. Without memory it fails, and `out` is as
-/// before.
+/// Appends the record of MC-NBFX that says a node, in its chosen spelling. Without memory it fails,
+/// and `out` is as before.
 pub fn put_node(node: &Node, out: &mut Vec<u8>) -> Result<(), Memory>
     requires valid { IsTrue (is_valid_node node.now) }
     requires fits { IsTrue (fits_node node.now) }

@@ -92,8 +92,9 @@ fn put_named(
     put_name(name, out)
 }
 
-/// Appends the record of MC-NBFX that begins an element: its type byte, its prefix and its name.
-/// The empty prefix means none.
+/// Appends the record of MC-NBFX that begins an element, from ShortElement to PrefixElementZ: its
+/// type byte, its prefix and its name. The empty prefix means none. Without memory it fails, and
+/// first bytes of them may stand in `out`.
 pub fn put_element(prefix: &str, name: NamePart<'_>, out: &mut Vec<u8>) -> Result<(), Memory>
     requires { IsTrue (fit_names prefix.now (name_seen name)) }
     ensures { Puts result out.old.items out.new.items
@@ -104,7 +105,9 @@ pub fn put_element(prefix: &str, name: NamePart<'_>, out: &mut Vec<u8>) -> Resul
     put_named(kind, form, prefix, name, out)
 }
 
-/// Appends an Xmlns record: its type byte, the prefix and the URI.
+/// Appends the record of MC-NBFX that declares a namespace, from ShortXmlnsAttribute to
+/// DictionaryXmlnsAttribute: its type byte, the prefix and the URI. The empty prefix means none.
+/// Without memory it fails, and first bytes of them may stand in `out`.
 pub fn put_declaration(prefix: &str, uri: NamePart<'_>, out: &mut Vec<u8>) -> Result<(), Memory>
     requires { IsTrue (fit_names prefix.now (name_seen uri)) }
     ensures { Puts result out.old.items out.new.items
@@ -115,8 +118,9 @@ pub fn put_declaration(prefix: &str, uri: NamePart<'_>, out: &mut Vec<u8>) -> Re
     put_named(kind, form, prefix, uri, out)
 }
 
-/// Appends an attribute's type byte, its prefix and its name. Its value has to follow, which ends
-/// no element.
+/// Appends what a record of MC-NBFX, from ShortAttribute to PrefixAttributeZ, has before its value:
+/// its type byte, its prefix and its name. The empty prefix means none. The value has to follow,
+/// which ends no element. Without memory it fails, and first bytes of them may stand in `out`.
 pub fn put_attribute_start(
     prefix: &str,
     name: NamePart<'_>,
@@ -131,7 +135,8 @@ pub fn put_attribute_start(
     put_named(kind, form, prefix, name, out)
 }
 
-/// Appends a Comment record.
+/// Appends a Comment record of MC-NBFX. Without memory it fails, and first bytes of the record may
+/// stand in `out`.
 pub fn put_comment(text: &str, out: &mut Vec<u8>) -> Result<(), Memory>
     requires { IsTrue (is_short text.now) }
     ensures { Puts result out.old.items out.new.items (spec.comment_bytes text.now) }
@@ -140,15 +145,15 @@ pub fn put_comment(text: &str, out: &mut Vec<u8>) -> Result<(), Memory>
     put_string(text, out)
 }
 
-/// Appends an EndElement record.
+/// Appends an EndElement record of MC-NBFX. Without memory it fails, and `out` is as before.
 pub fn put_end_element(out: &mut Vec<u8>) -> Result<(), Memory>
     ensures { Puts result out.old.items out.new.items spec.end_bytes }
 {
     put_kind(RecordKind::EndElement, out)
 }
 
-/// Appends the type byte of an Array record. Its element, that one's declarations and attributes,
-/// and its values have to follow.
+/// Appends the type byte of an Array record of MC-NBFX. Its element, that one's declarations and
+/// attributes, and its values have to follow. Without memory it fails, and `out` is as before.
 pub fn put_array_start(out: &mut Vec<u8>) -> Result<(), Memory>
     ensures { Puts result out.old.items out.new.items spec.array_start }
 {
@@ -186,8 +191,9 @@ fn put_cells(kind: ArrayKind, values: &[Scalar], out: &mut Vec<u8>) -> Result<()
     Ok(())
 }
 
-/// Appends the rest of an Array record: the end of its attributes, the type byte of its values,
-/// their number and the values.
+/// Appends the rest of an Array record of MC-NBFX: the end of its attributes, the type byte of its
+/// values, their number and the values. Without memory it fails, and first bytes of them may stand
+/// in `out`.
 pub fn put_array_values(kind: ArrayKind, values: &[Scalar], out: &mut Vec<u8>) -> Result<(), Memory>
     requires valid { IsTrue (list_all (fits_kind kind) values.now) }
     requires fits { length values.now < 2 ^ 31 }

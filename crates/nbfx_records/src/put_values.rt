@@ -203,8 +203,9 @@ fn put_known(value: &Scalar, ends: bool, out: &mut Vec<u8>) -> Result<(), Memory
     }
 }
 
-/// Appends the text record of one value. If `ends`, it is the record that also ends the element
-/// that holds the text.
+/// Appends the text record of MC-NBFX of one value. If `ends`, it is the record that also ends the
+/// element that holds the text. Without memory it fails, and first bytes of the record may stand in
+/// `out`.
 pub fn put_scalar(value: ScalarChoice<'_>, ends: bool, out: &mut Vec<u8>) -> Result<(), Memory>
     requires valid { IsTrue (is_valid_raw (choice_seen value)) }
     requires fits { IsTrue (fits_raw (choice_seen value)) }
@@ -224,15 +225,16 @@ pub fn put_scalar(value: ScalarChoice<'_>, ends: bool, out: &mut Vec<u8>) -> Res
     }
 }
 
-/// Appends a StartListText record. The values of the list have to follow, none of which ends an
-/// element, and then its end.
+/// Appends a StartListText record of MC-NBFX. The values of the list have to follow, none of which
+/// ends an element, and then its end. Without memory it fails, and `out` is as before.
 pub fn put_list_start(out: &mut Vec<u8>) -> Result<(), Memory>
     ensures { Puts result out.old.items out.new.items spec.list_start }
 {
     put_kind(RecordKind::Text(TextKind::StartList, false), out)
 }
 
-/// Appends an EndListText record. If `ends`, it also ends the element that holds the list.
+/// Appends an EndListText record of MC-NBFX. If `ends`, it also ends the element that holds the
+/// list. Without memory it fails, and `out` is as before.
 pub fn put_list_end(ends: bool, out: &mut Vec<u8>) -> Result<(), Memory>
     ensures { Puts result out.old.items out.new.items (spec.list_end ends) }
 {

@@ -282,8 +282,9 @@ pub(crate) fn shape_at<'a>(
     placed(place, record_kind(byte), bytes, at, resume)
 }
 
-/// The parts of the record at the front of the bytes, if it may stand at this place, and how many
-/// bytes it has. It fails where the record is incomplete or wrong.
+/// The parts of the record of MC-NBFX at the front of the bytes, if it may stand at this place, and
+/// how many bytes it has. Its texts aren't judged. It fails where the bytes end within it, with how
+/// many are wanted at least, or where it is wrong, with the fault.
 #[inline(always)]
 pub fn parts_at(place: NodePlace, bytes: &[u8]) -> Result<(RecordPart<'_>, usize), Stop>
     ensures tells { Tells record_seen (spec.shape_at place)

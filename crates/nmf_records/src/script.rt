@@ -44,7 +44,8 @@ impl Direction {
     }
 }
 
-/// What may come next in a stream. A receiver may also send a Fault Record in place of any record.
+/// Which record of MC-NMF may come next in a stream. A receiver may also send a Fault Record in
+/// place of any record.
 #[derive(Clone, Copy, Debug, PartialEq, Eq)]
 pub enum Due {
     /// The initiator's first record, a Version Record.

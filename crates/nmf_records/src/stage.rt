@@ -154,7 +154,7 @@ pub fn after_field(field: Field, byte: u8) -> Progress
     }
 }
 
-/// What the bytes of a text led to, by the answer of the reader of strings that they were fed to.
+/// Where a record leads after bytes of its text, by what the reader of strings answered to them.
 pub fn after_text(text: TextRecord, step: StringStep) -> Progress
     ensures { result ≡ progress_of text step }
 {

@@ -13,9 +13,9 @@ use crate::record_types::{
 use multibyte_ints::put_int;
 use unit_streams::Memory;
 
-/// Writes the record, of an envelope its head, or the size of a chunk, to the front of `out`, and
-/// says how many bytes it has. The rest of `out` stays. A Via or Fault Record has a text, which
-/// [`put_text_frame`] writes.
+/// Writes the record of MC-NMF, of an envelope its head, or the size of a chunk, to the front of
+/// `out`, and says how many bytes it has. The rest of `out` stays. A Via or Fault Record has a
+/// text, which [`put_text_frame`] writes.
 pub fn put_head(frame: Frame, out: &mut [u8; 8]) -> usize
     requires textless { has_text frame ≡ false }
     requires size { size_told frame < 2 ^ 31 }
@@ -36,8 +36,8 @@ pub fn put_head(frame: Frame, out: &mut [u8; 8]) -> usize
     }
 }
 
-/// Appends a record that has a text: a Via Record, where `kind` is [`VIA`], or a Fault Record,
-/// where it is [`FAULT`]. Without memory it fails, and `out` is as before.
+/// Appends a record of MC-NMF that has a text: a Via Record, where `kind` is [`VIA`], or a Fault
+/// Record, where it is [`FAULT`]. Without memory it fails, and `out` is as before.
 pub fn put_text_frame(kind: u8, text: &str, out: &mut Vec<u8>) -> Result<(), Memory>
     requires kind { (kind ≡ VIA) ⊎ (kind ≡ FAULT) }
     requires length { length text.now ≤ 2048 }

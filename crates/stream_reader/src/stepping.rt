@@ -308,7 +308,7 @@ impl<'s> StreamReader<'s> {
             self.awaited = Awaited::Payload(payload);
             return self.behind_payload(payload);
         }
-        Ok(self.behind_bare(frame))
+        Ok(self.after_bare_record(frame))
     }
 
     // Why what a whole record says is refused.
@@ -371,7 +371,7 @@ impl<'s> StreamReader<'s> {
     }
 
     // Goes on after a record that has no payload.
-    fn behind_bare(&mut self, frame: Frame) -> StreamStep
+    fn after_bare_record(&mut self, frame: Frame) -> StreamStep
         ensures moves { IsMoved self.old frame self.new result }
     {
         self.await_next(frame);
@@ -404,7 +404,7 @@ impl<'s> StreamReader<'s> {
     {
         match frame {
             Frame::Mode(byte) => self.mode = judging::mode_of(byte),
-            Frame::KnownEncoding(encoding) => self.read_as(judging::kind_of(encoding)),
+            Frame::KnownEncoding(encoding) => self.set_kind(judging::kind_of(encoding)),
             Frame::End => self.closing = Closing::End,
             Frame::Fault => self.closing = Closing::Fault,
             _ => {}
@@ -429,7 +429,7 @@ impl<'s> StreamReader<'s> {
     }
 
     // From here on payloads are of this kind, with no strings before.
-    fn read_as(&mut self, kind: Kind)
+    fn set_kind(&mut self, kind: Kind)
         ensures kind { self.new.kind ≡ kind }
         ensures stands { DecoderStandsFor self.new.decoder [] [] }
         ensures decodes { decoder_settings self.new.decoder ≡ record {

@@ -21,8 +21,8 @@ add_quickly-requires-clause-single c =
     (λ (m : Result Node NodeFault). Made m (contents it.shape)) c.in-Ok.is it.makes.made in
     single_made it.shape it.single c.in-Ok.node e
 
-pub pass-requires : goal.pass-requires
-pass-requires c =
+pub advance-requires : goal.advance-requires
+advance-requires c =
     let few = record_few c.args.self.now c.requires.stands.shape c.args.used
     c.requires.stands.stands in
     let same = c.add_quickly.ensures.from in
@@ -34,12 +34,12 @@ returns c shape bytes has makes =
     (λ (m : Result Node NodeFault). Made m (contents shape)) c.in-Ok.is makes.made in
     let is : c.add_quickly.result ≡ true = (let no = c.if-not-add_quickly.false in cc) in
     record {
-      read = reads_done c.args.self.now c.add_quickly.new.self c.pass.new.self bytes c.args.used
+      read = reads_done c.args.self.now c.add_quickly.new.self c.advance.new.self bytes c.args.used
           (λ x z from at. added_said c.args.self.now x z from at c.requires.here bytes shape
           c.args.used has c.in-Ok.node e c.add_quickly.new.self
           (c.add_quickly.ensures.answers is x z from at))
           (shape_size (place_in c.args.self.now) bytes shape c.args.used has.whole)
-          (keeps_settings c.add_quickly.ensures.kept) c.add_quickly.ensures.from c.pass.ensures.kept
-          c.pass.ensures.from c.pass.ensures.section c.pass.ensures.items;
+          (keeps_settings c.add_quickly.ensures.kept) c.add_quickly.ensures.from c.advance.ensures.kept
+          c.advance.ensures.from c.advance.ensures.section c.advance.ensures.items;
       unread = tt;
     }

@@ -44,8 +44,8 @@ returns-in_err-add c bytes has =
     (λ x z from at. (stays_at c.in_err-add.ensures.stays at).set)
     (keeps_settings c.add.ensures.kept)
 
-pub pass-requires : goal.pass-requires
-pass-requires c =
+pub advance-requires : goal.advance-requires
+advance-requires c =
     let few = record_few c.args.self.now (record_seen c.args.part.now) c.args.used c.requires.stands
     in
     let same = c.add.ensures.from in
@@ -54,11 +54,11 @@ pass-requires c =
 pub returns : goal.returns
 returns c bytes has =
     let said = c.in_ok-meant.ensures.said in
-    let read = reads_done c.args.self.now c.add.new.self c.pass.new.self bytes c.args.used
+    let read = reads_done c.args.self.now c.add.new.self c.advance.new.self bytes c.args.used
     (λ x z from at. added_said c.args.self.now x z from at c.requires.here bytes
     (record_seen c.args.part.now) c.args.used has said.made said.is c.add.new.self
     (c.in_ok-add.ensures.answers x z from said.made at said.means))
     (shape_size (place_in c.args.self.now) bytes (record_seen c.args.part.now) c.args.used
-    has.whole) (keeps_settings c.add.ensures.kept) c.add.ensures.from c.pass.ensures.kept
-    c.pass.ensures.from c.pass.ensures.section c.pass.ensures.items in
-    rw c.pass.ensures.done read
+    has.whole) (keeps_settings c.add.ensures.kept) c.add.ensures.from c.advance.ensures.kept
+    c.advance.ensures.from c.advance.ensures.section c.advance.ensures.items in
+    rw c.advance.ensures.done read

@@ -4,8 +4,8 @@ use Rattle.nbfx_decoder.proofs.UnitSteps.{integer_size, size_unrefused, size_who
 use Rattle.nbfx_decoder.proofs.UnitSteps.{size_waits, behind_size}
 use Rattle.nbfx_decoder.proofs.units.UnitReader.table_size.Goals as goal
 
-pub pass-requires : goal.pass-requires
-pass-requires c =
+pub advance-requires : goal.advance-requires
+advance-requires c =
     let size = integer_size c.args.bytes.now c.in-Done.value c.in-Done.used c.in-Done.ensures.0 in
     let few = c.requires.few in
     omega (arith, size.1, few)
@@ -16,13 +16,13 @@ returns-in-More-clause-answers c x z from at =
 
 pub returns-in-Done-clause-answers : goal.returns-in-Done-clause-answers
 returns-in-Done-clause-answers c x z from at =
-    let kept = c.pass.ensures.kept in
-    rw c.pass.ensures.done (
+    let kept = c.advance.ensures.kept in
+    rw c.advance.ensures.done (
       table_size c.in-Done.value,
       size_whole c.args.self.now x z from at c.requires.here c.args.bytes.now c.in-Done.value
           c.in-Done.used c.in-Done.ensures.0,
       size_unrefused x z c.in-Done.value,
-      behind_size c.args.self.now x z from at c.requires.here c.args.bytes.now c.pass.new.self
+      behind_size c.args.self.now x z from at c.requires.here c.args.bytes.now c.advance.new.self
           c.in-Done.value c.in-Done.used
           (record {
             statics = kept.statics;
@@ -30,12 +30,12 @@ returns-in-Done-clause-answers c x z from at =
             kind = kept.kind;
             table =
                 kept.table;
-          }) c.pass.ensures.from (c.pass.ensures.section ∙ c.behind-self.ensures)
-          c.pass.ensures.items,
+          }) c.advance.ensures.from (c.advance.ensures.section ∙ c.behind-self.ensures)
+          c.advance.ensures.items,
     )
 
 pub returns-in-Done-clause-counts : goal.returns-in-Done-clause-counts
-returns-in-Done-clause-counts c = rw c.pass.ensures.done
+returns-in-Done-clause-counts c = rw c.advance.ensures.done
     (integer_size c.args.bytes.now c.in-Done.value c.in-Done.used c.in-Done.ensures.0)
 
 pub returns-in-Bad-clause-answers : goal.returns-in-Bad-clause-answers

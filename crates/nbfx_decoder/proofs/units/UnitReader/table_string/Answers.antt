@@ -21,8 +21,8 @@ overflow_cast-used c =
     let few = c.requires.few in
     omega (arith, size.1, few)
 
-pub pass-requires : goal.pass-requires
-pass-requires c =
+pub advance-requires : goal.advance-requires
+advance-requires c =
     let there : StringStands c.saturating_sub-room.result c.args.left c.args.bytes.now
     (Ok (Done c.in-Done.text c.in-Done.used)) = rw c.in-Done.is at c.in_ok-wants.ensures in
     let size = string_size c.saturating_sub-room.result c.args.left c.args.bytes.now _
@@ -46,8 +46,8 @@ returns-in-Ok-clause-answers c x z from at =
     let some = left_some c.args.self.now c.args.left c.requires.here in
     let s : TableString = record { text = c.in-Done.text.now; left = c.args.left - c.in-Done.used }
     in
-    let kept = c.pass.ensures.kept in
-    rw c.pass.ensures.done (
+    let kept = c.advance.ensures.kept in
+    rw c.advance.ensures.done (
       table_string s,
       string_whole c.args.self.now x z from at c.args.left c.requires.here some c.used.result
           c.saturating_sub-room.result c.used.ensures.cost c.saturating_sub-room.ensures
@@ -55,15 +55,15 @@ returns-in-Ok-clause-answers c x z from at =
       string_unrefused x z s,
       behind_string c.args.self.now x z from at c.args.left c.requires.here some c.used.result
           c.saturating_sub-room.result c.used.ensures.cost c.saturating_sub-room.ensures
-          c.pass.new.self s c.in-Done.used kept.statics kept.kind kept.quotas
-          (kept.table ∙ c.in-Ok.ensures.added) c.pass.ensures.from
-          (c.pass.ensures.section ∙ c.behind-self.ensures ∙ ap section_of c.saturating_sub.ensures)
-          c.pass.ensures.items,
+          c.advance.new.self s c.in-Done.used kept.statics kept.kind kept.quotas
+          (kept.table ∙ c.in-Ok.ensures.added) c.advance.ensures.from
+          (c.advance.ensures.section ∙ c.behind-self.ensures ∙ ap section_of c.saturating_sub.ensures)
+          c.advance.ensures.items,
     )
 
 pub returns-in-Ok-clause-counts : goal.returns-in-Ok-clause-counts
 returns-in-Ok-clause-counts c =
     let there : StringStands c.saturating_sub-room.result c.args.left c.args.bytes.now
     (Ok (Done c.in-Done.text c.in-Done.used)) = rw c.in-Done.is at c.in_ok-wants.ensures in
-    rw c.pass.ensures.done (string_size c.saturating_sub-room.result c.args.left c.args.bytes.now _
+    rw c.advance.ensures.done (string_size c.saturating_sub-room.result c.args.left c.args.bytes.now _
     c.in-Done.used (left_some c.args.self.now c.args.left c.requires.here) there.0)

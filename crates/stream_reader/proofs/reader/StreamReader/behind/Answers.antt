@@ -105,8 +105,8 @@ returns-in-Some-made-clause-answers c = λ read z text same here.
 
 pub returns-clause-answers : goal.returns-clause-answers
 returns-clause-answers c = λ read z text same here.
-    for_read c.args.self.now z text c.args.frame read c.behind_bare.new.self
-    (Ok c.behind_bare.result) same here (λ h.
+    for_read c.args.self.now z text c.args.frame read c.after_bare_record.new.self
+    (Ok c.after_bare_record.result) same here (λ h.
     let r : StreamReader = c.args.self.now in
     let x : Settings = settings_of c.args.self.now in
     let good = sym (c.reason_in.ensures z.stage text h.at.awaits h.shown)
@@ -124,8 +124,8 @@ returns-clause-answers c = λ read z text same here.
       taken = refl;
       decoder = refl;
     }) (side_is r) refl (payloads_are r)
-    (no_payload r x z c.args.frame text h r.unit_from r.taken none) c.behind_bare.new.self
-    c.behind_bare.result c.behind_bare.ensures.moves good none)
+    (no_payload r x z c.args.frame text h r.unit_from r.taken none) c.after_bare_record.new.self
+    c.after_bare_record.result c.after_bare_record.ensures.moves good none)
 
 pub returns-in-Some-clause-refused : goal.returns-in-Some-clause-refused
 unfolding failure_of

@@ -1,7 +1,7 @@
 use Rattle.std.proofs.{Common.ap, Math.Logic.∥∥₁_map}
 use Rattle.nbfx_decoder.specs.Payload.{Settings}
 use Rattle.stream_reader.{specs.Bounds.IsBounded, proofs.Bounded.bounded_new}
-use Rattle.stream_reader.proofs.reader.StreamReader.read_as.Goals as goal
+use Rattle.stream_reader.proofs.reader.StreamReader.set_kind.Goals as goal
 
 pub invariant_of-self-2-clause-bounded : goal.invariant_of-self-2-clause-bounded
 invariant_of-self-2-clause-bounded c =
