@@ -1,52 +1,54 @@
 -- The plan for a request leads to its answer.
 use Rattle.std.proofs.Common.{◌≡◌, ℕ, Bool, true, false, List, [], IfOk, if◌then◌else◌, OnOk}
-use Rattle.std.proofs.Common.{IsTrue, slice_get, Ok, Err, Result, sym, refl, ap, ◌∙◌, subst}
-use Rattle.{unit_streams.specs.declared.memory.Memory.Memory, least_payloads.specs.Least.may_fit}
+use Rattle.std.proofs.Common.{IsTrue, length, slice_get, Ok, Err, Result, sym, refl, ap, ◌∙◌}
+use Rattle.std.proofs.Common.{subst}
+use Rattle.unit_streams.specs.declared.memory.Memory.{Memory}
 use Rattle.nbfx_values.specs.{declared.content.Item.Item, Limits.Limits}
-use Rattle.soap_envelope.proofs.FaultSizes.{unfit_names_are_unfit}
+use Rattle.soap_envelope.proofs.{FaultSizes.unfit_names_are_unfit, RelatedTexts.related_are}
 use Rattle.soap_envelope.specs.{declared.refusals.SoapFault.SoapFault, Body.body_items}
 use Rattle.soap_envelope.specs.{Children.is_start, Making.AreTexts, View.View, View.view}
-use Rattle.soap_envelope.specs.{Fitting.fits, Fitting.names_fit, Parts.root_scope, Seen.BodyStands}
-use Rattle.action_dispatch.specs.declared.{answers.Answer.Answer, judging.Judged.Judged}
+use Rattle.soap_envelope.specs.{Fitting.names_fit, Parts.root_scope, Seen.BodyStands}
+use Rattle.action_dispatch.specs.declared.answers.Answer.{Answer, TheVariants.Reply}
+use Rattle.action_dispatch.specs.declared.judging.Judged.{Judged}
 use Rattle.action_dispatch.specs.declared.answers.Measured.TheVariants.{Made, TooLarge}
 use Rattle.action_dispatch.specs.declared.judging.Judged.TheVariants.{Asked, Refused, Unanswered}
 use Rattle.action_dispatch.specs.declared.planning.Plan.{Plan, TheVariants.Answered}
+use Rattle.action_dispatch.specs.declared.planning.Plan.TheVariants.{Refused as FaultMade}
 use Rattle.action_dispatch.specs.{declared.refusals.Refusal.Refusal, Answers.Serves}
-use Rattle.action_dispatch.specs.Answers.{answer_by, answer_to, answered, answered_by, IsMeasured}
-use Rattle.action_dispatch.specs.Answers.{judged, MeasuresTexts, refusal_answer, RelatesToTexts}
+use Rattle.action_dispatch.specs.Answers.{answer_by, answer_to, answered, answered_by, judged}
+use Rattle.action_dispatch.specs.Answers.{refusal_answer, RelatesToTexts}
 use Rattle.action_dispatch.specs.Planning.{IsFor, Leads, planned, planned_of, Plans, refused}
 use Rattle.action_dispatch.specs.Refusals.{fault_of, names_of, refusal_of, report_of}
 
--- what has too much content doesn't fit
-unfit_content : (limits : Limits) (items : List Item) → fits limits.content items ≡ false
-    → may_fit limits items ≡ false
-unfit_content limits items h = rw h refl
-
 module _ (limits : Limits) (doc : List Item) where
   -- a fault, which isn't made where its names don't fit
-  measured : (answer : Answer) (refusal : Refusal) (relates : List Item)
-      → answer ≡ refusal_answer refusal relates
-      → IsMeasured limits answer (refused limits refusal relates)
-  measured answer refusal relates is =
-      by (names_fit limits.content (names_of refusal)) refl
+  led : (serves : Serves) (refusal : Refusal) (relates : List Item)
+      → answered serves doc ≡ refusal_answer refusal relates
+      → Leads limits doc (refused limits refusal relates) serves
+  led serves refusal relates is = by (names_fit limits (names_of refusal)) refl
     where
-      by : (b : Bool) → names_fit limits.content (names_of refusal) ≡ b
-          → IsMeasured limits answer
-          (if b then Made (refusal_answer refusal relates) else TooLarge relates)
-      by true fit = sym is
+      by : (b : Bool) → names_fit limits (names_of refusal) ≡ b
+          → Leads limits doc
+          (if b then FaultMade (fault_of refusal relates) (length relates)
+          else Answered (TooLarge relates))
+          serves
+      by true fit =
+          is ∙ ap (Reply (fault_of refusal relates))
+          (sym (related_are (report_of refusal) relates))
       by false unfit = (
         fault_of refusal relates,
         is,
-        unfit_content limits (fault_of refusal relates)
-            (unfit_names_are_unfit limits.content (report_of refusal) relates unfit),
+        unfit_names_are_unfit limits (report_of refusal) relates unfit,
       )
 
   with_texts : (refusal : Refusal) (relates : List Item) → AreTexts relates
-      → MeasuresTexts (refused limits refusal relates)
-  with_texts refusal relates texts = by (names_fit limits.content (names_of refusal)) where
+      → IsFor doc (refused limits refusal relates)
+  with_texts refusal relates texts = by (names_fit limits (names_of refusal)) where
     by : (b : Bool)
-        → MeasuresTexts (if b then Made (refusal_answer refusal relates) else TooLarge relates)
-    by true = texts
+        → IsFor doc
+        (if b then FaultMade (fault_of refusal relates) (length relates)
+        else Answered (TooLarge relates))
+    by true = subst AreTexts (sym (related_are (report_of refusal) relates)) texts
     by false = texts
 
   -- whatever becomes of it
@@ -55,8 +57,7 @@ module _ (limits : Limits) (doc : List Item) where
       → answered serves doc ≡ answer_to serves body relates step
       → Leads limits doc (planned limits step relates at) serves
   leads-by serves body relates at Unanswered same is = sym is
-  leads-by serves body relates at (Refused refusal) same is =
-      measured (answered serves doc) refusal relates is
+  leads-by serves body relates at (Refused refusal) same is = led serves refusal relates is
   leads-by serves body relates at (Asked action) same is =
       is ∙ ap (λ content. answer_by action relates (serves action content)) same
 

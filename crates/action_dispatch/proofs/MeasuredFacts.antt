@@ -1,14 +1,18 @@
 -- What a service says decides the answer, however the content of Body comes to it.
 use Rattle.std.proofs.Common.{◌≡◌, ℕ, false, List, [], IfOk, Result, sym, refl, ap, ◌∙◌, subst}
+use Rattle.std.proofs.Common.{Ok, Err}
 use Rattle.{unit_streams.specs.declared.memory.Memory.Memory, least_payloads.specs.Least.may_fit}
 use Rattle.nbfx_values.specs.{declared.content.Item.Item, Limits.Limits}
 use Rattle.soap_envelope.proofs.ReplySizes.{unfit_bodies_are_unfit}
-use Rattle.soap_envelope.specs.{Body.body_items, Making.reply_items, Parts.root_scope}
+use Rattle.soap_envelope.specs.{Body.body_items, Faults.related_texts, Making.reply_items}
+use Rattle.soap_envelope.specs.Parts.{root_scope}
 use Rattle.action_dispatch.specs.declared.answers.Answer.{Answer, TheVariants.Reply}
-use Rattle.action_dispatch.specs.declared.answers.Measured.{Measured, TheVariants.TooLarge}
+use Rattle.action_dispatch.specs.declared.answers.Measured.{Measured, TheVariants.Made}
+use Rattle.action_dispatch.specs.declared.answers.Measured.TheVariants.{TooLarge}
 use Rattle.action_dispatch.specs.declared.{planning.Plan.TheVariants.Asks, service.Served.Served}
-use Rattle.action_dispatch.specs.Answers.{answer_by, answered, IsMeasured, Serves}
-use Rattle.action_dispatch.specs.Planning.{Leads}
+use Rattle.action_dispatch.specs.declared.planning.Plan.TheVariants.{Refused as FaultMade}
+use Rattle.action_dispatch.specs.Answers.{answer_by, answered, IsMeasured, MeasuresTexts, Serves}
+use Rattle.action_dispatch.specs.Planning.{IsFor, Leads}
 use Rattle.action_dispatch.specs.Services.{Ignores, IsTooLarge, RepliesTooMuch, Returns}
 use Rattle.action_dispatch.specs.declared.service.Served.TheVariants as said
 
@@ -62,3 +66,21 @@ pub measured_asked : (serves : Serves) (limits : Limits) (doc : List Item) (acti
     → IfOk measured (IsMeasured limits (answered serves doc))
 measured_asked serves limits doc action relates at measured leads h =
     subst (λ (answer : Answer). IfOk measured (IsMeasured limits answer)) (sym leads) h
+
+-- a fault that was made is the answer, with the texts that it relates to
+pub refused_fault : (serves : Serves) (limits : Limits) (doc fault : List Item) (related : ℕ)
+    (measured : Result Measured Memory) → Leads limits doc (FaultMade fault related) serves
+    → IfOk measured (λ measured. measured ≡ Made (Reply fault (related_texts related fault)))
+    → IfOk measured (IsMeasured limits (answered serves doc))
+refused_fault serves limits doc fault related (Ok measured) leads made =
+    subst (IsMeasured limits (answered serves doc)) (sym made) (sym leads)
+refused_fault serves limits doc fault related (Err memory) leads made = tt
+
+-- and it has that texts
+pub refused_texts : (limits : Limits) (doc fault : List Item) (related : ℕ)
+    (measured : Result Measured Memory) → IsFor doc (FaultMade fault related)
+    → IfOk measured (λ measured. measured ≡ Made (Reply fault (related_texts related fault)))
+    → IfOk measured MeasuresTexts
+refused_texts limits doc fault related (Ok measured) texts made =
+    subst MeasuresTexts (sym made) texts
+refused_texts limits doc fault related (Err memory) texts made = tt

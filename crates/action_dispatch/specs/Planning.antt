@@ -1,28 +1,31 @@
 -- What is left to do for a request once it was judged, which needs no name from its document.
-use Rattle.std.specs.Prelude.{◌≡◌, ℕ, List, if◌then◌else◌, IsTrue, slice_get}
+use Rattle.std.specs.Prelude.{◌≡◌, ℕ, List, if◌then◌else◌, IsTrue, length, slice_get}
 use Rattle.nbfx_values.specs.{declared.content.Item.Item, Limits.Limits}
 use Rattle.soap_envelope.specs.{Body.body_items, Children.is_start, Making.AreTexts, View.View}
-use Rattle.soap_envelope.specs.{Fitting.names_fit, Parts.root_scope}
+use Rattle.soap_envelope.specs.{Faults.related_texts, Fitting.names_fit, Parts.root_scope}
 use Rattle.action_dispatch.specs.declared.answers.{Answer.TheVariants.Nothing, Measured.Measured}
+use Rattle.action_dispatch.specs.declared.answers.Answer.TheVariants.{Reply}
 use Rattle.action_dispatch.specs.declared.answers.Measured.TheVariants.{Made, TooLarge}
 use Rattle.action_dispatch.specs.declared.{judging.Judged.Judged, planning.Plan.Plan}
 use Rattle.action_dispatch.specs.declared.judging.Judged.TheVariants.{Asked, Refused, Unanswered}
 use Rattle.action_dispatch.specs.declared.planning.Plan.TheVariants.{Answered, Asks}
-use Rattle.action_dispatch.specs.{declared.refusals.Refusal.Refusal, Refusals.names_of}
+use Rattle.action_dispatch.specs.declared.planning.Plan.TheVariants.{Refused as FaultMade}
+use Rattle.action_dispatch.specs.{declared.refusals.Refusal.Refusal, Refusals.fault_of}
+use Rattle.action_dispatch.specs.Refusals.{names_of}
 use Rattle.action_dispatch.specs.Answers.{answer_by, answered, IsMeasured, judged, MeasuresTexts}
-use Rattle.action_dispatch.specs.Answers.{refusal_answer, Serves}
+use Rattle.action_dispatch.specs.Answers.{Serves}
 
--- a fault is made only where the names in it fit the quota on content
-abbrev pub refused : Limits → Refusal → (relates : List Item) → Measured
+-- a fault is made only where the names in it fit the quotas
+abbrev pub refused : Limits → Refusal → (relates : List Item) → Plan
 refused limits refusal relates =
-    if names_fit limits.content (names_of refusal)
-    then Made (refusal_answer refusal relates)
-    else TooLarge relates
+    if names_fit limits (names_of refusal)
+    then FaultMade (fault_of refusal relates) (length relates)
+    else Answered (TooLarge relates)
 
 -- for a request that was judged, which has this identifier and this place of Body
 abbrev pub planned : Limits → Judged → (relates : List Item) → (body_at : ℕ) → Plan
 planned limits Unanswered relates body_at = Answered (Made Nothing)
-planned limits (Refused refusal) relates body_at = Answered (refused limits refusal relates)
+planned limits (Refused refusal) relates body_at = refused limits refusal relates
 planned limits (Asked action) relates body_at = Asks action relates body_at
 
 abbrev pub planned_of : Limits → View → Plan
@@ -31,6 +34,8 @@ planned_of limits v = planned limits (judged v) v.message_id v.body_at
 -- a plan leads to the answer to the request that is this document
 abbrev pub Leads : Limits → List Item → Plan → Serves → Type 0
 Leads limits items (Answered measured) serves = IsMeasured limits (answered serves items) measured
+Leads limits items (FaultMade fault related) serves =
+    answered serves items ≡ Reply fault (related_texts related fault)
 Leads limits items (Asks action relates body_at) serves =
     answered serves items
     ≡ answer_by action relates (serves action (body_items items (root_scope items) body_at))
@@ -38,6 +43,7 @@ Leads limits items (Asks action relates body_at) serves =
 -- whether a plan is one for a document: Body begins at its place, and answers relate to texts
 abbrev pub IsFor : List Item → Plan → Type 0
 IsFor items (Answered measured) = MeasuresTexts measured
+IsFor items (FaultMade fault related) = AreTexts (related_texts related fault)
 IsFor items (Asks action relates body_at) =
     AreTexts relates × IsTrue (is_start (slice_get items body_at))
 

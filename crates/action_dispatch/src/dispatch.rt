@@ -4,6 +4,7 @@ ghost use Rattle.std.specs.Prelude.{◌≡◌, [], IfOk, IsTrue, slice_get};
 ghost use Rattle.nbfx_values.specs.QuotasOf.{limits_of};
 ghost use Rattle.soap_envelope.specs.Body.{body_items};
 ghost use Rattle.soap_envelope.specs.Children.{is_start};
+ghost use Rattle.soap_envelope.specs.Faults.{related_texts};
 ghost use Rattle.soap_envelope.specs.Making.{AreTexts, reply_items};
 ghost use Rattle.soap_envelope.specs.Parts.{root_scope};
 ghost use Rattle.action_dispatch.specs.Answers as spec;
@@ -15,7 +16,7 @@ use crate::planning::{Plan, plan_for, refusal_answer};
 use crate::refusals::Refusal;
 use crate::service::{BodyUse, Served, Service};
 use nbfx_values::{Copied, Doc, Items, Quotas};
-use soap_envelope::{reply_doc_with, return_body, take_body};
+use soap_envelope::{related_texts, reply_doc_with, return_body, take_body};
 use std::alloc::Global;
 use unit_streams::Memory;
 
@@ -126,6 +127,7 @@ fn answer_asked<V: Service>(
     }
     match service.body_use() {
         BodyUse::Unused => {
+            drop(doc);
             let answer = answer_unread(alloc, service, action, relates)?;
             Ok(Measured::Made(answer))
         }
@@ -137,6 +139,18 @@ fn answer_asked<V: Service>(
     }
 }
 
+// The answer that is this fault, which relates to so many texts.
+fn refused_by(alloc: Global, fault: Doc, related: usize) -> Result<Measured, Memory>
+    ensures { IfOk result
+        (λ measured. measured ≡ Measured.Made (Answer.Reply fault (related_texts related fault))) }
+{
+    let relates = related_texts(alloc, &fault, related)?;
+    Ok(Measured::Made(Answer::Reply {
+        doc: fault,
+        relates,
+    }))
+}
+
 /// What a server with this service answers to the request that is this document, by SOAP 1.2 and
 /// WS-Addressing 1.0: a fault if the document is no envelope or the request isn't one to serve,
 /// else what the service says. It fails without memory for the answer.
@@ -144,8 +158,11 @@ fn answer_asked<V: Service>(
 /// What the answer copies of Body is measured before it is copied, and so are the names of blocks
 /// that weren't understood: where they count more than the quotas admit, the answer isn't made,
 /// since it would never be written. Nor is a reply that the service says is too large. A service
-/// that doesn't use Body answers whatever Body has. Where a service gives the content back, its
-/// items are moved, and the reply has the request's list of items.
+/// that doesn't use Body answers whatever Body has; one that reads it
+/// ([`BodyUse::Read`](crate::BodyUse::Read)) is asked only if the content may fit the quotas, and
+/// else there is no memory for it. Where a service gives the content back, its items are moved, and
+/// the reply has the request's list of items; else the request is let go before its answer has
+/// copies of the MessageID's texts.
 pub fn answer_owned<V: Service>(
     alloc: Global,
     quotas: &Quotas,
@@ -158,6 +175,10 @@ pub fn answer_owned<V: Service>(
 {
     match plan_for(alloc, quotas, &doc)? {
         Plan::Answered(measured) => Ok(measured),
+        Plan::Refused { fault, related } => {
+            drop(doc);
+            refused_by(alloc, fault, related)
+        }
         Plan::Asks {
             action,
             relates,

@@ -21,6 +21,11 @@ use unit_streams::Memory;
 pub(crate) enum Plan {
     /// Nothing, since no service is asked.
     Answered(Measured),
+    /// This fault is answered, which relates to so many texts.
+    Refused {
+        fault: Doc,
+        related: usize,
+    },
     /// The service is asked for this action. An answer relates to these texts, and Body begins at
     /// this place of the document.
     Asks {
@@ -45,22 +50,23 @@ pub(crate) fn refusal_answer(
     Ok(Answer::Reply { doc, relates })
 }
 
-// The same, where the names in the fault fit the quota on content. Else the fault isn't made.
+// The fault that a request isn't served, where its names fit the quotas. Else it isn't made.
 fn refused(
     alloc: Global,
     quotas: &Quotas,
     refusal: Refusal<'_>,
     relates: Items,
-) -> Result<Measured, Memory>
+) -> Result<Plan, Memory>
     requires { AreTexts relates }
     ensures { IfOk result
-        (λ measured. measured ≡ spec.refused (limits_of quotas.now) refusal.entry relates) }
+        (λ plan. plan ≡ spec.refused (limits_of quotas.now) refusal.entry relates) }
 {
     if !refusal.names_fit(quotas) {
-        return Ok(Measured::TooLarge { relates });
+        return Ok(Plan::Answered(Measured::TooLarge { relates }));
     }
-    let answer = refusal_answer(alloc, refusal, relates)?;
-    Ok(Measured::Made(answer))
+    let related = relates.len();
+    let fault = refusal.doc_with(alloc, relates)?;
+    Ok(Plan::Refused { fault, related })
 }
 
 // What is left to do for a request that was judged, which has this identifier and this place of
@@ -78,10 +84,7 @@ fn plan_judged(
 {
     match judged {
         Judged::Unanswered => Ok(Plan::Answered(Measured::Made(Answer::Nothing))),
-        Judged::Refused(refusal) => {
-            let measured = refused(alloc, quotas, refusal, relates)?;
-            Ok(Plan::Answered(measured))
-        }
+        Judged::Refused(refusal) => refused(alloc, quotas, refusal, relates),
         Judged::Asked(action) => Ok(Plan::Asks {
             action,
             relates,

@@ -1,6 +1,7 @@
 //! Why a request isn't served.
 
 ghost use Rattle.std.specs.Prelude.{◌≡◌, IfOk};
+ghost use Rattle.nbfx_values.specs.QuotasOf.{limits_of};
 ghost use Rattle.soap_envelope.specs.Fitting as fitting;
 ghost use Rattle.soap_envelope.specs.Making.{AreTexts};
 ghost use Rattle.action_dispatch.specs.Refusals as spec;
@@ -47,9 +48,9 @@ impl<'d> Refusal<'d> {
         }
     }
 
-    /// Whether the names in its fault fit the quota on content. If they don't, the fault doesn't.
+    /// Whether the names in its fault fit the quotas. If they don't, the fault doesn't.
     pub(crate) fn names_fit(&self, quotas: &Quotas) -> bool
-        ensures { result ≡ fitting.names_fit quotas.now.content (spec.names_of self.now) }
+        ensures { result ≡ fitting.names_fit (limits_of quotas.now) (spec.names_of self.now) }
     {
         match self {
             Refusal::NotUnderstood(names) => names_fit(quotas, names.as_slice()),
@@ -131,7 +132,7 @@ impl<'d> Refusal<'d> {
     }
 
     // The same, whose texts aren't copied.
-    fn doc_with(self, alloc: Global, relates: Items) -> Result<Doc, Memory>
+    pub(crate) fn doc_with(self, alloc: Global, relates: Items) -> Result<Doc, Memory>
         requires { AreTexts relates }
         ensures { IfOk result (λ doc. doc ≡ fault_of self.entry relates) }
     {

@@ -66,7 +66,7 @@ pub trait Service {
         ensures content { IfOk result MayStand };
 
     /// The same, with content that the service may keep, so that one that gives it back needs no
-    /// copy.
+    /// copy. It fails without memory.
     fn serve_owned(&self, alloc: Global, action: &str, body: Items) -> Result<Served, Memory>
         requires { IsContent body }
         ensures same { IfOk result (λ said. said ≡ served self.now action.now body) }

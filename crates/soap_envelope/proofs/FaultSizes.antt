@@ -1,48 +1,76 @@
 -- A fault counts at least what its names do.
-use Rattle.std.proofs.Common.{◌≤◌, List, [], ◌∷◌, ◌++◌, flat_map, inl, inr, arith, le-leb, leb-true}
-use Rattle.std.proofs.lemmas.{Bool.cases_Bool, List.Sums.sum_by-append, List.Sums.sum_by-cons}
+use Rattle.std.proofs.Common.{◌≡◌, ℕ, ◌≤◌, ◌*◌, List, [], ◌∷◌, ◌++◌, flat_map, length, nat_le}
+use Rattle.std.proofs.Common.{sum_by, inl, inr, arith, le-leb, leb-true}
+use Rattle.std.proofs.lemmas.{Bool.and_parts, Bool.cases_Bool, List.Sums.sum_by-append}
+use Rattle.std.proofs.lemmas.List.Sums.{sum_by-cons}
 use Rattle.nbfx_values.specs.declared.content.Item.{Item}
 use Rattle.nbfx_values.specs.Measures.{content_of, item_content}
+use Rattle.least_payloads.specs.Least.{least_of_item, least_payload, may_fit}
 use Rattle.soap_envelope.specs.{declared.report.FaultReport.FaultReport, Qualified.Name}
 use Rattle.soap_envelope.specs.Faults.{fault_action, fault_body, fault_items, not_understood_block}
-use Rattle.soap_envelope.specs.Fitting.{fits, name_content, names_content}
+use Rattle.soap_envelope.specs.Fitting.{least_of_name, name_content, names_content}
 use Rattle.soap_envelope.{specs.Laws.UnfitNamesAreUnfit, proofs.OnLiterals.envelopes_on_literals}
 use Rattle.soap_envelope.specs.Making.{action_block, ending, middle, opening, relates_block}
 use Rattle.soap_envelope.proofs.ReplySizes.{behind-least, within-least}
 
-block-least : (name : Name) → name_content name ≤ content_of (not_understood_block name)
+block-content : (name : Name) → name_content name ≤ content_of (not_understood_block name)
 unfolding envelopes_on_literals
-block-least name = omega arith
+block-content name = omega arith
 
-names-least : (names : List Name)
+content-least : (names : List Name)
     → names_content names ≤ content_of (flat_map not_understood_block names)
-names-least [] = omega arith
-names-least (name ∷ more) =
-    let rest = names-least more in
-    let one = block-least name in
+content-least [] = omega arith
+content-least (name ∷ more) =
+    let rest = content-least more in
+    let one = block-content name in
     rw (sum_by-append item_content (not_understood_block name) (flat_map not_understood_block more))
     (omega (arith, sum_by-cons name_content name more))
 
-fault-least : (report : FaultReport) (relates : List Item)
-    → names_content report.names ≤ content_of (fault_items report relates)
-fault-least report relates =
+block-payload : (name : Name) → least_payload (not_understood_block name) ≡ least_of_name
+unfolding envelopes_on_literals
+block-payload name = omega arith
+
+payload-least : (names : List Name)
+    → least_of_name * length names ≤ least_payload (flat_map not_understood_block names)
+payload-least [] = omega arith
+payload-least (name ∷ more) =
+    let rest = payload-least more in
+    let one = block-payload name in
+    rw (sum_by-append least_of_item (not_understood_block name)
+    (flat_map not_understood_block more))
+    (omega arith)
+
+-- what the blocks of names count by any measure, the fault counts at least
+fault-least : (f : Item → ℕ) (report : FaultReport) (relates : List Item)
+    → sum_by f (flat_map not_understood_block report.names)
+    ≤ sum_by f (fault_items report relates)
+fault-least f report relates =
     let blocks = flat_map not_understood_block report.names in
     let action = action_block (fault_action report.sub) in
     let behind = middle ++ (fault_body report ++ ending) in
-    let named = names-least report.names in
-    let inner = within-least item_content (relates_block relates) blocks behind in
-    let around = behind-least item_content action (relates_block relates ++ (blocks ++ behind)) in
+    let inner = within-least f (relates_block relates) blocks behind in
+    let around = behind-least f action (relates_block relates ++ (blocks ++ behind)) in
     let all =
-    behind-least item_content opening (action ++ (relates_block relates ++ (blocks ++ behind))) in
+    behind-least f opening (action ++ (relates_block relates ++ (blocks ++ behind))) in
     omega arith
 
 pub unfit_names_are_unfit : UnfitNamesAreUnfit
-unfit_names_are_unfit quota report relates unfit =
-    elim (cases_Bool (fits quota (fault_items report relates))) [
+unfit_names_are_unfit limits report relates unfit =
+    let fault = fault_items report relates in
+    elim (cases_Bool (may_fit limits fault)) [
       | inl fit ↦
-          let within = leb-true (content_of (fault_items report relates)) quota fit in
-          let least = fault-least report relates in
-          let names = le-leb (names_content report.names) quota (omega arith) in
-          cc (rw names at unfit)
+          let parts = and_parts (nat_le (content_of fault) limits.content)
+          (nat_le (least_payload fault) limits.payload) fit in
+          let content = leb-true (content_of fault) limits.content parts.0 in
+          let payload = leb-true (least_payload fault) limits.payload parts.1 in
+          let counts = content-least report.names in
+          let all = fault-least item_content report relates in
+          let least = payload-least report.names in
+          let whole = fault-least least_of_item report relates in
+          let names = le-leb (names_content report.names) limits.content
+          (omega (arith, content, counts, all)) in
+          let blocks = le-leb (least_of_name * length report.names) limits.payload
+          (omega (arith, payload, least, whole)) in
+          cc (rw (names, blocks) at unfit)
       | inr other ↦ other
     ]

@@ -11,9 +11,11 @@ pub mod Apart
 pub mod GoodNames
 pub mod Standing
 pub mod Places
+pub mod PlainFacts
 pub mod FaultPlaces
 pub mod ReplySizes
 pub mod FaultSizes
+pub mod RelatedTexts
 pub mod Nesting
 pub mod MadeNames
 pub mod MadeParts

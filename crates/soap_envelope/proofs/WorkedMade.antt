@@ -1,6 +1,7 @@
 -- Worked cases: replies and faults, item by item, and which names a fault reports.
 use Rattle.std.proofs.Common.{◌≡◌, ℕ, true, false, List, [], ◌∷◌, ◌++◌, map, Ok, Err, codes, Result}
 use Rattle.{std.proofs.Common.refl, nbfx_values.specs.declared.content.Item.Item}
+use Rattle.nbfx_values.specs.Limits.{limits}
 use Rattle.nbfx_values.specs.declared.content.Item.TheVariants.{Close, Start, Xmlns}
 use Rattle.soap_envelope.specs.{declared.refusals.SoapFault.SoapFault, Qualified.Name}
 use Rattle.soap_envelope.specs.declared.report.Code.TheVariants.{MustUnderstand, Receiver, Sender}
@@ -184,7 +185,9 @@ unfolding envelopes_on_literals sec none next
 understood = refl
 
 -- what names count
-fitting : map (λ quota. names_fit quota (sec ∷ qualified_name [] (codes "k") ∷ [])) (9 ∷ 8 ∷ [])
-    ≡ true ∷ false ∷ []
+fitting : map (λ (q : ℕ × ℕ). names_fit (limits q.0 4 0 q.1 16 1)
+    (sec ∷ qualified_name [] (codes "k") ∷ []))
+    ((18, 9) ∷ (17, 9) ∷ (18, 8) ∷ [])
+    ≡ true ∷ false ∷ false ∷ []
 unfolding sec
 fitting = refl

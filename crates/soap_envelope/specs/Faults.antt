@@ -1,12 +1,14 @@
 -- Faults, item by item.
-use Rattle.std.specs.Prelude.{ℕ, Bool, ◌&&◌, List, [], ◌∷◌, ◌++◌, codes, flat_map}
+use Rattle.std.specs.Prelude.{ℕ, Bool, true, false, ◌&&◌, List, [], ◌∷◌, ◌++◌, codes, drop}
+use Rattle.std.specs.Prelude.{flat_map, take}
 use Rattle.{std.specs.Str.is_utf8, nbfx_values.specs.declared.scalars.Value.TheVariants.One}
 use Rattle.nbfx_values.specs.declared.{content.Item.Item, scalars.Scalar.TheVariants.Text as TextOf}
 use Rattle.nbfx_values.specs.declared.content.Item.TheVariants.{Attr, Close, Xmlns}
 use Rattle.soap_envelope.specs.declared.report.Code.{Code, TheVariants.VersionMismatch}
 use Rattle.soap_envelope.specs.declared.report.Code.TheVariants.{MustUnderstand, Receiver, Sender}
 use Rattle.soap_envelope.specs.declared.report.{FaultReport.FaultReport, Sub.Sub}
-use Rattle.soap_envelope.specs.Making.{envelope_items, soap_start, words}
+use Rattle.soap_envelope.specs.Making.{action_block, addressing_start, ending, envelope_items}
+use Rattle.soap_envelope.specs.Making.{middle, opening, soap_start, words}
 use Rattle.soap_envelope.specs.{Names.addressing_fault, Names.soap_fault, Qualified.Name}
 use Rattle.soap_envelope.specs.declared.report.Sub.TheVariants as sub
 
@@ -74,3 +76,25 @@ abbrev pub fault_items : FaultReport → List Item → List Item
 fault_items report relates =
     envelope_items (fault_action report.sub) relates (flat_map not_understood_block report.names)
     (fault_body report)
+
+-- what stands in a fault behind the block that names the message
+abbrev pub rest_items : FaultReport → List Item
+rest_items report =
+    flat_map not_understood_block report.names ++ (middle ++ (fault_body report ++ ending))
+
+-- the texts that a fault relates to with the end of their block, and what stands before these: the
+-- beginning of the block, where there are some
+abbrev pub ended_texts : List Item → List Item
+ended_texts [] = []
+ended_texts texts = texts ++ (Close ∷ [])
+
+abbrev pub relates_start : Bool → List Item
+relates_start true = addressing_start (codes "RelatesTo") ∷ []
+relates_start false = []
+
+abbrev pub front_items : (action : List ℕ) → (relates : Bool) → List Item
+front_items action relates = opening ++ (action_block action ++ relates_start relates)
+
+-- the texts that a fault relates to, which are so many
+abbrev pub related_texts : ℕ → List Item → List Item
+related_texts count items = take count (drop 9 items)

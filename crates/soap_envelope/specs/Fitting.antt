@@ -1,5 +1,5 @@
 -- Which items and which names fit a quota on content, and which items may fit all quotas.
-use Rattle.std.specs.Prelude.{◌≡◌, ℕ, ◌+◌, ◌-◌, Bool, true, false, List, length}
+use Rattle.std.specs.Prelude.{◌≡◌, ℕ, ◌+◌, ◌-◌, ◌*◌, Bool, true, false, ◌&&◌, List, length}
 use Rattle.std.specs.Prelude.{if◌then◌else◌, nat_le, Some, None, sum_by, Option}
 use Rattle.nbfx_values.specs.{declared.content.Item.Item, Limits.Limits}
 use Rattle.nbfx_values.specs.Measures.{content_of, item_content}
@@ -40,12 +40,20 @@ measure_of measure = sum_by (item_measure measure)
 abbrev pub left_behind : ℕ → ℕ → Option ℕ
 left_behind quota n = if nat_le n quota then Some (quota - n) else None
 
--- how much names count, each with its namespace written out, and whether a quota admits them
+-- how much names count, each with its namespace written out
 abbrev pub name_content : Name → ℕ
 name_content name = length name.uri + length name.local
 
 abbrev pub names_content : List Name → ℕ
 names_content names = sum_by name_content names
 
-abbrev pub names_fit : ℕ → List Name → Bool
-names_fit quota names = nat_le (names_content names) quota
+-- the least that the block of a name has in a payload: the beginning of its element, a declaration
+-- with a prefix, and an attribute
+abbrev pub least_of_name : ℕ
+least_of_name = 9
+
+-- whether a fault with these names may fit, as far as they count
+abbrev pub names_fit : Limits → List Name → Bool
+names_fit limits names =
+    nat_le (names_content names) limits.content
+    && nat_le (least_of_name * length names) limits.payload

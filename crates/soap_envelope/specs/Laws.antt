@@ -1,10 +1,11 @@
 -- What holds of views by the definitions alone.
 use Rattle.std.specs.Prelude.{◌≡◌, ℕ, false, List, [], IsTrue, Ok, codes}
 use Rattle.std.specs.Str.{is_utf8}
-use Rattle.nbfx_values.specs.{declared.content.Item.Item, Documents.IsDocument}
+use Rattle.nbfx_values.specs.{declared.content.Item.Item, Documents.IsDocument, Limits.Limits}
+use Rattle.least_payloads.specs.Least.{may_fit}
 use Rattle.soap_envelope.specs.{declared.report.FaultReport.FaultReport, BadNames.bad_name}
 use Rattle.soap_envelope.specs.Faults.{fault_action, fault_body, fault_items}
-use Rattle.soap_envelope.specs.{Fitting.fits, Fitting.names_fit, Headers.counted_at}
+use Rattle.soap_envelope.specs.{Fitting.names_fit, Headers.counted_at}
 use Rattle.soap_envelope.specs.Made.{made_view, reply_scope, StandsInReplies}
 use Rattle.soap_envelope.specs.Making.{AreTexts, IsContent, reply_items, response_action}
 use Rattle.soap_envelope.specs.Renaming.{headed_by, IsRenaming, renamed}
@@ -45,10 +46,10 @@ FaultsAreViewed = (report : FaultReport) (relates : List Item) → AreTexts rela
     → view (fault_items report relates)
     ≡ Ok (made_view (fault_action report.sub) relates report.names (fault_body report))
 
--- A fault whose names don't fit a quota doesn't fit it either.
+-- A fault whose names don't fit doesn't fit either.
 abbrev pub UnfitNamesAreUnfit : Type 0
-UnfitNamesAreUnfit = (quota : ℕ) (report : FaultReport) (relates : List Item)
-    → names_fit quota report.names ≡ false → fits quota (fault_items report relates) ≡ false
+UnfitNamesAreUnfit = (limits : Limits) (report : FaultReport) (relates : List Item)
+    → names_fit limits report.names ≡ false → may_fit limits (fault_items report relates) ≡ false
 
 -- What is seen outside Body, and why a document has no view, depends on the namespaces that its
 -- prefixes stand for, and on no prefix: two documents whose names are bad at the same item, if at

@@ -14,7 +14,9 @@ pub mod Body
 pub mod Fitting
 pub mod View
 pub mod Seen
+pub mod Elements
 pub mod Making
+pub mod Plain
 pub mod Faults
 pub mod Made
 pub mod Resolved

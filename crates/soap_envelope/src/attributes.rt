@@ -7,9 +7,9 @@ ghost use Rattle.soap_envelope.specs.Headers as headers;
 ghost use Rattle.soap_envelope.specs.Scopes as scope;
 ghost use Rattle.soap_envelope.specs.Scopes.{declared};
 
+use crate::bindings::Bindings;
 use crate::characters::{Characters, characters_in};
 use crate::children::behind;
-use crate::layers::Layer;
 use crate::namespaces::{ROLE_NEXT, ROLE_ULTIMATE_RECEIVER, SOAP};
 use crate::parts::element_uri;
 use crate::scopes::Scopes;
@@ -25,7 +25,7 @@ pub(crate) struct Found<'d> {
 }
 
 // The namespace of an attribute with this prefix. One without prefix has none.
-fn attribute_uri<'d>(outer: &Scopes<'d>, own: &Layer<'d>, prefix: &Txt) -> &'d str
+fn attribute_uri<'d>(outer: &Scopes<'d>, own: &Bindings<'d>, prefix: &Txt) -> &'d str
     ensures { result.now ≡ scope.attribute_uri (own.now ∷ outer.now) prefix.now }
 {
     if prefix.len() == 0 {
@@ -38,7 +38,7 @@ fn attribute_uri<'d>(outer: &Scopes<'d>, own: &Layer<'d>, prefix: &Txt) -> &'d s
 #[tactic(auto, unfolding(crate::specs::Names::soap))]
 fn is_soap_attribute<'d>(
     outer: &Scopes<'d>,
-    own: &Layer<'d>,
+    own: &Bindings<'d>,
     name: &str,
     prefix: &Txt,
     local: &Txt,
@@ -54,7 +54,7 @@ fn is_soap_attribute<'d>(
 fn soap_attribute<'d>(
     alloc: Global,
     outer: &Scopes<'d>,
-    own: &Layer<'d>,
+    own: &Bindings<'d>,
     name: &str,
     at: usize,
     behind: &'d [Item],
@@ -91,7 +91,7 @@ fn soap_attribute_of<'d>(
     alloc: Global,
     items: &'d [Item],
     outer: &Scopes<'d>,
-    own: &Layer<'d>,
+    own: &Bindings<'d>,
     name: &str,
     at: usize,
 ) -> Result<Option<Found<'d>>, Memory>
@@ -117,7 +117,7 @@ pub(crate) fn soap_attributes<'d>(
     alloc: Global,
     items: &'d [Item],
     outer: &Scopes<'d>,
-    own: &Layer<'d>,
+    own: &Bindings<'d>,
     at: usize,
 ) -> Result<SoapAttributes<'d>, Memory>
     requires within { at < length items.now }

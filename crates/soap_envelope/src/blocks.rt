@@ -21,7 +21,7 @@ impl<'a> Model for QualifiedName<'a> {
     ghost view = { λ n. record { uri = n.uri.now; local = n.local.now } };
 }
 
-/// A header block (SOAP 1.2): a child element of the envelope's Header.
+/// A header block (SOAP 1.2 Part 1, 5.2.1): a child element of the envelope's Header.
 #[derive(Debug, Drop)]
 pub struct Block<'d> {
     /// The name of the element.

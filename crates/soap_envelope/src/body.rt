@@ -7,9 +7,10 @@ ghost use Rattle.soap_envelope.specs.Layers.{kept, layer_of, shown};
 ghost use Rattle.soap_envelope.specs.Parts.{root_scope};
 ghost use Rattle.soap_envelope.specs.Scopes.{Declaration, within};
 
+use crate::bindings::Bindings;
 use crate::children::{behind, open_behind};
 use crate::fitting::body_may_fit;
-use crate::layers::{Declared, Layer};
+use crate::layers::Declared;
 use crate::namespaces::{ADDRESSING, SOAP};
 use crate::puts::put_copies;
 use crate::ring::{with_needs, xmlns_items};
@@ -80,7 +81,7 @@ fn needed_at<'d>(alloc: Global, items: &'d [Item], at: usize) -> Result<Vec<Decl
 }
 
 // Whether an element doesn't declare a prefix itself.
-pub(crate) fn is_missing(own: &Layer<'_>, one: &Declared<'_>) -> bool
+pub(crate) fn is_missing(own: &Bindings<'_>, one: &Declared<'_>) -> bool
     ensures { result ≡ spec.is_missing own.now (kept one.now) }
 {
     own.uri_of(one.prefix).is_none()
@@ -134,7 +135,7 @@ pub(crate) fn fitting_needs(
 }
 
 // Copies of items.
-fn copies(alloc: Global, items: &[Item]) -> Result<Items, Memory>
+pub(crate) fn copies(alloc: Global, items: &[Item]) -> Result<Items, Memory>
     ensures { IfOk result (λ copied. copied ≡ items.now) }
 {
     let mut copied = Items::new(alloc);

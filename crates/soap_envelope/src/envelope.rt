@@ -31,8 +31,8 @@ use std::alloc::Global;
 use std::marker::Model;
 use unit_streams::Memory;
 
-/// The view of a document as an envelope of SOAP 1.2 with the message addressing properties of
-/// WS-Addressing 1.0, by which servers and callers go.
+/// The view of a document as an envelope of SOAP 1.2 (Part 1, 5) with the message addressing
+/// properties of WS-Addressing 1.0 (Core, 3), by which servers and callers go.
 #[derive(Drop)]
 pub struct Envelope<'d> {
     items: &'d [Item],

@@ -4,17 +4,22 @@ ghost use Rattle.std.specs.Prelude.{◌≡◌, [], ◌∷◌, ◌++◌, IfOk, Is
 ghost use Rattle.std.specs.List.{flat_map, list_all};
 ghost use Rattle.std.specs.Str.{is_utf8};
 ghost use Rattle.soap_envelope.specs.Faults as spec;
-ghost use Rattle.soap_envelope.specs.Faults.{code_items, code_text, fault_body, fault_items, is_nameable, not_understood_block, reason_items, subcode_items, sub_texts, value_items};
+ghost use Rattle.soap_envelope.specs.Faults.{code_items, code_text, ended_texts, fault_body, fault_items, front_items, is_nameable, not_understood_block, reason_items, rest_items, subcode_items, sub_texts, value_items};
 ghost use Rattle.soap_envelope.specs.Making.{AreTexts, envelope_items};
 
 use crate::blocks::QualifiedName;
-use crate::making::{document, put_action, put_ending, put_middle, put_opening, put_relates_moved};
+use crate::body::copies;
+use crate::making::{document, put_action, put_ending, put_middle, put_opening};
+use crate::moving::turned;
 use crate::namespaces;
 use crate::puts::{put_attribute, put_close, put_start, put_text, put_xmlns};
 use crate::report::{Code, FaultReport, Sub};
 use nbfx_values::{Copied, Doc, Items, Scalar, Txt, Value};
 use std::alloc::Global;
 use unit_streams::Memory;
+
+// How many items stand in a fault before the texts that it relates to, if there are some.
+const FRONT_ITEMS: usize = 9;
 
 impl Code {
     // The name, with the prefix that every fault declares.
@@ -167,21 +172,34 @@ fn put_names(alloc: Global, items: &mut Items, names: &[QualifiedName<'_>]) -> R
     Ok(())
 }
 
-// A fault with this action.
-fn put_report(
-    alloc: Global,
-    items: &mut Items,
-    action: Txt,
-    relates: Items,
-    report: &FaultReport<'_>,
-) -> Result<(), Memory>
-    ensures put { OnOk result (items.new ≡ items.old ++ envelope_items action relates
-        (flat_map not_understood_block report.now.names) (fault_body report.now)) }
-    ensures names { OnOk result (IsTrue (list_all is_nameable report.now.names)) }
+// The texts that a fault relates to, and the end of their block, if there are some.
+fn ended_relates(relates: Items) -> Result<Items, Memory>
+    ensures { IfOk result (λ items. items ≡ ended_texts relates) }
+{
+    let mut items = relates;
+    if !items.as_slice().is_empty() {
+        put_close(&mut items)?;
+    }
+    Ok(items)
+}
+
+// A fault with this action up to the texts that it relates to, if there are some.
+fn put_front(alloc: Global, items: &mut Items, action: Txt, relates: bool) -> Result<(), Memory>
+    ensures { OnOk result (items.new ≡ items.old ++ front_items action relates) }
 {
     put_opening(alloc, items)?;
     put_action(alloc, items, action)?;
-    put_relates_moved(alloc, items, relates)?;
+    if relates {
+        put_start(alloc, items, "a", "RelatesTo")?;
+    }
+    Ok(())
+}
+
+// What stands in a fault behind the block that names the message.
+fn put_rest(alloc: Global, items: &mut Items, report: &FaultReport<'_>) -> Result<(), Memory>
+    ensures put { OnOk result (items.new ≡ items.old ++ rest_items report.now) }
+    ensures names { OnOk result (IsTrue (list_all is_nameable report.now.names)) }
+{
     put_names(alloc, items, report.names.as_slice())?;
     put_middle(alloc, items)?;
     put_fault(alloc, items, report)?;
@@ -189,9 +207,30 @@ fn put_report(
     Ok(())
 }
 
-/// The envelope of a fault (SOAP 1.2 and the SOAP Binding of WS-Addressing 1.0): its RelatesTo has
-/// these texts, those of the MessageID of the request that it answers. Its Action is that of
-/// WS-Addressing's faults if it has a subcode, else that of SOAP's. It fails without memory for it.
+// A fault with this action. What stands before the texts that it relates to is put behind them, and
+// changes place with them then, so that there is one list of items, that of the texts.
+fn report_with(
+    alloc: Global,
+    action: Txt,
+    relates: Items,
+    report: &FaultReport<'_>,
+) -> Result<Items, Memory>
+    ensures made { IfOk result (λ items. items ≡ envelope_items action relates
+        (flat_map not_understood_block report.now.names) (fault_body report.now)) }
+    ensures names { OnOk result (IsTrue (list_all is_nameable report.now.names)) }
+{
+    let has_relates = !relates.as_slice().is_empty();
+    let mut items = ended_relates(relates)?;
+    put_rest(alloc, &mut items, report)?;
+    let behind = items.len();
+    put_front(alloc, &mut items, action, has_relates)?;
+    Ok(turned(items, behind))
+}
+
+/// The envelope of a fault (SOAP 1.2 Part 1, 5.4; WS-Addressing 1.0, SOAP Binding, 6): its
+/// RelatesTo has these texts, those of the MessageID of the request that it answers. Its Action is
+/// that of WS-Addressing's faults if it has a subcode, else that of SOAP's. It fails without memory
+/// for it.
 pub fn fault_doc(alloc: Global, report: &FaultReport<'_>, relates: &Items) -> Result<Doc, Memory>
     requires { AreTexts relates.now }
     ensures { IfOk result (λ doc. doc ≡ fault_items report.now relates.now) }
@@ -199,7 +238,8 @@ pub fn fault_doc(alloc: Global, report: &FaultReport<'_>, relates: &Items) -> Re
     fault_doc_with(alloc, report, relates.copy()?)
 }
 
-/// The same fault. The texts aren't copied.
+/// The same fault, but the texts aren't copied: their list becomes the fault's. It fails without
+/// memory for the rest.
 pub fn fault_doc_with(
     alloc: Global,
     report: &FaultReport<'_>,
@@ -209,10 +249,19 @@ pub fn fault_doc_with(
     ensures { IfOk result (λ doc. doc ≡ fault_items report.now relates) }
 {
     let action = Txt::of(alloc, fault_action(report.sub))?;
-    let mut items = Items::new(alloc);
-    put_report(alloc, &mut items, action, relates, report)?;
+    let items = report_with(alloc, action, relates, report)?;
 
     // Characters are UTF-8.
     let _reason = report.reason.as_str();
     Ok(document(items))
+}
+
+/// A copy of the texts that a fault relates to, which are so many. It fails without memory for it.
+pub fn related_texts(alloc: Global, fault: &Doc, count: usize) -> Result<Items, Memory>
+    ensures { IfOk result (λ texts. texts ≡ spec.related_texts count fault.now) }
+{
+    let items = fault.items().as_slice();
+    let first = FRONT_ITEMS.min(items.len());
+    let texts = &items[first..];
+    copies(alloc, &texts[..count.min(texts.len())])
 }

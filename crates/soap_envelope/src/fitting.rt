@@ -10,9 +10,10 @@ ghost use Rattle.soap_envelope.specs.Body.{missing, xmlns_of};
 ghost use Rattle.soap_envelope.specs.Fitting.{item_measure, left_behind, measure_of};
 ghost use Rattle.soap_envelope.specs.Layers.{kept};
 
+use crate::bindings::Bindings;
 use crate::body::is_missing;
 use crate::children::open_behind;
-use crate::layers::{Declared, Layer};
+use crate::layers::Declared;
 use crate::scopes::{declared_in, declared_on};
 use least_payloads::{least_of_declaration, least_of_item};
 use nbfx_values::{Item, Quotas};
@@ -53,7 +54,7 @@ fn left_by_missing(
     measure: Measure,
     left: u64,
     needs: &[Declared<'_>],
-    own: &Layer<'_>,
+    own: &Bindings<'_>,
 ) -> Option<u64>
     ensures { result ≡ left_behind left
         (measure_of measure (map xmlns_of (missing (map kept needs.now) own.now))) }

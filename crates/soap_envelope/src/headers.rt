@@ -12,9 +12,9 @@ ghost use Rattle.soap_envelope.specs.Understanding as understanding;
 use crate::attributes::{
     SoapAttributes, bad_must_understand, bad_role, is_targeted, must_be_understood, soap_attributes,
 };
+use crate::bindings::Bindings;
 use crate::blocks::{Block, Blocks, Names, QualifiedName};
 use crate::children::{Children, behind, close_of, is_start};
-use crate::layers::Layer;
 use crate::namespaces::ADDRESSING;
 use crate::parts::{element_uri, is_element};
 use crate::scopes::{Scopes, declared_in};
@@ -27,7 +27,7 @@ use unit_streams::Memory;
 fn name_of<'d>(
     items: &'d [Item],
     outer: &Scopes<'d>,
-    own: &Layer<'d>,
+    own: &Bindings<'d>,
     at: usize,
 ) -> QualifiedName<'d>
     requires { own.now ≡ declared (drop (at + 1) items.now) }
@@ -46,7 +46,7 @@ fn name_of<'d>(
 fn block_of<'d>(
     items: &'d [Item],
     outer: &Scopes<'d>,
-    own: &Layer<'d>,
+    own: &Bindings<'d>,
     attributes: &SoapAttributes<'_>,
     at: usize,
 ) -> Block<'d>

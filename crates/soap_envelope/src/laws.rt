@@ -34,7 +34,7 @@ pub fn bodies()
 {}
 
 /// A fault is an envelope whose Body has one Fault and nothing else, and whose Action is that of
-/// its subcode. If its names don't fit a quota on content, it doesn't either.
+/// its subcode. If its names don't fit the quotas, it doesn't either.
 pub fn faults()
     ensures viewed { FaultsAreViewed }
     ensures unfit { UnfitNamesAreUnfit }

@@ -9,9 +9,7 @@ ghost use Rattle.soap_envelope.specs.Making.{AreTexts, IsContent, action_block, 
 
 use crate::moving::turned;
 use crate::namespaces::{ADDRESSING, SOAP};
-use crate::puts::{
-    put_attribute, put_close, put_copies, put_owned, put_start, put_text, put_xmlns,
-};
+use crate::puts::{put_attribute, put_close, put_copies, put_start, put_text, put_xmlns};
 use nbfx_values::{Copied, Doc, Item, Items, Scalar, Txt, Value};
 use std::alloc::Global;
 use unit_streams::Memory;
@@ -49,23 +47,6 @@ pub(crate) fn put_relates(alloc: Global, items: &mut Items, relates: &[Item]) ->
     }
     put_start(alloc, items, "a", "RelatesTo")?;
     put_copies(items, relates)?;
-    put_close(items)?;
-    Ok(())
-}
-
-// The same block, whose texts are moved.
-pub(crate) fn put_relates_moved(
-    alloc: Global,
-    items: &mut Items,
-    relates: Items,
-) -> Result<(), Memory>
-    ensures { OnOk result (items.new ≡ items.old ++ relates_block relates) }
-{
-    if relates.as_slice().is_empty() {
-        return Ok(());
-    }
-    put_start(alloc, items, "a", "RelatesTo")?;
-    put_owned(items, relates)?;
     put_close(items)?;
     Ok(())
 }
@@ -139,9 +120,10 @@ fn reply_with(alloc: Global, action: Txt, relates: &[Item], body: Items) -> Resu
     Ok(items)
 }
 
-/// The reply to a request with this action, as an envelope of SOAP 1.2 with WS-Addressing 1.0: its
-/// Action is the request's, followed by `Response`; its RelatesTo has these texts, those of the
-/// request's MessageID; its Body has a copy of this content. It fails without memory for it.
+/// The reply to a request with this action, as an envelope of SOAP 1.2 (Part 1, 5) with the
+/// properties of a reply (WS-Addressing 1.0, Core, 3.4): its Action is the request's, followed by
+/// `Response`; its RelatesTo has these texts, those of the request's MessageID; its Body has a copy
+/// of this content. It fails without memory for it.
 pub fn reply_doc(alloc: Global, action: &str, relates: &Items, body: &Items) -> Result<Doc, Memory>
     requires texts { AreTexts relates.now }
     requires content { IsContent body.now }

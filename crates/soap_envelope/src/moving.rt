@@ -1,15 +1,15 @@
 // Items that change place, and aren't copied.
 ghost use Rattle.std.specs.Prelude.{◌≡◌, ◌++◌, ◌≤◌, OnOk, drop, length, take};
 
-use nbfx_values::{Attrs, Items};
+use nbfx_values::{Items, Sequence};
 use unit_streams::Memory;
 
-// Puts attributes behind others. Want of memory leaves what was put before.
-pub(crate) fn put_moved(out: &mut Attrs, more: Attrs) -> Result<(), Memory>
+// Puts a list behind another. Without memory, what was put before stays.
+pub(crate) fn put_moved<T: Drop>(out: &mut Sequence<T>, more: Sequence<T>) -> Result<(), Memory>
     ensures { OnOk result (out.new ≡ out.old ++ more) }
 {
-    for attribute in more.into_vec() {
-        out.push(attribute)?;
+    for one in more.into_vec() {
+        out.push(one)?;
     }
     Ok(())
 }

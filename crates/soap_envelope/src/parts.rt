@@ -6,8 +6,8 @@ ghost use Rattle.soap_envelope.specs.Names.{qualified_name};
 ghost use Rattle.soap_envelope.specs.Parts as spec;
 ghost use Rattle.soap_envelope.specs.Scopes as scope;
 
+use crate::bindings::Bindings;
 use crate::children::{Children, behind};
-use crate::layers::Layer;
 use crate::namespaces::SOAP;
 use crate::refusals::SoapFault;
 use crate::scopes::{Scopes, declared_in};
@@ -17,7 +17,7 @@ use std::alloc::Global;
 use unit_streams::Memory;
 
 // The namespace of an element with this prefix and these declarations.
-pub(crate) fn element_uri<'d>(outer: &Scopes<'d>, own: &Layer<'d>, prefix: &Txt) -> &'d str
+pub(crate) fn element_uri<'d>(outer: &Scopes<'d>, own: &Bindings<'d>, prefix: &Txt) -> &'d str
     ensures { result.now ≡ scope.element_uri (own.now ∷ outer.now) prefix.now }
 {
     match own.uri_of(prefix.as_str()) {

@@ -1,4 +1,5 @@
-// Appends items to others. Without memory, those that were appended before stay.
+//! Items that are put behind others, one by one.
+
 ghost use Rattle.std.specs.Prelude.{◌≡◌, ◌∷◌, ◌++◌, [], IsTrue, OnOk, codes};
 ghost use Rattle.std.specs.Str.{is_utf8};
 ghost use Rattle.nbfx_values.specs.declared.content.Item.TheVariants as item;
@@ -9,13 +10,8 @@ use nbfx_values::{Copied, Item, Items, Scalar, Txt, Value};
 use std::alloc::Global;
 use unit_streams::Memory;
 
-// The beginning of an element.
-pub(crate) fn put_start(
-    alloc: Global,
-    items: &mut Items,
-    prefix: &str,
-    local: &str,
-) -> Result<(), Memory>
+/// Puts the beginning of an element. It fails without memory; what was put before stays.
+pub fn put_start(alloc: Global, items: &mut Items, prefix: &str, local: &str) -> Result<(), Memory>
     ensures { OnOk result (items.new ≡ items.old ++ item.Start prefix.now local.now ∷ []) }
 {
     let prefix = Txt::of(alloc, prefix)?;
@@ -23,13 +19,8 @@ pub(crate) fn put_start(
     items.push(Item::Start { prefix, local })
 }
 
-// A declaration.
-pub(crate) fn put_xmlns(
-    alloc: Global,
-    items: &mut Items,
-    prefix: &str,
-    uri: &str,
-) -> Result<(), Memory>
+/// Puts a declaration of a prefix. It fails without memory; what was put before stays.
+pub fn put_xmlns(alloc: Global, items: &mut Items, prefix: &str, uri: &str) -> Result<(), Memory>
     ensures put { OnOk result (items.new ≡ items.old ++ item.Xmlns prefix.now uri.now ∷ []) }
     ensures utf8 { OnOk result (IsTrue (is_utf8 uri.now)) }
 {
@@ -38,8 +29,8 @@ pub(crate) fn put_xmlns(
     items.push(Item::Xmlns { prefix, uri })
 }
 
-// An attribute.
-pub(crate) fn put_attribute(
+/// Puts an attribute. It fails without memory; what was put before stays.
+pub fn put_attribute(
     alloc: Global,
     items: &mut Items,
     prefix: &str,
@@ -57,37 +48,28 @@ pub(crate) fn put_attribute(
     })
 }
 
-// A text.
-pub(crate) fn put_text(items: &mut Items, characters: Txt) -> Result<(), Memory>
+/// Puts a text. It fails without memory; what was put before stays.
+pub fn put_text(items: &mut Items, characters: Txt) -> Result<(), Memory>
     ensures { OnOk result
         (items.new ≡ items.old ++ item.Text (value.One (scalar.Text characters)) ∷ []) }
 {
     items.push(Item::Text(Value::One(Scalar::Text(characters))))
 }
 
-// The end of an element.
-pub(crate) fn put_close(items: &mut Items) -> Result<(), Memory>
+/// Puts the end of an element. It fails without memory; what was put before stays.
+pub fn put_close(items: &mut Items) -> Result<(), Memory>
     ensures { OnOk result (items.new ≡ items.old ++ item.Close ∷ []) }
 {
     items.push(Item::Close)
 }
 
-// Copies of items.
-pub(crate) fn put_copies(items: &mut Items, more: &[Item]) -> Result<(), Memory>
+/// Puts copies of items. It fails without memory; what was put before stays, and some of the copies
+/// may.
+pub fn put_copies(items: &mut Items, more: &[Item]) -> Result<(), Memory>
     ensures { OnOk result (items.new ≡ items.old ++ more.now) }
 {
     for item in more {
         items.push(item.copy()?)?;
-    }
-    Ok(())
-}
-
-// Items, which are moved.
-pub(crate) fn put_owned(items: &mut Items, more: Items) -> Result<(), Memory>
-    ensures { OnOk result (items.new ≡ items.old ++ more) }
-{
-    for item in more.into_vec() {
-        items.push(item)?;
     }
     Ok(())
 }

@@ -3,7 +3,7 @@
 use crate::blocks::Names;
 use nbfx_values::Txt;
 
-/// The code of a fault, by the local name that SOAP 1.2 gives it.
+/// The code of a fault, by the local name that SOAP 1.2 gives it (Part 1, 5.4.6).
 #[derive(Clone, Copy, Debug, PartialEq, Eq)]
 pub enum Code {
     /// The root isn't a SOAP 1.2 envelope.
@@ -16,7 +16,7 @@ pub enum Code {
     Receiver,
 }
 
-/// The subcode of a fault, as the SOAP Binding of WS-Addressing 1.0 names it.
+/// The subcode of a fault, as the SOAP Binding of WS-Addressing 1.0 names it (6.4).
 #[derive(Clone, Copy, Debug, PartialEq, Eq)]
 pub enum Sub {
     /// No subcode.

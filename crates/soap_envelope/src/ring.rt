@@ -8,9 +8,10 @@ ghost use Rattle.soap_envelope.specs.Body.{attribute_of, missing, xmlns_of};
 ghost use Rattle.soap_envelope.specs.Layers.{kept, layer_of};
 ghost use Rattle.soap_envelope.specs.Scopes as scope;
 
+use crate::bindings::Bindings;
 use crate::body::is_missing;
 use crate::children::open_behind;
-use crate::layers::{Declared, Layer};
+use crate::layers::Declared;
 use crate::moving::put_moved;
 use crate::scopes::{declarations_in, declared_on};
 use nbfx_values::{ArrayItem, AttrItem, Attrs, Item, Items, Quotas, Txt};
@@ -23,7 +24,7 @@ use unit_streams::Memory;
 fn missing_of<'n>(
     alloc: Global,
     needs: &[Declared<'n>],
-    own: &Layer<'_>,
+    own: &Bindings<'_>,
 ) -> Result<Vec<Declared<'n>>, Memory>
     ensures { IfOk result
         (λ lacking. layer_of lacking ≡ missing (map kept needs.now) own.now) }
@@ -150,10 +151,10 @@ fn declarations_ahead<'r>(
 }
 
 // Declarations, as they are found by their prefixes.
-fn layer_with<'d>(alloc: Global, declarations: &[Declared<'d>]) -> Result<Layer<'d>, Memory>
+fn layer_with<'d>(alloc: Global, declarations: &[Declared<'d>]) -> Result<Bindings<'d>, Memory>
     ensures { IfOk result (λ layer. layer ≡ map kept declarations.now) }
 {
-    let mut layer = Layer::new(alloc);
+    let mut layer = Bindings::new(alloc);
     let mut more = declarations.len();
     while more > 0 {
         more -= 1;

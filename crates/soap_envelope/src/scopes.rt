@@ -8,7 +8,7 @@ ghost use Rattle.soap_envelope.specs.Scopes as spec;
 ghost use Rattle.soap_envelope.specs.Scopes.{declared};
 
 use crate::bindings::Bindings;
-use crate::layers::{Declared, Layer};
+use crate::layers::Declared;
 use crate::namespaces::XML;
 use nbfx_values::{AttrItem, Item, Txt};
 use std::alloc::Global;
@@ -113,10 +113,10 @@ fn bind_declared_on<'d>(bound: &mut Bindings<'d>, attributes: &'d [AttrItem]) ->
 }
 
 // The declarations at the head of what stands behind the beginning of an element.
-pub(crate) fn declared_in<'d>(alloc: Global, behind: &'d [Item]) -> Result<Layer<'d>, Memory>
+pub(crate) fn declared_in<'d>(alloc: Global, behind: &'d [Item]) -> Result<Bindings<'d>, Memory>
     ensures { IfOk result (λ layer. layer ≡ declared behind.now) }
 {
-    let mut layer = Layer::new(alloc);
+    let mut layer = Bindings::new(alloc);
     bind_declared(&mut layer, behind)?;
     Ok(layer)
 }
@@ -125,10 +125,10 @@ pub(crate) fn declared_in<'d>(alloc: Global, behind: &'d [Item]) -> Result<Layer
 pub(crate) fn declared_on<'d>(
     alloc: Global,
     attributes: &'d [AttrItem],
-) -> Result<Layer<'d>, Memory>
+) -> Result<Bindings<'d>, Memory>
     ensures { IfOk result (λ layer. layer ≡ spec.declared_on attributes.now) }
 {
-    let mut layer = Layer::new(alloc);
+    let mut layer = Bindings::new(alloc);
     bind_declared_on(&mut layer, attributes)?;
     Ok(layer)
 }

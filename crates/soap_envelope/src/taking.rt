@@ -80,9 +80,9 @@ fn content_places(items: &[Item], at: usize) -> (usize, usize)
 /// The content of the Body that begins at a place of a document, as
 /// [`Envelope::body`](crate::Envelope::body) gives it, taken out of the document. The items are
 /// moved, within the document's own list, which gets the declarations that children need besides:
-/// those of the root and of Body, but for what every reply declares. None if the content with its
-/// declarations counts more than the quotas admit, or has more bytes in any payload. It fails
-/// without memory.
+/// those of the root and of Body, but for what every reply declares. None only if the content with
+/// its declarations counts more than the quotas admit, or has more bytes in any payload; content
+/// that needs no declarations is given whatever it counts. It fails without memory.
 pub fn take_body(
     alloc: Global,
     quotas: &Quotas,
@@ -107,8 +107,8 @@ pub fn take_body(
 
 /// The reply to a request with this action, as [`reply_doc`](crate::reply_doc) makes it, whose Body
 /// has the content of the Body that begins at a place of the request. That is taken out of the
-/// request as by [`take_body`], and its list becomes the reply's: None if it, and so the reply,
-/// doesn't fit the quotas. It fails without memory.
+/// request as by [`take_body`], and its list becomes the reply's: None only if it, and so the
+/// reply, doesn't fit the quotas. It fails without memory.
 pub fn return_body(
     alloc: Global,
     quotas: &Quotas,

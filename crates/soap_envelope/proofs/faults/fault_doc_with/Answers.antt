@@ -10,10 +10,8 @@ document-requires c =
     let relates = c.args.relates in
     let report = c.args.report.now in
     let blocks = flat_map not_understood_block report.names in
-    let put = c.in_ok-put_report.ensures.put in
-    let made = rw c.new-items.ensures at put in
-    subst IsDocument (sym made)
+    subst IsDocument (sym c.in_ok-items.ensures.made)
     (envelope-document action relates blocks (fault_body report) c.in_ok-action.ensures.utf8
     c.requires
-    (names-lead report.names c.in_ok-put_report.ensures.names)
+    (names-lead report.names c.in_ok-items.ensures.names)
     (fault-content report c.as_str-reason.ensures.utf8))

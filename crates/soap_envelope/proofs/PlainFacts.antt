@@ -1,0 +1,22 @@
+-- An envelope with blocks of any standard is a document.
+use Rattle.std.proofs.Common.{◌≡◌, ℕ, true, false, Bool, List, ◌++◌, Some, refl}
+use Rattle.nbfx_values.{proofs.Walks.position_of-document, specs.Documents.IsDocument}
+use Rattle.nbfx_values.specs.declared.content.Item.{Item}
+use Rattle.nbfx_values.specs.declared.position.Position.TheVariants.{After, Within}
+use Rattle.nbfx_values.specs.Positions.{position_from}
+use Rattle.soap_envelope.specs.Making.{ending, IsContent, middle}
+use Rattle.soap_envelope.specs.Plain.{plain_items}
+use Rattle.soap_envelope.proofs.OnLiterals.{envelopes_on_literals}
+use Rattle.soap_envelope.proofs.Places.{content-leads, deeper-leads, leads-on}
+
+pub plain-document : (blocks body : List Item) → IsContent blocks → IsContent body
+    → IsDocument (plain_items blocks body)
+unfolding envelopes_on_literals
+plain-document blocks body leads content =
+    let inside = content-leads body 1 (deeper-leads body 0 0 false false content) in
+    let closed = leads-on (Some (Within 1 true)) (Some (Within 1 inside.0)) (Some After) body ending
+    inside.1 refl in
+    let header = content-leads blocks 1 (deeper-leads blocks 0 0 false false leads) in
+    position_of-document (plain_items blocks body)
+    (leads-on (Some (Within 1 true)) (Some (Within 1 header.0)) (Some After) blocks
+    (middle ++ (body ++ ending)) header.1 closed)
