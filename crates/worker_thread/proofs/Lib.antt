@@ -1,0 +1,2 @@
+mod Relays
+mod Steps
