@@ -6,11 +6,19 @@ pub mod WorkedConnections
 pub mod Saying
 -- the envelope of an answer (src/spelling.rt)
 pub mod Spelled
--- what is left of the outgoing direction, and what is heard when a request more is answered
--- (src/replier.rt)
+-- where a writer stands behind what it spelled (src/reply_writer.rt)
 pub mod Replies
-pub mod Within
-pub mod Heard
+-- which parts are due for requests, what is handled with one request more (src/replier.rt), and
+-- what
+-- was written of requests by what was written of parts
+pub mod Due
+pub mod Handled
+pub mod Written
+-- what is known of two threads that serve a connection (src/beside.rt): by the jobs that were asked
+-- for (src/asking.rt) and done (src/reply_thread.rt)
+pub mod Crossed
+pub mod AskedFor
+pub mod Done
 -- that a stream can be followed, and what is known when it is over (src/serving.rt)
 pub mod Streams
 pub mod Served

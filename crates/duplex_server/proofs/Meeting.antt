@@ -1,19 +1,22 @@
 -- What is known of a connection that was served.
-use Rattle.std.proofs.Common.{◌≡◌, ℕ, ◌-◌, ◌^◌, ◌<◌, Bool, List, [], ◌++◌, map, Some, Option, refl}
+use Rattle.std.proofs.Common.{◌≡◌, ℕ, ◌-◌, ◌^◌, ◌<◌, List, [], ◌++◌, map, Some, Option, refl}
 use Rattle.std.proofs.Common.{subst, inl, inr, arith}
 use Rattle.io_edges.specs.{Faults.Rose, Wires.added_up}
 use Rattle.stream_reader.specs.Stream.{stream, StreamEvent}
-use Rattle.stream_loop.proofs.{Amounts.wrote_grew, Counts.heard_some}
-use Rattle.stream_loop.proofs.{Taking.follows_as, Writing.told_some}
-use Rattle.stream_loop.specs.{declared.following.Ending.Ending, Edges.Input, Followed.Follows}
+use Rattle.stream_loop.proofs.{Amounts.wrote_grew, Counts.handled_some}
+use Rattle.stream_loop.proofs.Writing.{told_some}
+use Rattle.stream_loop.specs.{declared.following.FollowEnding.FollowEnding, Edges.Input}
+use Rattle.stream_loop.specs.{Followed.Follows}
 use Rattle.duplex_server.specs.{declared.outcome.Outcome.Outcome, Requests.request_for}
-use Rattle.duplex_server.specs.Owed.{Answering, replies, requests_to}
-use Rattle.duplex_server.specs.Served.{AreNew, Connection, Ends, ends_at, HasAnswered, HoldNothing}
+use Rattle.duplex_server.specs.ServerStream.{Answering, replies, requests_to}
+use Rattle.duplex_server.specs.Served.{Connection, Ends, ends_at}
 use Rattle.duplex_server.specs.Served.{IsServed, moved, told_pair}
 use Rattle.duplex_server.specs.Serving.{closing_of, ending_of, HasServed, Serves}
-use Rattle.duplex_server.proofs.Answered.{answers_so, serves_empties}
+use Rattle.duplex_server.proofs.Answered.{serves_empties}
 use Rattle.duplex_server.proofs.Judged.{judges, owes}
-use Rattle.stream_loop.specs.declared.following.Ending.TheVariants as endings
+use Rattle.io_edges.specs.Views.{SinkView}
+use Rattle.stream_loop.specs.declared.following.FollowEnding.TheVariants as endings
+use Rattle.stream_loop.specs.Edges.{AreNew}
 
 -- a count with two others is greater where one of these is above 0, or at its last value
 pub rose_by_reads : (count a b : ℕ) → Rose 0 a → Rose count (added_up count a b)
@@ -47,74 +50,59 @@ met seen ends ends' outcome =
     record { handed = seen ends; closed = seen ends'; outcome = outcome }
 
 module _ (x : Answering) (endpoint : Option (List ℕ)) {R K : Type 0}
-    (left taken : R → Option (List ℕ)) (reads empty_takes : R → ℕ)
-    (written : K → Option (List ℕ)) (held : K → List ℕ) (writes : K → ℕ) (may_want : K → Bool)
-  where
-    abbrev ends_of : R × K → Ends
-    ends_of = ends_at left taken reads empty_takes written held writes
+    (left taken : R → Option (List ℕ)) (reads empty_takes : R → ℕ) (view : K → SinkView) where
+  abbrev ends_of : R × K → Ends
+  ends_of = ends_at left taken reads empty_takes view
 
-    -- what was taken is told where it was told before
-    took : (Heard : List StreamEvent → Type 0) (i i' : Input) (ending : Ending _)
-        → Follows (stream (requests_to x endpoint)) Heard i i' ending
-        → (t : List ℕ) → i.taken ≡ Some t → (t' : List ℕ) × (i'.taken ≡ Some t')
-    took Heard i i' (endings.Judged judged) h t is =
-        let k = told_some (λ t t'. t' ≡ t ++ h.bytes) i.taken i'.taken t is h.took in (k.0, k.1)
-    took Heard i i' endings.ReadFault h t is =
-        let k = told_some (λ t t'. t' ≡ t ++ h.bytes) i.taken i'.taken t is h.took in (k.0, k.1)
-    took Heard i i' endings.Memory h t is =
-        let k = told_some (λ t t'. t' ≡ t ++ h.before ++ h.piece) i.taken i'.taken t is h.took in
-        (k.0, k.1)
+  -- what was taken is told where it was told before
+  took : (Handled : List StreamEvent → Type 0) (i i' : Input) (ending : FollowEnding _)
+      → Follows (stream (requests_to x endpoint)) Handled i i' ending
+      → (t : List ℕ) → i.taken ≡ Some t → (t' : List ℕ) × (i'.taken ≡ Some t')
+  took Handled i i' (endings.Judged judged) h t is =
+      let k = told_some (λ t t'. t' ≡ t ++ h.bytes) i.taken i'.taken t is h.took in (k.0, k.1)
+  took Handled i i' endings.ReadFault h t is =
+      let k = told_some (λ t t'. t' ≡ t ++ h.bytes) i.taken i'.taken t is h.took in (k.0, k.1)
+  took Handled i i' endings.Memory h t is =
+      let k = told_some (λ t t'. t' ≡ t ++ h.before ++ h.piece) i.taken i'.taken t is h.took in
+      (k.0, k.1)
 
-    -- a connection that was served
-    module _ (ends ends' : R × K) (outcome : Outcome)
-        (h : Serves written held writes may_want x endpoint (ends_of ends).input
-        (ends_of ends').input ends.1 ends'.1 outcome) where
-      abbrev now_met : Connection
-      now_met = met ends_of ends ends' outcome
+  -- a connection that was served
+  module _ (ends ends' : R × K) (outcome : Outcome) (h : Serves x endpoint (ends_of ends).input
+      (ends_of ends').input (view ends.1) (view ends'.1) outcome) where
+    abbrev now_met : Connection
+    now_met = met ends_of ends ends' outcome
 
-      abbrev Served : List StreamEvent → Type 0
-      Served = HasServed written held writes may_want x outcome ends.1 ends'.1
+    abbrev Served : List StreamEvent → Type 0
+    Served = HasServed x outcome (view ends.1) (view ends'.1)
 
-      answered : (events : List StreamEvent) → Served events
-          → HasAnswered x (HoldNothing ends_of) now_met events
-      answered events s = record {
-        counted = s.counted;
-        answers = answers_so written held writes may_want x ends.1 ends'.1 outcome.answers
-            (closing_of (ending_of outcome.inbound)) (map request_for events)
-            (HoldNothing ends_of) (λ plain k. plain (ends.0, k)) outcome.outbound s.wrote;
-      }
+    pub is_served : (told : Option (List (List ℕ × List ℕ)))
+        → AreNew told (ends_of ends).input (ends_of ends).sink
+        → IsServed x endpoint told now_met
+    is_served told new = record {
+      begins = new;
+      judged = λ bytes left. judges x endpoint (ends_of ends).input (ends_of ends').input
+          (view ends.1) (view ends'.1) bytes left outcome h;
+      written = λ bytes w left before. owes x endpoint (ends_of ends).input
+          (ends_of ends').input (view ends.1) (view ends'.1) bytes left outcome h w before;
+      serves = h;
+      read_fault = λ count failed. rose_by_reads count (reads ends'.0) (view ends'.1).faults
+          (subst (λ (n : ℕ). Rose n (reads ends'.0)) new.unread (h.reads_counted.rose failed));
+      write_fault = λ count failed. rose_by_writes count (reads ends'.0) (view ends'.1).faults
+          (subst (λ (n : ℕ). Rose n (view ends'.1).faults) new.unwritten
+          (h.writes_counted.rose failed));
+      nothing_held = serves_empties x endpoint (ends_of ends).input (ends_of ends').input
+          (view ends.1) (view ends'.1) outcome h;
+    }
 
-      pub is_served : (told : Option (List (List ℕ × List ℕ))) → AreNew told (ends_of ends)
-          → IsServed x endpoint (HoldNothing ends_of) told now_met
-      is_served told new = record {
-        begins = new;
-        judged = λ bytes left. judges written held writes may_want x endpoint
-            (ends_of ends).input (ends_of ends').input ends.1 ends'.1 bytes left outcome h;
-        written = λ bytes w left before. owes written held writes may_want x endpoint
-            (ends_of ends).input (ends_of ends').input ends.1 ends'.1 bytes left outcome h w before;
-        follows = follows_as (stream (requests_to x endpoint)) Served
-            (HasAnswered x (HoldNothing ends_of) now_met) (ends_of ends).input (ends_of ends').input
-            (ending_of outcome.inbound) answered h.follows;
-        reads_counted = h.reads_counted;
-        writes_counted = h.writes_counted;
-        read_fault = λ count failed. rose_by_reads count (reads ends'.0) (writes ends'.1)
-            (subst (λ (n : ℕ). Rose n (reads ends'.0)) new.unread (h.reads_counted.rose failed));
-        write_fault = λ count failed. rose_by_writes count (reads ends'.0) (writes ends'.1)
-            (subst (λ (n : ℕ). Rose n (writes ends'.1)) new.unwritten
-            (h.writes_counted.rose failed));
-        nothing_held = serves_empties written held writes may_want x endpoint (ends_of ends).input
-            (ends_of ends').input ends.1 ends'.1 outcome h;
-      }
-
-      -- what was taken and written is told, where the ends told it at first
-      pub pair_told : taken ends.0 ≡ Some [] → written ends.1 ≡ Some []
-          → (pair : List ℕ × List ℕ) × (told_pair pair ≡ moved now_met)
-      pair_told was_taken was_written =
-          let s = heard_some (stream (requests_to x endpoint)) Served (ends_of ends).input
-          (ends_of ends').input (ending_of outcome.inbound) h.follows in
-          let t = took Served (ends_of ends).input (ends_of ends').input
-          (ending_of outcome.inbound) h.follows [] was_taken in
-          let w = wrote_grew written held writes may_want (replies x) outcome.outbound
-          (closing_of (ending_of outcome.inbound)) ends.1 (map request_for s.0)
-          (λ s. outcome.answers ≡ s.answers) ends'.1 s.1.wrote [] was_written in
-          ((t.0, w.0), both_told t.0 w.0 (taken ends'.0) (written ends'.1) t.1 w.1)
+    -- what was taken and written is told, where the ends told it at first
+    pub pair_told : taken ends.0 ≡ Some [] → (view ends.1).written ≡ Some []
+        → (pair : List ℕ × List ℕ) × (told_pair pair ≡ moved now_met)
+    pair_told was_taken was_written =
+        let s = handled_some (stream (requests_to x endpoint)) Served (ends_of ends).input
+        (ends_of ends').input (ending_of outcome.inbound) h.follows in
+        let t = took Served (ends_of ends).input (ends_of ends').input
+        (ending_of outcome.inbound) h.follows [] was_taken in
+        let w = wrote_grew (replies x) outcome.outbound
+        (closing_of (ending_of outcome.inbound)) (view ends.1) (map request_for s.0)
+        (λ s. outcome.answers ≡ s.answers) (view ends'.1) s.1.wrote [] was_written in
+        ((t.0, w.0), both_told t.0 w.0 (taken ends'.0) (view ends'.1).written t.1 w.1)

@@ -1,5 +1,5 @@
 -- What is known of a session that was answered, by what is seen of the input and of the output.
-use Rattle.std.proofs.Common.{◌≡◌, ℕ, Bool, List, [], map, Option, sym, refl, append-nil}
+use Rattle.std.proofs.Common.{◌≡◌, ℕ, List, [], map, Option, sym, refl, append-nil}
 use Rattle.{io_edges.specs.Flow.Told, nbfx_values.specs.Limits.IsGood}
 use Rattle.unit_streams.specs.Judging.{events_in, events_of}
 use Rattle.stream_reader.specs.Stream.{ends, stream, StreamEvent}
@@ -7,52 +7,50 @@ use Rattle.stream_loop.proofs.{Amounts.wrote_grew, Grown.all_written, LoopSteps.
 use Rattle.stream_loop.proofs.Taking.{follows_as, unbegun}
 use Rattle.stream_loop.proofs.Writing.{counted_none, known_told}
 use Rattle.stream_loop.specs.{declared.outbound.Outbound.Outbound, Writing.Wrote}
-use Rattle.stream_loop.specs.Edges.{Input, Output, output_at}
+use Rattle.stream_loop.specs.Edges.{Input}
 use Rattle.duplex_server.specs.declared.outcome.{Inbound.Inbound, Outcome.Outcome}
-use Rattle.duplex_server.specs.Owed.{Answering, replies, requests_to}
+use Rattle.duplex_server.specs.ServerStream.{Answering, replies, requests_to}
 use Rattle.duplex_server.specs.Replaying.{owed_for_events, Replays, WritesEvents}
 use Rattle.duplex_server.specs.Requests.{request_for}
 use Rattle.duplex_server.specs.Serving.{closing_of, ending_of, HasServed, Serves}
 use Rattle.duplex_server.proofs.{Judged.judges, Judged.owes, Streams.ends_within}
+use Rattle.io_edges.specs.Views.{SinkView}
 use Rattle.stream_loop.specs.declared.outbound.Outbound.TheVariants as outbounds
 use Rattle.duplex_server.specs.declared.outcome.Inbound.TheVariants as inbounds
 
 module _ (x : Answering) (endpoint : Option (List ℕ)) (i i' : Input) where
   -- what is written to a sink, by what it tells
-  module _ {K : Type 0} (written : K → Option (List ℕ)) (held : K → List ℕ) (faults : K → ℕ)
-      (may_want : K → Bool) (first now : K) where
+  module _ (first now : SinkView) where
     writes : (inbound : Inbound) (events : List StreamEvent) (answers : ℕ) (outbound : Outbound)
-        → Wrote written held faults may_want (replies x) outbound (closing_of (ending_of inbound))
+        → Wrote (replies x) outbound (closing_of (ending_of inbound))
         first (map request_for events) (λ s. answers ≡ s.answers) now
-        → Told (written first) (written now) (WritesEvents x (held first) events inbound outbound)
+        → Told first.written now.written (WritesEvents x first.held events inbound outbound)
     writes inbound events answers outbounds.Done h =
-        known_told (WritesEvents x (held first) events inbound outbounds.Done) (written first)
-        (written now) (all_written written held faults may_want first now
+        known_told (WritesEvents x first.held events inbound outbounds.Done) first.written
+        now.written (all_written first now
         (owed_for_events x events inbound) h.puts h.emptied)
     writes inbound events answers outbounds.WriteFault h =
-        known_told (WritesEvents x (held first) events inbound outbounds.WriteFault)
-        (written first) (written now) (wrote_grew written held faults may_want (replies x)
+        known_told (WritesEvents x first.held events inbound outbounds.WriteFault)
+        first.written now.written (wrote_grew (replies x)
         outbounds.WriteFault (closing_of (ending_of inbound)) first (map request_for events)
         (λ s. answers ≡ s.answers) now h)
     writes inbound events answers outbounds.Memory h =
-        known_told (WritesEvents x (held first) events inbound outbounds.Memory)
-        (written first) (written now) (wrote_grew written held faults may_want (replies x)
+        known_told (WritesEvents x first.held events inbound outbounds.Memory)
+        first.written now.written (wrote_grew (replies x)
         outbounds.Memory (closing_of (ending_of inbound)) first (map request_for events)
         (λ s. answers ≡ s.answers) now h)
 
     pub replayed : (outcome : Outcome)
-        → Serves written held faults may_want x endpoint i i' first now outcome
-        → Replays x endpoint i i' (output_at written held faults first)
-        (output_at written held faults now) outcome.inbound outcome.outbound
+        → Serves x endpoint i i' first now outcome
+        → Replays x endpoint i i' first
+        now outcome.inbound outcome.outbound
     replayed outcome h = record {
-      judged = λ bytes left. judges written held faults may_want x endpoint i i' first now bytes
-          left outcome h;
-      written = λ bytes w left told. owes written held faults may_want x endpoint i i' first now
-          bytes left outcome h w told;
+      judged = λ bytes left. judges x endpoint i i' first now bytes left outcome h;
+      written = λ bytes w left told. owes x endpoint i i' first now bytes left outcome h w told;
       follows = follows_as (stream (requests_to x endpoint))
-          (HasServed written held faults may_want x outcome first now) (λ events.
-          Told (written first) (written now)
-          (WritesEvents x (held first) events outcome.inbound outcome.outbound)) i i'
+          (HasServed x outcome first now) (λ events.
+          Told first.written now.written
+          (WritesEvents x first.held events outcome.inbound outcome.outbound)) i i'
           (ending_of outcome.inbound)
           (λ events s. writes outcome.inbound events outcome.answers outcome.outbound s.wrote)
           h.follows;
@@ -61,7 +59,7 @@ module _ (x : Answering) (endpoint : Option (List ℕ)) (i i' : Input) where
     }
 
 -- there was no memory to begin with
-pub unbegun_so : (x : Answering) (endpoint : Option (List ℕ)) (i : Input) (o : Output)
+pub unbegun_so : (x : Answering) (endpoint : Option (List ℕ)) (i : Input) (o : SinkView)
     → IsGood x.limits → Replays x endpoint i i o o inbounds.Memory outbounds.Memory
 unfolding events_of events_in
 unbegun_so x endpoint i o good = record {

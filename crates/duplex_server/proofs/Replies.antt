@@ -1,110 +1,90 @@
--- What is left of the outgoing direction, by its sending half.
-use Rattle.std.proofs.Common.{◌≡◌, ℕ, true, false, List, [], ◌++◌, None, Ok, Option, sym, refl, ap}
-use Rattle.{std.proofs.Common.◌∙◌, io_edges.specs.Faults.one_more, nbfx_values.specs.Limits.Limits}
-use Rattle.string_tables.specs.{StaticStrings.Entry, StringTable.StringTable}
-use Rattle.nbfx_values.specs.declared.{content.Item.Item, session.Kind.Kind, session.Mode.Mode}
-use Rattle.nbfx_encoder.specs.declared.sender.{SendState.SendState, Sender.Sender}
-use Rattle.nbfx_encoder.specs.{declared.sender.Side.TheVariants.Receiver, Placing.Placed}
-use Rattle.nbfx_encoder.specs.{Envelopes.envelope, Spelling.encoded}
-use Rattle.nbfx_encoder.specs.Sending.{behind_message, first_state, kind_in, limits_in, mode_in}
+-- Where a writer of replies stands behind what it spelled.
+use Rattle.std.proofs.Common.{◌≡◌, ℕ, Bool, true, false, List}
+use Rattle.std.proofs.Common.{[], ◌∷◌, ◌++◌, Some, None, Ok, Option}
+use Rattle.std.proofs.Common.{sym, refl, ap, ◌∙◌}
+use Rattle.nbfx_values.specs.{declared.content.Item.Item, Limits.Limits}
+use Rattle.nbfx_encoder.specs.{declared.sender.Sender.Sender, Envelopes.envelope, Placing.Placed}
+use Rattle.nbfx_encoder.specs.declared.sender.SendState.TheVariants.{Spent}
+use Rattle.nbfx_encoder.specs.Sending.{behind_message, KeepsSettings, kind_in, limits_in, mode_in}
 use Rattle.nbfx_encoder.specs.Sending.{names_in, state_in}
-use Rattle.action_dispatch.specs.{declared.answers.Answer.Answer, Refusals.unfit_fault}
-use Rattle.action_dispatch.specs.declared.answers.Answer.TheVariants.{Nothing, Reply}
-use Rattle.duplex_server.specs.Owed.{behind_reply, first_fitting, no_strings, opened, payload_of}
-use Rattle.duplex_server.specs.Owed.{Replying, told_reply, when_ready}
-use Rattle.duplex_server.specs.{Replying.replying, Spelling.Spells}
+use Rattle.duplex_server.specs.Jobs.{fitting, reply_part, reply_payload}
+use Rattle.duplex_server.specs.ServerStream.{behind_reply, Replying, when_ready}
+use Rattle.stream_loop.proofs.Parts.{gathers_nothing}
+use Rattle.stream_loop.specs.{declared.outbound.Outbound.TheVariants.Done, Parts.Part}
+use Rattle.duplex_server.specs.declared.reply_writer.ReplyWriter.{ReplyWriter}
+use Rattle.duplex_server.specs.{Replying.SendsAt, Replying.StandsAt, Spelling.Spells}
+use Rattle.io_edges.specs.Views.{SinkView}
 
--- by its parts
-pub replying_is : (sender : Sender) (mode : Mode) (kind : Kind) (moment : SendState)
-    (table : StringTable) (answers : ℕ) → mode_in sender ≡ mode → kind_in sender ≡ kind
-    → state_in sender ≡ moment → names_in sender ≡ table
-    → replying sender answers ≡ record {
-      mode = mode;
-      kind = kind;
-      moment = moment;
-      table = table;
-      answers = answers;
-    }
-unfolding replying
-replying_is sender mode kind moment table answers m k s t = rw (m, k, s, t) refl
+-- before the preamble, and in simplex mode, nothing is due
+pub none_due : (limits : Limits) (s : Replying) (made : Option (List Item)) (relates : List Item)
+    → s.moment ≡ Spent → reply_payload limits s made relates ≡ None
+none_due limits s made relates is =
+    ap (λ m. when_ready m (fitting limits s.kind s.table made relates)) is
 
--- there is none where nothing is answered
-pub none_due : (limits : Limits) (s : Replying) (answer : Answer)
-    → ((document relates : List Item) → answer ≡ Reply document relates → ⊥)
-    → payload_of limits s answer ≡ None
-none_due limits s (Reply document relates) never = absurd (never document relates refl)
-none_due limits s Nothing never = refl
+-- the part of an answer that was spelled, and where the sending half is then
+pub record IsSpelled (limits : Limits) (s : Replying) (sender' : Sender) (old new : List ℕ)
+    (due : Option (Placed (List ℕ))) (counts : Bool) : Type 0 where
+  pub bytes : new ≡ old ++ (reply_part s.mode due).bytes
+  pub counts_is : (reply_part s.mode due).counts ≡ counts
+  pub sends : SendsAt limits sender' (behind_reply due s)
 
-module _ (limits : Limits) (sender : Sender) (answers : ℕ) (document relates : List Item)
-    (limited : limits_in sender ≡ limits) where
-  -- the payload of an answer, as the half spells it
-  abbrev pub spelled : Option (Placed (List ℕ))
-  spelled = when_ready (state_in sender) (first_fitting
-      (encoded (limits_in sender) (kind_in sender) (names_in sender) document)
-      (encoded (limits_in sender) (kind_in sender) (names_in sender) (unfit_fault relates)))
+module _ (limits : Limits) (s : Replying) (sender sender' : Sender) (here : SendsAt limits sender s)
+    (kept : KeepsSettings sender sender') (made : Option (List Item)) (relates : List Item)
+    (old new : List ℕ) where
+  abbrev spelled : Option (Placed (List ℕ))
+  spelled = when_ready (state_in sender)
+      (fitting (limits_in sender) (kind_in sender) (names_in sender) made relates)
 
-  abbrev s : Replying
-  s = replying sender answers
+  abbrev due : Option (Placed (List ℕ))
+  due = reply_payload limits s made relates
 
-  payload_is : payload_of limits s (Reply document relates) ≡ spelled
-  unfolding replying
-  payload_is = ap (λ (l : Limits). when_ready (state_in sender) (first_fitting
-      (encoded l (kind_in sender) (names_in sender) document)
-      (encoded l (kind_in sender) (names_in sender) (unfit_fault relates)))) (sym limited)
+  spelled_due : spelled ≡ due
+  spelled_due = rw (here.limits_are, here.kind_is, here.moment_is, here.table_is) refl
 
-  mode_is : s.mode ≡ mode_in sender
-  unfolding replying
-  mode_is = refl
+  pub spelled_one : Spells (mode_in sender) old new (names_in sender) (names_in sender')
+      (state_in sender) (state_in sender') spelled (Ok true)
+      → IsSpelled limits s sender' old new due true
+  spelled_one h =
+      let is : due ≡ Some h.0 = sym spelled_due ∙ h.1 in
+      rw is (record {
+        bytes = h.2.written ∙ ap (λ m. old ++ envelope m h.0.0) here.mode_is;
+        counts_is = refl;
+        sends = record {
+          limits_are = kept.limits ∙ here.limits_are;
+          mode_is = kept.mode ∙ here.mode_is;
+          kind_is = kept.kind ∙ here.kind_is;
+          moment_is = h.2.moment_is ∙ ap behind_message here.mode_is;
+          table_is = h.2.table;
+        };
+      })
 
-  module _ (old new : List ℕ) (sender' : Sender) (same_mode : mode_in sender' ≡ mode_in sender)
-      (same_kind : kind_in sender' ≡ kind_in sender) where
-    -- the bytes of it
-    pub told_is : Spells (mode_in sender) old new (names_in sender) (names_in sender')
-        (state_in sender) (state_in sender') spelled (Ok true)
-        → new ≡ old ++ told_reply s.mode (payload_of limits s (Reply document relates))
-    told_is h =
-        h.2.written ∙ ap (λ l. old ++ l) (sym (ap (told_reply s.mode) (payload_is ∙ h.1)
-        ∙ ap (λ m. envelope m h.0.0) mode_is))
+  pub spelled_none : Spells (mode_in sender) old new (names_in sender) (names_in sender')
+      (state_in sender) (state_in sender') spelled (Ok false)
+      → (new ≡ old) × ((reply_part s.mode due).bytes ≡ [])
+      × ((reply_part s.mode due).counts ≡ false) × SendsAt limits sender' (behind_reply due s)
+  spelled_none h =
+      let is : due ≡ None = sym spelled_due ∙ h.0 in
+      rw is (
+        h.1.written,
+        refl,
+        refl,
+        record {
+          limits_are = kept.limits ∙ here.limits_are;
+          mode_is = kept.mode ∙ here.mode_is;
+          kind_is = kept.kind ∙ here.kind_is;
+          moment_is = h.1.moment_is ∙ here.moment_is;
+          table_is = h.1.table ∙ here.table_is;
+        },
+      )
 
-    pub nothing_told : Spells (mode_in sender) old new (names_in sender) (names_in sender')
-        (state_in sender) (state_in sender') spelled (Ok false)
-        → told_reply s.mode (payload_of limits s (Reply document relates)) ≡ []
-    nothing_told h = ap (told_reply s.mode) (payload_is ∙ h.0)
-
-    -- what it leaves
-    pub left_is : (answers' : ℕ) → answers' ≡ one_more answers
-        → Spells (mode_in sender) old new (names_in sender) (names_in sender')
-        (state_in sender) (state_in sender') spelled (Ok true)
-        → replying sender' answers'
-        ≡ behind_reply (payload_of limits s (Reply document relates)) s
-    unfolding replying
-    left_is answers' counted h =
-        replying_is sender' (mode_in sender) (kind_in sender) (behind_message (mode_in sender))
-        h.0.1
-        answers' same_mode same_kind h.2.moment_is h.2.table
-        ∙ ap (λ (n : ℕ). record {
-          mode = mode_in sender;
-          kind = kind_in sender;
-          moment = behind_message (mode_in sender);
-          table = h.0.1;
-          answers = n;
-        }) counted
-        ∙ sym (ap (λ p. behind_reply p s) (payload_is ∙ h.1))
-
-    pub left_so : Spells (mode_in sender) old new (names_in sender) (names_in sender')
-        (state_in sender) (state_in sender') spelled (Ok false)
-        → replying sender' answers ≡ behind_reply (payload_of limits s (Reply document relates)) s
-    unfolding replying
-    left_so h =
-        replying_is sender' (mode_in sender) (kind_in sender) (state_in sender) (names_in sender)
-        answers same_mode same_kind h.1.moment_is h.1.table
-        ∙ sym (ap (λ p. behind_reply p s) (payload_is ∙ h.0))
-
--- behind the preamble
-pub opened_is : (mode : Mode) (kind : Kind) (statics : List Entry) (sender' sender : Sender)
-    (answers : ℕ) → mode_in sender' ≡ mode → kind_in sender' ≡ kind
-    → state_in sender' ≡ first_state mode Receiver → names_in sender' ≡ no_strings statics
-    → replying sender' answers ≡ opened statics mode kind (replying sender answers)
-unfolding replying
-opened_is mode kind statics sender' sender answers m k s t =
-    replying_is sender' mode kind (first_state mode Receiver) (no_strings statics) answers m k s t
+-- a part without bytes that doesn't count changes nothing
+pub stands_idle : (first : SinkView) (parts : List Part) (s : Replying)
+    (w : ReplyWriter) (now : SinkView) (one : Part) → w.parts.outbound ≡ Done → one.bytes ≡ []
+    → one.counts ≡ false → StandsAt first parts s w now
+    → StandsAt first (parts ++ one ∷ []) s w now
+stands_idle first parts s w now one going none uncounted h = record {
+  given = rw going (gathers_nothing first parts w.parts.whole
+      w.parts.gathered.items w.parts.ends.items now (rw going at h.given) one none uncounted);
+  is_at = h.is_at;
+  little = h.little;
+}

@@ -1,12 +1,14 @@
 -- The lines of connections, one behind the other.
-use Rattle.std.proofs.Common.{◌≡◌, ℕ, ◌+◌, Bool, List, [], ◌∷◌, ◌++◌, length, Some, None, Ok, Err}
+use Rattle.std.proofs.Common.{◌≡◌, ℕ, ◌+◌, List, [], ◌∷◌, ◌++◌, length, Some, None, Ok, Err}
 use Rattle.std.proofs.Common.{Option, sym, refl, ap, ◌∙◌, subst, append_assoc, append-nil, arith}
 use Rattle.io_edges.specs.{declared.SinkFault.SinkFault, Flow.GrowsByPrefix, Flow.Told}
-use Rattle.stream_loop.{proofs.Grown.all_written, proofs.Grown.cut_written, specs.Writing.PutsTo}
+use Rattle.stream_loop.{proofs.Grown.all_written, proofs.Grown.cut_written}
 use Rattle.stream_loop.proofs.Writing.{known_told, told_some}
 use Rattle.duplex_server.specs.{declared.outcome.Outcome.Outcome, Along.HasLines}
 use Rattle.duplex_server.specs.Lines.{connection_line, lines_from}
 use Rattle.duplex_server.specs.Served.{CutsLast, held_behind, WritesAll}
+use Rattle.io_edges.specs.Views.{SinkView}
+use Rattle.io_edges.specs.Puts.{Puts}
 
 lines_from-push : (number : ℕ) (outcomes : List Outcome) (last : Outcome)
     → lines_from number (outcomes ++ last ∷ [])
@@ -49,58 +51,59 @@ some_pushed : (outcomes : List Outcome) (last : Outcome) → outcomes ++ last �
 some_pushed [] last e = cc
 some_pushed (o ∷ outcomes) last e = cc
 
-module _ {K : Type 0} (written : K → Option (List ℕ)) (held : K → List ℕ) (faults : K → ℕ)
-    (may_want : K → Bool) (first : K) where
-  abbrev Lines : K → List Outcome → Type 0
-  Lines = HasLines written held faults first
+module _ (first : SinkView) where
+  abbrev Lines : SinkView → Type 0 → List Outcome → Type 0
+  Lines = HasLines first
 
   -- before the first
-  pub no_lines : Lines first []
-  no_lines = record {
-    lines = nothing (written first);
+  pub no_lines : {Same : Type 0} → Same → Lines first Same []
+  no_lines same = record {
+    lines = nothing first.written;
     held_is = refl;
     faults_are = refl;
-    untouched = λ e. refl;
+    untouched = λ e. same;
   }
     where
-      nothing : (w : Option (List ℕ)) → Told w w (WritesAll (held first) [])
+      nothing : (w : Option (List ℕ)) → Told w w (WritesAll first.held [])
       nothing None = tt
       nothing (Some w) = refl
 
-  module _ (now new : K) (outcomes : List Outcome) (h : Lines now outcomes) (last : Outcome) where
+  module _ (now new : SinkView) (Same : Type 0) (outcomes : List Outcome)
+      (h : Lines now Same outcomes)
+      (last : Outcome) where
     abbrev line : List ℕ
     line = connection_line (length outcomes) last
 
     -- one more
-    pub more_lines : PutsTo written held faults may_want now new line (Ok tt) → held new ≡ []
-        → Lines new (outcomes ++ last ∷ [])
+    pub more_lines : Puts now new line (Ok tt) → new.held ≡ [] → {Still : Type 0}
+        → Lines new Still (outcomes ++ last ∷ [])
     more_lines puts none = record {
-      lines = known_told (WritesAll (held first) (outcomes ++ last ∷ [])) (written first)
-          (written new) (λ w is.
-          let mid = told_some (WritesAll (held first) outcomes) (written first) (written now) w is
+      lines = known_told (WritesAll first.held (outcomes ++ last ∷ [])) first.written
+          new.written (λ w is.
+          let mid = told_some (WritesAll first.held outcomes) first.written now.written w is
           h.lines in
-          let k = all_written written held faults may_want now new line puts none mid.0 mid.1 in (
+          let k = all_written now new line puts none mid.0 mid.1 in (
             k.0,
             k.1,
-            more_written (held first) outcomes last w mid.0 k.0 mid.2
+            more_written first.held outcomes last w mid.0 k.0 mid.2
                 (subst (λ (l : List ℕ). k.0 ≡ mid.0 ++ l ++ line) h.held_is k.2),
           ));
-      held_is = none ∙ sym (held_none (held first) outcomes last);
+      held_is = none ∙ sym (held_none first.held outcomes last);
       faults_are = puts.counted.same (λ e. cc) ∙ h.faults_are;
       untouched = λ e. absurd (some_pushed outcomes last e);
     }
 
     -- one that was cut
     pub cut_lines : (fault : SinkFault)
-        → PutsTo written held faults may_want now new line (Err fault)
-        → Told (written first) (written new)
-        (CutsLast (held first) (outcomes ++ last ∷ []))
+        → Puts now new line (Err fault)
+        → Told first.written new.written
+        (CutsLast first.held (outcomes ++ last ∷ []))
     cut_lines fault puts =
-        known_told (CutsLast (held first) (outcomes ++ last ∷ [])) (written first) (written new)
+        known_told (CutsLast first.held (outcomes ++ last ∷ [])) first.written new.written
         (λ w is.
-        let mid = told_some (WritesAll (held first) outcomes) (written first) (written now) w is
+        let mid = told_some (WritesAll first.held outcomes) first.written now.written w is
         h.lines in
-        let k = cut_written written held faults may_want fault now new line puts mid.0 mid.1 in (
+        let k = cut_written fault now new line puts mid.0 mid.1 in (
           k.0,
           k.1,
           record {

@@ -1,28 +1,30 @@
 -- What is known of a connection when its stream is over and what is owed last is written.
-use Rattle.std.proofs.Common.{◌≡◌, ℕ, Bool, List, map, Some, None, Option, sym, refl, ap, ◌∙◌}
+use Rattle.std.proofs.Common.{◌≡◌, ℕ, List, map, Some, None, Option, sym, refl, ap, ◌∙◌}
 use Rattle.{std.proofs.Common.subst, io_edges.specs.Faults.CountsFaults}
 use Rattle.nbfx_values.specs.declared.refusals.Offence.{Offence}
 use Rattle.stream_reader.specs.Stream.{Settings, stream, StreamEvent}
-use Rattle.stream_loop.proofs.{Counts.heard_some, Counts.writes_counted, Taking.follows_as}
-use Rattle.stream_loop.specs.{declared.following.Ending.Ending, Edges.Input}
+use Rattle.stream_loop.proofs.{Counts.handled_some, Counts.writes_counted, Taking.follows_as}
+use Rattle.stream_loop.specs.{declared.following.FollowEnding.FollowEnding, Edges.Input}
 use Rattle.stream_loop.specs.{Followed.Follows, Writing.Wrote}
 use Rattle.duplex_server.specs.declared.outcome.Inbound.{Inbound, TheVariants.ReadFault}
 use Rattle.duplex_server.specs.{declared.outcome.Outcome.Outcome, Requests.request_for}
-use Rattle.duplex_server.specs.Owed.{Answering, messages_along, replies, requests_to}
+use Rattle.duplex_server.specs.ServerStream.{Answering, messages_along, replies, requests_to}
 use Rattle.duplex_server.specs.Serving.{closing_of, ending_of, HasServed, inbound_of, Serves}
-use Rattle.stream_loop.specs.declared.following.Ending.TheVariants as endings
+use Rattle.io_edges.specs.Views.{SinkView}
+use Rattle.stream_loop.specs.declared.following.FollowEnding.TheVariants as endings
 
-pub ending_again : (ending : Ending Offence) → ending_of (inbound_of ending) ≡ ending
+pub ending_again : (ending : FollowEnding Offence) → ending_of (inbound_of ending) ≡ ending
 ending_again (endings.Judged None) = refl
 ending_again (endings.Judged (Some offence)) = refl
 ending_again endings.ReadFault = refl
 ending_again endings.Memory = refl
 
 -- a failed read is said so
-read_fault : (ending : Ending Offence) → inbound_of ending ≡ ReadFault → ending ≡ endings.ReadFault
+read_fault : (ending : FollowEnding Offence) → inbound_of ending ≡ ReadFault → ending
+    ≡ endings.ReadFault
 read_fault ending is = sym (ending_again ending) ∙ ap ending_of is
 
-pub reads_counted : (f f' : ℕ) (ending : Ending Offence)
+pub reads_counted : (f f' : ℕ) (ending : FollowEnding Offence)
     → CountsFaults f f' (ending ≡ endings.ReadFault)
     → CountsFaults f f' (inbound_of ending ≡ ReadFault)
 reads_counted f f' ending h = record {
@@ -32,51 +34,50 @@ reads_counted f f' ending h = record {
 }
 
 -- the same settings
-pub followed_as : (x y : Settings) → x ≡ y → (Heard : List StreamEvent → Type 0) (i i' : Input)
-    (ending : Ending Offence) → Follows (stream x) Heard i i' ending
-    → Follows (stream y) Heard i i' ending
-followed_as x y same Heard i i' ending h =
-    subst (λ (s : Settings). Follows (stream s) Heard i i' ending) same h
+pub followed_as : (x y : Settings) → x ≡ y → (Handled : List StreamEvent → Type 0) (i i' : Input)
+    (ending : FollowEnding Offence) → Follows (stream x) Handled i i' ending
+    → Follows (stream y) Handled i i' ending
+followed_as x y same Handled i i' ending h =
+    subst (λ (s : Settings). Follows (stream s) Handled i i' ending) same h
 
-module _ {K : Type 0} (written : K → Option (List ℕ)) (held : K → List ℕ) (faults : K → ℕ)
-    (may_want : K → Bool) (x : Answering) (first now : K) (outcome : Outcome)
-    (ending : Ending Offence) (is : outcome.inbound ≡ inbound_of ending) where
+module _ (x : Answering) (first now : SinkView) (outcome : Outcome) (ending : FollowEnding Offence)
+    (is : outcome.inbound ≡ inbound_of ending) where
   ending_is : ending ≡ ending_of outcome.inbound
   ending_is = sym (ap ending_of is ∙ ending_again ending)
 
   -- what was written of some events, as what was owed last came
   pub served : (xn : Answering) → xn ≡ x → (events : List StreamEvent)
       → outcome.messages ≡ messages_along 0 (map request_for events)
-      → Wrote written held faults may_want (replies xn) outcome.outbound (closing_of ending) first
+      → Wrote (replies xn) outcome.outbound (closing_of ending) first
       (map request_for events) (λ s. outcome.answers ≡ s.answers) now
-      → HasServed written held faults may_want x outcome first now events
+      → HasServed x outcome first now events
   served xn same events counts wrote = record {
     counted = counts;
-    wrote = subst (λ (e : Ending Offence). Wrote written held faults may_want (replies x)
+    wrote = subst (λ (e : FollowEnding Offence). Wrote (replies x)
         outcome.outbound (closing_of e) first (map request_for events)
         (λ s. outcome.answers ≡ s.answers) now) ending_is
-        (subst (λ (y : Answering). Wrote written held faults may_want (replies y)
+        (subst (λ (y : Answering). Wrote (replies y)
         outcome.outbound (closing_of ending) first (map request_for events)
         (λ s. outcome.answers ≡ s.answers) now) same wrote);
   }
 
-  module _ (endpoint : Option (List ℕ)) (i i' : Input) (Heard : List StreamEvent → Type 0)
-      (follows : Follows (stream (requests_to x endpoint)) Heard i i' ending)
-      (all : (events : List StreamEvent) → Heard events
-      → HasServed written held faults may_want x outcome first now events)
+  module _ (endpoint : Option (List ℕ)) (i i' : Input) (Handled : List StreamEvent → Type 0)
+      (follows : Follows (stream (requests_to x endpoint)) Handled i i' ending)
+      (all : (events : List StreamEvent) → Handled events
+      → HasServed x outcome first now events)
       (counted : CountsFaults i.faults i'.faults (ending ≡ endings.ReadFault)) where
-    some : (events : List StreamEvent) × Heard events
-    some = heard_some (stream (requests_to x endpoint)) Heard i i' ending follows
+    some : (events : List StreamEvent) × Handled events
+    some = handled_some (stream (requests_to x endpoint)) Handled i i' ending follows
 
-    pub serves : Serves written held faults may_want x endpoint i i' first now outcome
+    pub serves : Serves x endpoint i i' first now outcome
     serves = record {
-      follows = subst (λ (e : Ending Offence). Follows (stream (requests_to x endpoint))
-          (HasServed written held faults may_want x outcome first now) i i' e) ending_is
-          (follows_as (stream (requests_to x endpoint)) Heard
-          (HasServed written held faults may_want x outcome first now) i i' ending all follows);
+      follows = subst (λ (e : FollowEnding Offence). Follows (stream (requests_to x endpoint))
+          (HasServed x outcome first now) i i' e) ending_is
+          (follows_as (stream (requests_to x endpoint)) Handled
+          (HasServed x outcome first now) i i' ending all follows);
       reads_counted = subst (λ (v : Inbound). CountsFaults i.faults i'.faults (v ≡ ReadFault))
           (sym is) (reads_counted i.faults i'.faults ending counted);
-      writes_counted = writes_counted written held faults may_want (replies x) outcome.outbound
+      writes_counted = writes_counted (replies x) outcome.outbound
           (closing_of (ending_of outcome.inbound)) first (map request_for some.0)
           (λ s. outcome.answers ≡ s.answers) now (all some.0 some.1).wrote;
     }

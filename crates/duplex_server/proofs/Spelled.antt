@@ -6,7 +6,7 @@ use Rattle.nbfx_values.specs.declared.session.Mode.{Mode}
 use Rattle.nbfx_encoder.specs.declared.sender.SendState.{SendState, TheVariants.Ready}
 use Rattle.nbfx_encoder.specs.{Envelopes.envelope, Placing.Placed}
 use Rattle.nbfx_encoder.specs.{Sending.behind_message, Spelling.Unfit}
-use Rattle.duplex_server.specs.Owed.{first_fitting, when_ready}
+use Rattle.duplex_server.specs.{Jobs.if_fits, ServerStream.first_fitting, ServerStream.when_ready}
 use Rattle.duplex_server.specs.Spelling.{Spells, Tries}
 
 -- where a first try wasn't enough, and there was a second one
@@ -47,19 +47,15 @@ module _ (mode again : Mode) (old mid new : List ℕ) (before between behind : S
 
 -- where no first try was needed, since it can't be enough
 module _ (mode : Mode) (old new : List ℕ) (before behind : StringTable) (was moment : SendState)
-    (why : Unfit) (encoded other other' : Result (Placed (List ℕ)) Unfit) (same : other' ≡ other)
-    (ready : was ≡ Ready) (unwritten : encoded ≡ Err why) where
-  alone : (a : Result (Placed (List ℕ)) Unfit) → other' ≡ a
-      → when_ready was (first_fitting encoded other) ≡ first_fitting (Err why) a
-  alone a is =
-      ap (λ m. when_ready m (first_fitting encoded other)) ready
-      ∙ ap (λ e. first_fitting e other) unwritten
-      ∙ ap (λ e. first_fitting (Err why) e) (sym same ∙ is)
+    (other other' : Result (Placed (List ℕ)) Unfit) (same : other' ≡ other) (ready : was ≡ Ready)
+  where
+    alone : (a : Result (Placed (List ℕ)) Unfit) → other' ≡ a
+        → when_ready was (if_fits other) ≡ if_fits a
+    alone a is = ap (λ m. when_ready m (if_fits other)) ready ∙ ap if_fits (sym same ∙ is)
 
-  pub only_try : (result : Result Bool Memory)
-      → Tries mode old new before behind was moment other' result
-      → Spells mode old new before behind was moment (when_ready was (first_fitting encoded other))
-      result
-  only_try (Ok true) h = (h.0, alone (Ok h.0) h.1, h.2)
-  only_try (Ok false) h = (alone (Err h.0) h.1, h.2)
-  only_try (Err memory) h = tt
+    pub only_try : (result : Result Bool Memory)
+        → Tries mode old new before behind was moment other' result
+        → Spells mode old new before behind was moment (when_ready was (if_fits other)) result
+    only_try (Ok true) h = (h.0, alone (Ok h.0) h.1, h.2)
+    only_try (Ok false) h = (alone (Err h.0) h.1, h.2)
+    only_try (Err memory) h = tt

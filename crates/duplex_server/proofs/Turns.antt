@@ -1,13 +1,15 @@
 -- One more connection behind others.
-use Rattle.std.proofs.Common.{◌≡◌, ℕ, ◌+◌, Bool, List, [], ◌∷◌, ◌++◌, map, IfSome, Some, None}
+use Rattle.std.proofs.Common.{◌≡◌, ℕ, ◌+◌, List, [], ◌∷◌, ◌++◌, map, IfSome, Some, None}
 use Rattle.std.proofs.Common.{Option, sym, refl, ap, ◌∙◌, subst, append_assoc, append-nil, arith}
 use Rattle.std.proofs.lemmas.List.{map-append, Elements.All-nil, Elements.All-push}
 use Rattle.io_edges.specs.{Flow.Told, Wires.added_up, Wires.Fresh, Wires.Network}
-use Rattle.duplex_server.specs.{declared.outcome.Outcome.Outcome, Owed.Answering}
+use Rattle.duplex_server.specs.{declared.outcome.Outcome.Outcome, ServerStream.Answering}
 use Rattle.duplex_server.specs.{Along.ServesOne, Serving.Serves}
-use Rattle.duplex_server.specs.Served.{AreNew, Connection, Ends, ends_at, faults_along, HoldNothing}
+use Rattle.duplex_server.specs.Served.{Connection, Ends, ends_at, faults_along}
 use Rattle.duplex_server.specs.Served.{IsServed, moved, ServesEach, told_pair, with_faults}
 use Rattle.duplex_server.proofs.Meeting.{is_served, met, pair_told}
+use Rattle.io_edges.specs.Views.{SinkView}
+use Rattle.stream_loop.specs.Edges.{AreNew}
 
 -- what the ends of ended connections left
 abbrev Pairs : Type 0
@@ -22,7 +24,7 @@ fresh_before (Some before) None P told is fresh = absurd is
 fresh_before (Some before) (Some now) P told is fresh = fresh
 
 new_before : (before now : Option Pairs) (P : Pairs → Pairs → Type 0) (ends : Ends)
-    → Told before now P → AreNew now ends → AreNew before ends
+    → Told before now P → AreNew now ends.input ends.sink → AreNew before ends.input ends.sink
 new_before before now P ends is new = record {
   unread = new.unread;
   nothing_taken = fresh_before before now P ends.input.taken is new.nothing_taken;
@@ -102,7 +104,7 @@ module _ (x : Answering) (endpoint : Option (List ℕ)) {R K : Type 0} (seen : R
   unfolding faults_along
   each_none n = record {
     handed = hands_none seen n.waiting;
-    served = All-nil (IsServed x endpoint (HoldNothing seen) n.closed);
+    served = All-nil (IsServed x endpoint n.closed);
     closed = leaves_none n.closed;
     end_faults = refl;
     out = refl;
@@ -115,19 +117,16 @@ module _ (x : Answering) (endpoint : Option (List ℕ)) {R K : Type 0} (seen : R
         → ServesEach x endpoint seen (connections ++ c ∷ []) n n'
     each_more c one = record {
       handed = hands_more seen connections c n.waiting mid.waiting n'.waiting h.handed one.handed;
-      served = All-push (IsServed x endpoint (HoldNothing seen) n.closed) connections c h.served
-          (record {
-            begins = new_before n.closed mid.closed (Leaves connections) c.handed h.closed
-                one.served.begins;
-            judged = one.served.judged;
-            written = one.served.written;
-            follows = one.served.follows;
-            reads_counted = one.served.reads_counted;
-            writes_counted = one.served.writes_counted;
-            read_fault = one.served.read_fault;
-            write_fault = one.served.write_fault;
-            nothing_held = one.served.nothing_held;
-          });
+      served = All-push (IsServed x endpoint n.closed) connections c h.served (record {
+        begins = new_before n.closed mid.closed (Leaves connections) c.handed h.closed
+            one.served.begins;
+        judged = one.served.judged;
+        written = one.served.written;
+        serves = one.served.serves;
+        read_fault = one.served.read_fault;
+        write_fault = one.served.write_fault;
+        nothing_held = one.served.nothing_held;
+      });
       closed = leaves_more connections c n.closed mid.closed n'.closed h.closed one.closed;
       end_faults = one.end_faults ∙ ap (λ (count : ℕ). with_faults count c) h.end_faults
           ∙ sym (faults_along-push n.end_faults connections c);
@@ -136,77 +135,75 @@ module _ (x : Answering) (endpoint : Option (List ℕ)) {R K : Type 0} (seen : R
 
 -- a connection that was handed out, served and closed, by what the wire and its ends tell
 module _ (x : Answering) (endpoint : Option (List ℕ)) {R K : Type 0}
-    (left taken : R → Option (List ℕ)) (reads empty_takes : R → ℕ)
-    (written : K → Option (List ℕ)) (held : K → List ℕ) (writes : K → ℕ) (may_want : K → Bool)
-  where
-    abbrev seen_of : R × K → Ends
-    seen_of = ends_at left taken reads empty_takes written held writes
+    (left taken : R → Option (List ℕ)) (reads empty_takes : R → ℕ) (view : K → SinkView) where
+  abbrev seen_of : R × K → Ends
+  seen_of = ends_at left taken reads empty_takes view
 
-    -- what closing adds
-    abbrev Closes : (ends : R × K) → Pairs → Pairs → Type 0
-    Closes ends before after = IfSome (taken ends.0) (λ t. IfSome (written ends.1) (λ w.
-        after ≡ before ++ (t, w) ∷ []))
+  -- what closing adds
+  abbrev Closes : (ends : R × K) → Pairs → Pairs → Type 0
+  Closes ends before after = IfSome (taken ends.0) (λ t. IfSome (view ends.1).written (λ w.
+      after ≡ before ++ (t, w) ∷ []))
 
-    pair_closed : (taken written : Option (List ℕ)) (pair : List ℕ × List ℕ)
-        (before after : Pairs) → told_pair pair ≡ (taken, written)
-        → IfSome taken (λ t. IfSome written (λ w. after ≡ before ++ (t, w) ∷ []))
-        → after ≡ before ++ pair ∷ []
-    pair_closed taken written pair before after is closes =
-        let t : Some pair.0 ≡ taken =
-        ap (λ (p : Option (List ℕ) × Option (List ℕ)). p.0) is in
-        let w : Some pair.1 ≡ written =
-        ap (λ (p : Option (List ℕ) × Option (List ℕ)). p.1) is in
-        rw (← t, ← w) at closes
+  pair_closed : (taken written : Option (List ℕ)) (pair : List ℕ × List ℕ)
+      (before after : Pairs) → told_pair pair ≡ (taken, written)
+      → IfSome taken (λ t. IfSome written (λ w. after ≡ before ++ (t, w) ∷ []))
+      → after ≡ before ++ pair ∷ []
+  pair_closed taken written pair before after is closes =
+      let t : Some pair.0 ≡ taken =
+      ap (λ (p : Option (List ℕ) × Option (List ℕ)). p.0) is in
+      let w : Some pair.1 ≡ written =
+      ap (λ (p : Option (List ℕ) × Option (List ℕ)). p.1) is in
+      rw (← t, ← w) at closes
 
-    module _ (ends ends' : R × K) (outcome : Outcome)
-        (h : Serves written held writes may_want x endpoint (seen_of ends).input
-        (seen_of ends').input ends.1 ends'.1 outcome) where
-      abbrev one_met : Connection
-      one_met = met seen_of ends ends' outcome
+  module _ (ends ends' : R × K) (outcome : Outcome) (h : Serves x endpoint (seen_of ends).input
+      (seen_of ends').input (view ends.1) (view ends'.1) outcome) where
+    abbrev one_met : Connection
+    one_met = met seen_of ends ends' outcome
 
-      leaves_one : (u v : Option Pairs) → Fresh u (taken ends.0) → Fresh u (written ends.1)
-          → Told u v (Closes ends') → Told u v (LeavesOne one_met)
-      leaves_one None v t w closes = tt
-      leaves_one (Some u) None t w closes = absurd closes
-      leaves_one (Some u) (Some v) t w closes =
-          let p = pair_told x endpoint left taken reads empty_takes written held writes may_want
-          ends ends' outcome h t w in
-          (p.0, pair_closed (taken ends'.0) (written ends'.1) p.0 u v p.1 closes, p.1)
+    leaves_one : (u v : Option Pairs) → Fresh u (taken ends.0) → Fresh u (view ends.1).written
+        → Told u v (Closes ends') → Told u v (LeavesOne one_met)
+    leaves_one None v t w closes = tt
+    leaves_one (Some u) None t w closes = absurd closes
+    leaves_one (Some u) (Some v) t w closes =
+        let p = pair_told x endpoint left taken reads empty_takes view
+        ends ends' outcome h t w in
+        (p.0, pair_closed (taken ends'.0) (view ends'.1).written p.0 u v p.1 closes, p.1)
 
-      pub serves_one : (n mid n' : Network R K) → Told n.waiting mid.waiting (λ w w'. w ≡ ends ∷ w')
-          → mid.out ≡ n.out + 1
-          → (reads ends.0 ≡ 0) × Fresh n.closed (taken ends.0)
-          → (writes ends.1 ≡ 0) × Fresh n.closed (written ends.1) × (held ends.1 ≡ [])
-          → mid.faults ≡ n.faults
-          → (mid.closed ≡ n.closed) × (mid.end_faults ≡ n.end_faults)
-          → Told mid.closed n'.closed (Closes ends') → mid.out ≡ n'.out + 1
-          → n'.waiting ≡ mid.waiting
-          → n'.end_faults ≡ added_up mid.end_faults (reads ends'.0) (writes ends'.1)
-          → n'.faults ≡ mid.faults
-          → ServesOne x endpoint seen_of n n' one_met
-      serves_one n mid n' handed out reader writer still ended closes back waiting counted kept =
-          record {
-            handed = subst (λ (w : Option (List (R × K))). Told n.waiting w
-                (HandsOne seen_of one_met)) (sym waiting)
-                (handed_so n.waiting mid.waiting handed);
-            served = is_served x endpoint left taken reads empty_takes written held writes may_want
-                ends ends' outcome h n.closed (record {
-                  unread = reader.0;
-                  nothing_taken = reader.1;
-                  unwritten = writer.0;
-                  nothing_written = writer.1;
-                  nothing_held = writer.2;
-                });
-            closed = leaves_one n.closed n'.closed reader.1 writer.1
-                (subst (λ (w : Option Pairs). Told w n'.closed (Closes ends')) ended.0 closes);
-            end_faults = counted ∙ ap (λ (k : ℕ). added_up k (reads ends'.0) (writes ends'.1))
-                ended.1;
-            out = omega (arith, out, back);
-            faults = kept ∙ still;
-          }
-        where
-          handed_so : (u v : Option (List (R × K))) → Told u v (λ w w'. w ≡ ends ∷ w')
-              → Told u v (HandsOne seen_of one_met)
-          handed_so None v p = tt
-          handed_so (Some u) None p = absurd p
-          handed_so (Some u) (Some v) p = (ends, p, refl)
+    pub serves_one : (n mid n' : Network R K) → Told n.waiting mid.waiting (λ w w'. w ≡ ends ∷ w')
+        → mid.out ≡ n.out + 1
+        → (reads ends.0 ≡ 0) × Fresh n.closed (taken ends.0)
+        → ((view ends.1).faults ≡ 0) × Fresh n.closed (view ends.1).written
+        × ((view ends.1).held ≡ [])
+        → mid.faults ≡ n.faults
+        → (mid.closed ≡ n.closed) × (mid.end_faults ≡ n.end_faults)
+        → Told mid.closed n'.closed (Closes ends') → mid.out ≡ n'.out + 1
+        → n'.waiting ≡ mid.waiting
+        → n'.end_faults ≡ added_up mid.end_faults (reads ends'.0) (view ends'.1).faults
+        → n'.faults ≡ mid.faults
+        → ServesOne x endpoint seen_of n n' one_met
+    serves_one n mid n' handed out reader writer still ended closes back waiting counted kept =
+        record {
+          handed = subst (λ (w : Option (List (R × K))). Told n.waiting w
+              (HandsOne seen_of one_met)) (sym waiting)
+              (handed_so n.waiting mid.waiting handed);
+          served = is_served x endpoint left taken reads empty_takes view
+              ends ends' outcome h n.closed (record {
+                unread = reader.0;
+                nothing_taken = reader.1;
+                unwritten = writer.0;
+                nothing_written = writer.1;
+                nothing_held = writer.2;
+              });
+          closed = leaves_one n.closed n'.closed reader.1 writer.1
+              (subst (λ (w : Option Pairs). Told w n'.closed (Closes ends')) ended.0 closes);
+          end_faults = counted ∙ ap (λ (k : ℕ). added_up k (reads ends'.0) (view ends'.1).faults)
+              ended.1;
+          out = omega (arith, out, back);
+          faults = kept ∙ still;
+        }
+      where
+        handed_so : (u v : Option (List (R × K))) → Told u v (λ w w'. w ≡ ends ∷ w')
+            → Told u v (HandsOne seen_of one_met)
+        handed_so None v p = tt
+        handed_so (Some u) None p = absurd p
+        handed_so (Some u) (Some v) p = (ends, p, refl)

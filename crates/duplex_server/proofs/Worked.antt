@@ -7,7 +7,7 @@ use Rattle.nbfx_values.specs.Limits.{Limits, usual_limits}
 use Rattle.stream_reader.proofs.OnLiterals.{streams_on_literals}
 use Rattle.soap_envelope.proofs.OnLiterals.{envelopes_on_literals}
 use Rattle.action_dispatch.specs.{Answers.Serves, Services.echoed}
-use Rattle.duplex_server.specs.Owed.{answering, owed}
+use Rattle.duplex_server.specs.ServerStream.{answering, owed}
 
 unfoldable owed_on_literals : ⊤
 unfolding streams_on_literals encode_utf8 shortest shortest_within string_bytes_of

@@ -2,9 +2,10 @@
 use Rattle.std.specs.Prelude.{◌≡◌, ℕ, List, [], ◌∷◌, ◌++◌, map, length, Some, None, Ok, Err, Option}
 use Rattle.std.specs.Prelude.{Result, ⊤}
 use Rattle.io_edges.specs.{declared.Failed.Failed, Faults.CountsFaults, Flow.Told, Wires.Network}
-use Rattle.duplex_server.specs.{declared.outcome.Outcome.Outcome, Owed.Answering}
-use Rattle.duplex_server.specs.Served.{Connection, Ends, held_behind, HoldNothing, IsServed, moved}
+use Rattle.duplex_server.specs.{declared.outcome.Outcome.Outcome, ServerStream.Answering}
+use Rattle.duplex_server.specs.Served.{Connection, Ends, held_behind, IsServed, moved}
 use Rattle.duplex_server.specs.Served.{ServesEach, told_pair, with_faults, WritesAll}
+use Rattle.io_edges.specs.Views.{SinkView}
 
 module _ (x : Answering) (endpoint : Option (List ℕ)) {R K : Type 0} (seen : R × K → Ends)
     (n n' : Network R K) where
@@ -12,7 +13,7 @@ module _ (x : Answering) (endpoint : Option (List ℕ)) {R K : Type 0} (seen : R
   pub record ServesOne (c : Connection) : Type 0 where
     pub handed : Told n.waiting n'.waiting (λ before after. (ends : R × K)
         × (before ≡ ends ∷ after) × (seen ends ≡ c.handed))
-    pub served : IsServed x endpoint (HoldNothing seen) n.closed c
+    pub served : IsServed x endpoint n.closed c
     pub closed : Told n.closed n'.closed (λ before after. (pair : List ℕ × List ℕ)
         × (after ≡ before ++ pair ∷ []) × (told_pair pair ≡ moved c))
     pub end_faults : n'.end_faults ≡ with_faults n.end_faults c
@@ -36,21 +37,18 @@ module _ (x : Answering) (endpoint : Option (List ℕ)) {R K : Type 0} (seen : R
   ServesNext (Err failed) = ServesNone ⊤
 
 -- The lines of these connections are written to a sink, which was like the first and is like this
--- now.
-pub record HasLines {K : Type 0} (written : K → Option (List ℕ)) (held : K → List ℕ)
-    (faults : K → ℕ) (first now : K) (outcomes : List Outcome) : Type 0 where
-  pub lines : Told (written first) (written now) (WritesAll (held first) outcomes)
-  pub held_is : held now ≡ held_behind (held first) outcomes
-  pub faults_are : faults now ≡ faults first
-  pub untouched : outcomes ≡ [] → now ≡ first
+-- now. Where there were none, `Same` is known of it.
+pub record HasLines (first now : SinkView) (Same : Type 0) (outcomes : List Outcome) : Type 0 where
+  pub lines : Told first.written now.written (WritesAll first.held outcomes)
+  pub held_is : now.held ≡ held_behind first.held outcomes
+  pub faults_are : now.faults ≡ first.faults
+  pub untouched : outcomes ≡ [] → Same
 
 -- so many connections were served, and their lines are written
-pub record IsAlong (x : Answering) (endpoint : Option (List ℕ)) {R K O : Type 0}
-    (seen : R × K → Ends) (written : O → Option (List ℕ)) (held : O → List ℕ) (faults : O → ℕ)
-    (n n' : Network R K) (first now : O) (count : ℕ) : Type 0 where
+pub record IsAlong (x : Answering) (endpoint : Option (List ℕ)) {R K : Type 0} (seen : R × K → Ends)
+    (n n' : Network R K) (first now : SinkView) (Same : Type 0) (count : ℕ) : Type 0 where
   pub connections : List Connection
   pub counted : length connections ≡ count
   pub each : ServesEach x endpoint seen connections n n'
   pub faults_are : n'.faults ≡ n.faults
-  pub lines : HasLines written held faults first now
-      (map (λ (c : Connection). c.outcome) connections)
+  pub lines : HasLines first now Same (map (λ (c : Connection). c.outcome) connections)

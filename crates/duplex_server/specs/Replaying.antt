@@ -6,10 +6,11 @@ use Rattle.{unit_streams.specs.Tellers.told_along, duplex_server.specs.Requests.
 use Rattle.stream_reader.specs.Stream.{stream, StreamEvent}
 use Rattle.stream_loop.specs.{declared.outbound.Outbound.Outbound, Followed.Follows}
 use Rattle.stream_loop.specs.declared.outbound.Outbound.TheVariants.{Done, WriteFault}
-use Rattle.stream_loop.specs.Edges.{Input, Output}
+use Rattle.stream_loop.specs.Edges.{Input}
 use Rattle.duplex_server.specs.declared.outcome.Inbound.{Inbound, TheVariants.ReadFault}
-use Rattle.duplex_server.specs.Owed.{Answering, owed, replies, requests_to, start}
+use Rattle.duplex_server.specs.ServerStream.{Answering, owed, replies, requests_to, start}
 use Rattle.duplex_server.specs.Serving.{closing_of, ending_of, Judges, WritesOwed}
+use Rattle.io_edges.specs.Views.{SinkView}
 
 module _ (x : Answering) where
   -- what is owed for these events, and at last
@@ -30,7 +31,7 @@ module _ (x : Answering) where
   -- that the input gives, where it tells that, how it is judged and what is written of it; what was
   -- read, and what is written of its events; and what the calls that failed by the outside left of
   -- the counts.
-  pub record Replays (endpoint : Option (List ℕ)) (i i' : Input) (o o' : Output)
+  pub record Replays (endpoint : Option (List ℕ)) (i i' : Input) (o o' : SinkView)
       (inbound : Inbound) (outbound : Outbound) : Type 0 where
     pub judged : (bytes : List ℕ) → i.left ≡ Some bytes → Judges x endpoint bytes inbound
     pub written : (bytes w : List ℕ) → i.left ≡ Some bytes → o.written ≡ Some w

@@ -1,5 +1,5 @@
 -- What answers requests, and what a file of actions on a shelf gives.
-use Rattle.std.specs.Prelude.{ℕ, List, Ok, Err, Option, Result}
+use Rattle.std.specs.Prelude.{ℕ, Bool, false, List, Ok, Err, Option, Result}
 use Rattle.io_edges.specs.{declared.fault.FileFault.FileFault, Store.Store}
 use Rattle.io_edges.specs.Files.{bad, Has, Reading, ShelfFile, whole}
 use Rattle.csv_rows.specs.Rows.{rows_of}
@@ -7,7 +7,7 @@ use Rattle.action_dispatch.specs.declared.fault.{ActionFault.ActionFault, Action
 use Rattle.action_dispatch.specs.{declared.service.BodyUse.BodyUse, Answers.Serves}
 use Rattle.action_dispatch.specs.declared.service.BodyUse.TheVariants.{Returned, Unused}
 use Rattle.action_dispatch.specs.Actions.{Fault, text_for, Texts as ActionTexts, texts_of}
-use Rattle.action_dispatch.specs.Services.{echoed, reply_with}
+use Rattle.action_dispatch.specs.Services.{echoed, is_text_above, reply_with}
 use Rattle.duplex_server.specs.declared.responding.Responder.{Responder}
 use Rattle.duplex_server.specs.declared.responding.Responder.TheVariants.{Echo, Texts}
 use Rattle.io_edges.specs.declared.fault.FileFault.TheVariants as faults
@@ -22,6 +22,11 @@ served_by (Texts texts) = λ action body. reply_with (text_for texts action)
 abbrev pub body_use_of : Responder → BodyUse
 body_use_of Echo = Returned
 body_use_of (Texts texts) = Unused
+
+-- whether it has a text for an action that alone counts more than a quota on content
+abbrev pub has_text_above : (quota : ℕ) → (action : List ℕ) → Responder → Bool
+has_text_above quota action Echo = false
+has_text_above quota action (Texts texts) = is_text_above quota (text_for texts action)
 
 -- what the rows of a file of actions say
 abbrev pub file_by : Result ActionTexts Fault → ShelfFile ActionTexts ActionKind

@@ -1,33 +1,35 @@
 -- What was read and written where a connection is served, however that ends.
-use Rattle.std.specs.Prelude.{◌≡◌, ℕ, Bool, List, [], ◌++◌, map, Some, None, Option, ⊤}
+use Rattle.std.specs.Prelude.{◌≡◌, ℕ, List, [], ◌++◌, map, Some, None, Option, ⊤}
 use Rattle.io_edges.specs.{Faults.CountsFaults, Flow.GrowsByPrefix}
 use Rattle.{unit_streams.specs.Judging.offence, nbfx_values.specs.declared.refusals.Offence.Offence}
 use Rattle.stream_reader.specs.Stream.{stream, StreamEvent}
-use Rattle.stream_loop.specs.declared.{following.Ending.Ending, outbound.Outbound.Outbound}
+use Rattle.stream_loop.specs.declared.{following.FollowEnding.FollowEnding}
+use Rattle.stream_loop.specs.declared.{outbound.Outbound.Outbound}
 use Rattle.stream_loop.specs.{Edges.Input, Followed.Follows, Writing.Wrote}
 use Rattle.receiver_machine.specs.Owed.{closing_bytes}
 use Rattle.duplex_server.specs.declared.outcome.Inbound.{Inbound, TheVariants.ReadFault}
 use Rattle.duplex_server.specs.declared.outcome.Inbound.TheVariants.{Ended, Memory, Offended}
 use Rattle.duplex_server.specs.{declared.outcome.Outcome.Outcome, Requests.request_for}
-use Rattle.duplex_server.specs.Owed.{Answering, messages_along, replies, requests_to}
-use Rattle.stream_loop.specs.declared.following.Ending.TheVariants as endings
+use Rattle.duplex_server.specs.ServerStream.{Answering, messages_along, replies, requests_to}
+use Rattle.io_edges.specs.Views.{SinkView}
+use Rattle.stream_loop.specs.declared.following.FollowEnding.TheVariants as endings
 use Rattle.stream_loop.specs.declared.outbound.Outbound.TheVariants as outbounds
 
 -- how the reading of a connection ended
-abbrev pub inbound_of : Ending Offence → Inbound
+abbrev pub inbound_of : FollowEnding Offence → Inbound
 inbound_of (endings.Judged None) = Ended
 inbound_of (endings.Judged (Some offence)) = Offended offence
 inbound_of endings.ReadFault = ReadFault
 inbound_of endings.Memory = Memory
 
-abbrev pub ending_of : Inbound → Ending Offence
+abbrev pub ending_of : Inbound → FollowEnding Offence
 ending_of Ended = endings.Judged None
 ending_of (Offended offence) = endings.Judged (Some offence)
 ending_of ReadFault = endings.ReadFault
 ending_of Memory = endings.Memory
 
 -- what is owed last: a session that isn't judged has no end
-abbrev pub closing_of : Ending Offence → List ℕ
+abbrev pub closing_of : FollowEnding Offence → List ℕ
 closing_of (endings.Judged refusal) = closing_bytes refusal
 closing_of endings.ReadFault = []
 closing_of endings.Memory = []
@@ -46,25 +48,26 @@ WritesOwed owed held w w' Ended outbounds.Done = w' ≡ w ++ held ++ owed
 WritesOwed owed held w w' (Offended o) outbounds.Done = w' ≡ w ++ held ++ owed
 WritesOwed owed held w w' inbound outbound = GrowsByPrefix w w' (held ++ owed)
 
-module _ {K : Type 0} (written : K → Option (List ℕ)) (held : K → List ℕ) (faults : K → ℕ)
-    (may_want : K → Bool) (x : Answering) where
+module _ (x : Answering) where
   -- The events of these requests were answered from when the sink was like the first, and it is
   -- like this now: all that is owed for them was written, and what is owed last, or the writing
-  -- ended at a part of it. The outcome counts the documents, and the answers that were put whole.
-  pub record HasServed (outcome : Outcome) (first now : K) (events : List StreamEvent) : Type 0
-    where
-      pub counted : outcome.messages ≡ messages_along 0 (map request_for events)
-      pub wrote : Wrote written held faults may_want (replies x) outcome.outbound
-          (closing_of (ending_of outcome.inbound)) first (map request_for events)
-          (λ s. outcome.answers ≡ s.answers) now
+  -- ended at what was due behind the first of the requests. The outcome counts the documents, and
+  -- all answers to these requests. Where the sink holds nothing back, what is due for these is
+  -- written whole, and of what was due next the first bytes, or none: so the answers that count are
+  -- written, and at most one more, whole or in part.
+  pub record HasServed (outcome : Outcome) (first now : SinkView) (events : List StreamEvent)
+      : Type 0 where
+    pub counted : outcome.messages ≡ messages_along 0 (map request_for events)
+    pub wrote : Wrote (replies x) outcome.outbound (closing_of (ending_of outcome.inbound)) first
+        (map request_for events) (λ s. outcome.answers ≡ s.answers) now
 
   -- What is known of a connection that was served, to the Via that is served alone, or to any: what
   -- was read of its stream, which events of it were answered, and what the calls that failed by the
   -- outside left of the counts of the source and of the sink.
-  pub record Serves (endpoint : Option (List ℕ)) (i i' : Input) (first now : K) (outcome : Outcome)
-      : Type 0 where
+  pub record Serves (endpoint : Option (List ℕ)) (i i' : Input) (first now : SinkView)
+      (outcome : Outcome) : Type 0 where
     pub follows : Follows (stream (requests_to x endpoint)) (HasServed outcome first now) i i'
         (ending_of outcome.inbound)
     pub reads_counted : CountsFaults i.faults i'.faults (outcome.inbound ≡ ReadFault)
-    pub writes_counted : CountsFaults (faults first) (faults now)
+    pub writes_counted : CountsFaults first.faults now.faults
         (outcome.outbound ≡ outbounds.WriteFault)

@@ -1,17 +1,11 @@
 -- What the spelling of an answer appends, and what it leaves of the sending half.
 use Rattle.std.specs.Prelude.{◌≡◌, ℕ, Bool, true, false, List, ◌++◌, Some, None, Ok, Err, Option}
 use Rattle.std.specs.Prelude.{Result, ⊤}
-use Rattle.{unit_streams.specs.declared.memory.Memory.Memory, least_payloads.specs.Least.may_fit}
+use Rattle.unit_streams.specs.declared.memory.Memory.{Memory}
 use Rattle.string_tables.specs.StringTable.{StringTable}
-use Rattle.nbfx_values.specs.{declared.content.Item.Item, declared.session.Mode.Mode, Limits.Limits}
+use Rattle.nbfx_values.specs.declared.session.Mode.{Mode}
 use Rattle.nbfx_encoder.specs.{declared.sender.SendState.SendState, Placing.Placed}
 use Rattle.nbfx_encoder.specs.{Envelopes.envelope, Sending.behind_message, Spelling.Unfit}
-
--- A document is the one that was made. If none was, it is one that isn't written, whatever strings
--- the session has.
-abbrev pub IsSaid : Limits → Option (List Item) → List Item → Type 0
-IsSaid limits (Some made) document = made ≡ document
-IsSaid limits None document = may_fit limits document ≡ false
 
 module _ (mode : Mode) (old new : List ℕ) (before behind : StringTable) (was moment : SendState)
   where

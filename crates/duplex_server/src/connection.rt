@@ -3,19 +3,21 @@
 ghost use Rattle.std.specs.Prelude.{◌≡◌, ◌<◌, ◌^◌, []};
 ghost use Rattle.nbfx_values.specs.QuotasOf.{limits_of};
 ghost use Rattle.stream_reader.specs.Sides.{endpoint_of};
-ghost use Rattle.duplex_server.specs.Owed.{answering};
+ghost use Rattle.duplex_server.specs.ServerStream.{answering};
 ghost use Rattle.duplex_server.specs.Along.{ServesNext};
 ghost use Rattle.io_edges.specs.Wires.{network_at};
 ghost use Rattle.duplex_server.specs.Served.{ends_at};
 
+use crate::beside::serve_two;
 use crate::outcome::Outcome;
-use crate::serving::serve_one;
 use action_dispatch::Service;
 use io_edges::{Failed, Sink, Wire};
 use nbfx_values::Quotas;
 use receiver_machine::Endpoint;
 use static_dictionary::StaticTable;
 use std::alloc::Global;
+use std::sync::Wait;
+use std::thread::Threads;
 
 /// How connections are answered: with which static strings, within which quotas, to which endpoint,
 /// and by which service.
@@ -34,7 +36,8 @@ pub struct Server<'a, V> {
 /// Takes the next connection, the one with this number, serves it and closes it. Answers what
 /// became of it, or `None` where no other will come. It fails where the accept met an I/O error. A
 /// connection may be long in coming, so the lines of those before have to have been written.
-pub fn serve_next<W: Wire, V: Service, O: Sink>(
+pub fn serve_next<R: Threads + Wait + Sync, W: Wire, V: Service, O: Sink>(
+    rt: &R,
     alloc: Global,
     server: &Server<'_, V>,
     wire: &mut W,
@@ -43,22 +46,22 @@ pub fn serve_next<W: Wire, V: Service, O: Sink>(
     output: &O,
 ) -> Result<Option<Outcome>, Failed>
     requires out { W.out wire.old < 2 ^ 63 }
-    requires left { 0 < number → O.held output.now ≡ [] }
+    requires left { 0 < number → (O.view output.now).held ≡ [] }
     ensures { ServesNext (answering (V.served server.now.service.now) server.now.statics.now
-        (limits_of server.now.quotas.now)) (endpoint_of server.now.endpoint.now)
-        (ends_at W.Reader.left W.Reader.taken W.Reader.faults W.Reader.empty_takes
-        W.Writer.written W.Writer.held W.Writer.faults)
+        (limits_of server.now.quotas.now)) (endpoint_of server.now.endpoint.now) (ends_at
+        W.Reader.left W.Reader.taken W.Reader.faults W.Reader.empty_takes W.Writer.view)
         (network_at W.waiting W.closed W.out W.faults W.end_faults wire.old)
         (network_at W.waiting W.closed W.out W.faults W.end_faults wire.new) result }
 {
     let Some(ends) = wire.accept(place)? else {
         return Ok(None);
     };
-    let (mut reader, mut writer) = ends;
-    let outcome = serve_one(
+    let (reader, writer) = ends;
+    let (outcome, reader, writer) = serve_two(
+        rt,
         alloc,
-        &mut reader,
-        &mut writer,
+        reader,
+        writer,
         server.statics,
         server.quotas,
         server.endpoint,

@@ -3,9 +3,8 @@
 ghost use Rattle.std.specs.Prelude.{◌≡◌, ◌<◌, ◌^◌, ◌⊎◌, Err, true};
 ghost use Rattle.io_edges.specs.Faults.{CountsFaults};
 ghost use Rattle.nbfx_values.specs.QuotasOf.{limits_of};
-ghost use Rattle.stream_loop.specs.Edges.{output_at};
 ghost use Rattle.stream_reader.specs.Sides.{endpoint_of};
-ghost use Rattle.duplex_server.specs.Owed.{answering};
+ghost use Rattle.duplex_server.specs.ServerStream.{answering};
 ghost use Rattle.io_edges.specs.Wires.{network_at};
 ghost use Rattle.duplex_server.specs.Served.{ServesAll, ends_at};
 
@@ -15,9 +14,12 @@ use crate::stopping::ServeFault;
 use action_dispatch::Service;
 use io_edges::{GatheringSink, Sink, Wire, gathering_room};
 use std::alloc::Global;
+use std::sync::Wait;
+use std::thread::Threads;
 
 // Serves connections, and writes the line of each before it takes the next.
-fn serve_each<W: Wire, O: Sink, V: Service>(
+fn serve_each<R: Threads + Wait + Sync, W: Wire, O: Sink, V: Service>(
+    rt: &R,
     alloc: Global,
     server: &Server<'_, V>,
     wire: &mut W,
@@ -27,17 +29,15 @@ fn serve_each<W: Wire, O: Sink, V: Service>(
 ) -> Result<(), ServeFault>
     requires { W.out wire.old < 2 ^ 63 }
     ensures served { ServesAll (answering (V.served server.now.service.now) server.now.statics.now
-        (limits_of server.now.quotas.now)) (endpoint_of server.now.endpoint.now)
-        (ends_at W.Reader.left W.Reader.taken W.Reader.faults W.Reader.empty_takes
-        W.Writer.written W.Writer.held W.Writer.faults) connections
+        (limits_of server.now.quotas.now)) (endpoint_of server.now.endpoint.now) (ends_at
+        W.Reader.left W.Reader.taken W.Reader.faults W.Reader.empty_takes W.Writer.view) connections
         (network_at W.waiting W.closed W.out W.faults W.end_faults wire.old)
-        (network_at W.waiting W.closed W.out W.faults W.end_faults wire.new)
-        (output_at O.written O.held O.faults output.old)
-        (output_at O.written O.held O.faults output.new) (output.new ≡ output.old) result }
-    ensures memory { result ≡ Err ServeFault.Memory → O.may_want output.old ≡ true }
+        (network_at W.waiting W.closed W.out W.faults W.end_faults wire.new) (O.view output.old)
+        (O.view output.new) (output.new ≡ output.old) result }
+    ensures memory { result ≡ Err ServeFault.Memory → (O.view output.old).may_run_out ≡ true }
 {
     for number in 0..connections {
-        let Some(outcome) = serve_next(alloc, server, wire, place, number, output)? else {
+        let Some(outcome) = serve_next(rt, alloc, server, wire, place, number, output)? else {
             return Ok(());
         };
         put_line(number, outcome, output)?;
@@ -45,8 +45,8 @@ fn serve_each<W: Wire, O: Sink, V: Service>(
     Ok(())
 }
 
-/// Serves at most so many connections that peers make to that place, one after the other, and
-/// writes the line of each to the output when it is over. It ends early where no other connection
+/// Serves at most so many connections that peers make to that place, one after the other, each on
+/// two threads, and writes the line of each to the output when it is over. It ends early where no other connection
 /// will come, which a wire over sockets never says. Answers with the output whether it failed
 /// before, and why.
 ///
@@ -54,7 +54,8 @@ fn serve_each<W: Wire, O: Sink, V: Service>(
 /// memory to answer it stops the server: only an accept that fails does, a line that can't be
 /// written, and lack of memory for the lines. That the peer learns of the end, and for how long
 /// what it still sends is read then, is up to the wire.
-pub fn serve_connections<W: Wire, O: Sink, V: Service>(
+pub fn serve_connections<R: Threads + Wait + Sync, W: Wire, O: Sink, V: Service>(
+    rt: &R,
     alloc: Global,
     server: &Server<'_, V>,
     wire: &mut W,
@@ -66,28 +67,26 @@ pub fn serve_connections<W: Wire, O: Sink, V: Service>(
     ensures out { W.out wire.new ≡ W.out wire.old }
     ensures wire_fault { CountsFaults (W.faults wire.old) (W.faults wire.new)
         (result.0 ≡ Err ServeFault.Wire) }
-    ensures output_fault { CountsFaults (O.faults output) (O.faults result.1)
+    ensures output_fault { CountsFaults (O.view output).faults (O.view result.1).faults
         (result.0 ≡ Err ServeFault.Output) }
 
     // Where the output can't run out of memory, no connection's want of memory stops the server: it
     // has asked for none then, and put nothing.
     ensures memory { result.0 ≡ Err ServeFault.Memory
-        → ((wire.new ≡ wire.old) × (result.1 ≡ output)) ⊎ (O.may_want output ≡ true) }
+        → ((wire.new ≡ wire.old) × (result.1 ≡ output)) ⊎ ((O.view output).may_run_out ≡ true) }
 
     // What was read and written on each connection, and what its line says.
     ensures served { ServesAll (answering (V.served server.now.service.now) server.now.statics.now
-        (limits_of server.now.quotas.now)) (endpoint_of server.now.endpoint.now)
-        (ends_at W.Reader.left W.Reader.taken W.Reader.faults W.Reader.empty_takes
-        W.Writer.written W.Writer.held W.Writer.faults) connections
+        (limits_of server.now.quotas.now)) (endpoint_of server.now.endpoint.now) (ends_at
+        W.Reader.left W.Reader.taken W.Reader.faults W.Reader.empty_takes W.Writer.view) connections
         (network_at W.waiting W.closed W.out W.faults W.end_faults wire.old)
-        (network_at W.waiting W.closed W.out W.faults W.end_faults wire.new)
-        (output_at O.written O.held O.faults output)
-        (output_at O.written O.held O.faults result.1) (result.1 ≡ output) result.0 }
+        (network_at W.waiting W.closed W.out W.faults W.end_faults wire.new) (O.view output)
+        (O.view result.1) (result.1 ≡ output) result.0 }
 {
     let Ok(room) = gathering_room(alloc) else {
         return (Err(ServeFault::Memory), output);
     };
     let mut lines = GatheringSink::new(room, output);
-    let served = serve_each(alloc, server, wire, place, connections, &mut lines);
+    let served = serve_each(rt, alloc, server, wire, place, connections, &mut lines);
     (served, lines.into_sink())
 }

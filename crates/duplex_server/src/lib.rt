@@ -2,17 +2,20 @@
 //! or as it was captured.
 //!
 //! The one idea: what a server writes is owed for what it reads, and is a function of the bytes and
-//! of the service alone. `specs/Owed.antt` has it as a fold over the history of an initiator's
+//! of the service alone. `specs/ServerStream` has it as a fold over the history of an initiator's
 //! stream: a Preamble Ack once the preamble was read, for each document the envelope of its answer,
 //! with the strings of the outgoing direction carried on from one to the next, and at last an End,
 //! or the Fault record of an offence. The two directions share no strings.
 //!
-//! [`serve_one`] does all of one connection on the calling thread: `stream_loop` reads,
-//! `action_dispatch` answers, and `nbfx_encoder` spells. Its contract is in `specs/Serving.antt`. A
-//! write that fails ends the writing and not the reading. [`replay_stream`] is that call where the
-//! bytes come from an input and the answers go to an output (`specs/Replaying.antt`). Both answer
-//! by a service, such as a [`Responder`]: the echo, or the texts that a file on a shelf has for
-//! actions (`specs/Responding.antt`).
+//! [`serve_one`] does all of one connection on the calling thread: `stream_loop` reads, an answerer
+//! asks the service and makes a job of each request that is owed something, and a writer of replies
+//! spells what its jobs ask for and writes it (`specs/Jobs.antt`). Its contract is in
+//! `specs/Serving.antt`. A write that fails ends the writing and not the reading. [`serve_two`] has
+//! the same contract, and has the writer of replies do its jobs on a second thread
+//! (`specs/TwoThreads.antt`). [`replay_stream`] is that call where the bytes come from an input and
+//! the answers go to an output (`specs/Replaying.antt`). All answer by a service, such as a
+//! [`Responder`]: the echo, or the texts that a file on a shelf has for actions
+//! (`specs/Responding.antt`).
 //!
 //! [`serve_connections`] serves one after the other, and what happens on a connection stays on it.
 //! Each is answered, closed, and reported by a line; then the next one is taken, whatever became of
@@ -24,19 +27,27 @@
 //! `specs/Lines.antt` what its line says.
 #![tactic(auto)]
 
+mod answerer;
+mod asking;
+mod beside;
 mod connection;
 mod connections;
-mod counting;
+mod following;
+mod jobs;
 mod lines;
 mod outcome;
 mod replaying;
 mod replier;
+mod reply_thread;
+mod reply_writer;
 mod requests;
 mod responding;
 mod serving;
 mod spelling;
+mod spent_docs;
 mod stopping;
 
+pub use beside::serve_two;
 pub use connection::Server;
 pub use connections::serve_connections;
 pub use outcome::{Inbound, Outcome};

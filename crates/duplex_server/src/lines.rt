@@ -22,7 +22,7 @@ fn outbound_word(outbound: Outbound) -> &'static str
 
 // Puts the number of a connection and what it counted.
 fn put_counts<K: Sink>(number: u32, outcome: Outcome, output: &mut K) -> Result<(), SinkFault>
-    ensures { Puts K.written K.held K.faults K.may_want output.old output.new
+    ensures { Puts (K.view output.old) (K.view output.new)
         (codes "connection " ++ (decimal number ++ (codes " messages "
         ++ (decimal outcome.messages ++ (codes " answers " ++ (decimal outcome.answers
         ++ codes " in ")))))) result }
@@ -41,8 +41,7 @@ fn put_counts<K: Sink>(number: u32, outcome: Outcome, output: &mut K) -> Result<
 
 // Puts how the reading of a connection ended.
 fn put_inbound<K: Sink>(inbound: Inbound, output: &mut K) -> Result<(), SinkFault>
-    ensures { Puts K.written K.held K.faults K.may_want output.old output.new
-        (inbound_word inbound) result }
+    ensures { Puts (K.view output.old) (K.view output.new) (inbound_word inbound) result }
 {
     match inbound {
         Inbound::Ended => put_plain("ended", output),
@@ -56,7 +55,7 @@ fn put_inbound<K: Sink>(inbound: Inbound, output: &mut K) -> Result<(), SinkFaul
 
 // Puts the words of how a connection ended.
 fn put_ends<K: Sink>(outcome: Outcome, output: &mut K) -> Result<(), SinkFault>
-    ensures { Puts K.written K.held K.faults K.may_want output.old output.new
+    ensures { Puts (K.view output.old) (K.view output.new)
         (inbound_word outcome.inbound ++ (codes " out "
         ++ (outbound_word outcome.outbound ++ codes "\n"))) result }
 {
@@ -72,9 +71,9 @@ fn put_ends<K: Sink>(outcome: Outcome, output: &mut K) -> Result<(), SinkFault>
 /// Puts the line of the connection with this number, and writes what the output holds. It fails as
 /// the output does.
 pub fn put_line<K: Sink>(number: u32, outcome: Outcome, output: &mut K) -> Result<(), SinkFault>
-    ensures puts { Puts K.written K.held K.faults K.may_want output.old output.new
-        (connection_line number outcome) result }
-    ensures emptied { K.held output.new ≡ [] }
+    ensures puts { Puts (K.view output.old) (K.view output.new) (connection_line number outcome)
+        result }
+    ensures emptied { (K.view output.new).held ≡ [] }
 {
     put_counts(number, outcome, output)?;
     put_ends(outcome, output)?;

@@ -1,19 +1,21 @@
 //! A session that is answered from an input to an output.
 
 ghost use Rattle.nbfx_values.specs.QuotasOf.{limits_of};
-ghost use Rattle.stream_loop.specs.Edges.{input_at, output_at};
+ghost use Rattle.stream_loop.specs.Edges.{input_at};
 ghost use Rattle.stream_reader.specs.Sides.{endpoint_of};
-ghost use Rattle.duplex_server.specs.Owed.{answering};
+ghost use Rattle.duplex_server.specs.ServerStream.{answering};
 ghost use Rattle.duplex_server.specs.Replaying.{Replays};
 
+use crate::beside::serve_two;
 use crate::outcome::Inbound;
-use crate::serving::serve_one;
 use action_dispatch::Service;
 use io_edges::{Sink, Source};
 use nbfx_values::Quotas;
 use receiver_machine::Endpoint;
 use static_dictionary::StaticTable;
 use std::alloc::Global;
+use std::sync::Wait;
+use std::thread::Threads;
 use stream_loop::Outbound;
 
 /// What became of a session that was answered.
@@ -26,36 +28,30 @@ pub struct Replayed {
 }
 
 /// Answers the initiator's stream that the input gives, to this endpoint and within the quotas, by
-/// a service, and writes the receiver's stream to the output. What is owed for the bytes that were
-/// read is written before more of them are read. Answers what became of it, with the output.
-pub fn replay_stream<I: Source, O: Sink, V: Service>(
+/// a service, and writes the receiver's stream to the output, as [`serve_two`] does: what is owed for
+/// the bytes that were read is written while more of them are read. Answers what became of it, with
+/// the input and the output.
+pub fn replay_stream<R: Threads + Wait + Sync, I: Source + Drop, O: Sink + Send + Drop, V: Service>(
+    rt: &R,
     alloc: Global,
     endpoint: &Endpoint,
     service: &V,
     statics: &StaticTable,
     quotas: &Quotas,
-    input: &mut I,
-    mut output: O,
-) -> (Replayed, O)
+    input: I,
+    output: O,
+) -> (Replayed, I, O)
     ensures { Replays (answering (V.served service.now) statics.now (limits_of quotas.now))
-        (endpoint_of endpoint.now)
-        (input_at I.left I.taken I.faults I.empty_takes input.old)
-        (input_at I.left I.taken I.faults I.empty_takes input.new)
-        (output_at O.written O.held O.faults output)
-        (output_at O.written O.held O.faults result.1) result.0.inbound result.0.outbound }
+        (endpoint_of endpoint.now) (input_at I.left I.taken I.faults I.empty_takes input)
+        (input_at I.left I.taken I.faults I.empty_takes result.1) (O.view output) (O.view result.2)
+        result.0.inbound result.0.outbound }
 {
-    let outcome = serve_one(
-        alloc,
-        input,
-        &mut output,
-        statics,
-        quotas,
-        endpoint,
-        service,
+    let (outcome, input, output) = serve_two(
+        rt, alloc, input, output, statics, quotas, endpoint, service,
     );
     let replayed = Replayed {
         inbound: outcome.inbound,
         outbound: outcome.outbound,
     };
-    (replayed, output)
+    (replayed, input, output)
 }

@@ -41,7 +41,7 @@ fn request_in(step: Step) -> Option<Request>
     }
 }
 
-/// Reads an initiator's stream.
+/// Reads an initiator's stream (MC-NMF), whose events are requests.
 #[derive(Drop)]
 pub struct RequestReader<'s> {
     receiver: Receiver<'s>,
@@ -119,7 +119,7 @@ impl<'s> ReadingEnd for RequestReader<'s> {
         }
     }
 
-    fn hand_back(&mut self, event: Request) {
+    fn recycle(&mut self, event: Request) {
         if let Request::Received(doc) = event {
             self.receiver.reuse(doc);
         }

@@ -1,9 +1,11 @@
 //! The service that answers requests, by a file of actions or without one.
 
-ghost use Rattle.std.specs.Prelude.{◌≡◌, ℕ, ◌≤◌, IfOk, IfErr, IsErrOf};
+ghost use Rattle.std.specs.Prelude.{◌≡◌, ℕ, ◌≤◌, IfOk, IfErr, IsErrOf, true};
 ghost use Rattle.io_edges.specs.Faults.{CountsFaults, one_more};
 ghost use Rattle.io_edges.specs.Files.{Tells};
-ghost use Rattle.duplex_server.specs.Responding.{GivesTexts, body_use_of, file_fault, reading_actions};
+ghost use Rattle.nbfx_values.specs.QuotasOf.{limits_of};
+ghost use Rattle.action_dispatch.specs.Services.{RepliesTooMuch};
+ghost use Rattle.duplex_server.specs.Responding.{GivesTexts, body_use_of, file_fault, has_text_above, reading_actions};
 
 use action_dispatch::{
     ActionFault, ActionKind, BodyUse, EchoService, Served, Service, TableService,
@@ -36,9 +38,13 @@ impl Service for Responder {
         }
     }
 
-    fn is_too_large(&self, quotas: &Quotas, action: &str) -> bool {
+    fn is_too_large(&self, quotas: &Quotas, action: &str) -> bool
+        ensures unfit { result ≡ true
+            → RepliesTooMuch (limits_of quotas.now) (served_by self.now) action.now }
+        ensures above { result ≡ has_text_above quotas.now.content action.now self.now }
+    {
         match self {
-            Responder::Echo => EchoService.is_too_large(quotas, action),
+            Responder::Echo => false,
             Responder::Texts(table) => table.is_too_large(quotas, action),
         }
     }

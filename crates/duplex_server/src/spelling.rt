@@ -1,16 +1,14 @@
 //! How the envelope of an answer is spelled.
 
-ghost use Rattle.std.specs.Prelude.{◌≡◌, ⊤, List, IfOk, OnErr, false};
+ghost use Rattle.std.specs.Prelude.{◌≡◌, ⊤, IfOk, OnErr, Some, None, false};
 ghost use Rattle.std.specs.Option.{option_copied};
-ghost use Rattle.nbfx_values.specs.declared.content.Item.{Item};
-ghost use Rattle.least_payloads.specs.Least.{may_fit};
 ghost use Rattle.nbfx_encoder.specs.Sending.{KeepsSettings, kind_in, limits_in, mode_in, names_in};
 ghost use Rattle.nbfx_encoder.specs.Sending.{state_in};
 ghost use Rattle.nbfx_encoder.specs.Spelling.{encoded};
 ghost use Rattle.soap_envelope.specs.Making.{AreTexts};
-ghost use Rattle.action_dispatch.specs.Refusals.{unfit_fault};
-ghost use Rattle.duplex_server.specs.Owed.{first_fitting, when_ready};
-ghost use Rattle.duplex_server.specs.Spelling.{IsSaid, Spells, Tries};
+ghost use Rattle.duplex_server.specs.Jobs.{fitting};
+ghost use Rattle.duplex_server.specs.ServerStream.{when_ready};
+ghost use Rattle.duplex_server.specs.Spelling.{Spells, Tries};
 
 use action_dispatch::unfit_doc;
 use nbfx_encoder::{EncodeFault, SendFault, SendState, Sender};
@@ -55,10 +53,8 @@ fn spell_made(
     requires { AreTexts relates }
     ensures spells { Spells (mode_in sender.old) out.old.items out.new.items
         (names_in sender.old) (names_in sender.new) (state_in sender.old) (state_in sender.new)
-        (when_ready (state_in sender.old) (first_fitting
-        (encoded (limits_in sender.old) (kind_in sender.old) (names_in sender.old) doc.now)
-        (encoded (limits_in sender.old) (kind_in sender.old) (names_in sender.old)
-        (unfit_fault relates)))) result }
+        (when_ready (state_in sender.old) (fitting (limits_in sender.old) (kind_in sender.old)
+        (names_in sender.old) (Some doc.now) relates)) result }
     ensures unchanged { OnErr result (out.new.items ≡ out.old.items) }
     ensures kept { KeepsSettings sender.old sender.new }
 {
@@ -81,13 +77,10 @@ fn spell_unmade(
     out: &mut Vec<u8>,
 ) -> Result<bool, Memory>
     requires { AreTexts relates }
-    ensures spells { (document : List Item) → may_fit (limits_in sender.old) document ≡ false
-        → Spells (mode_in sender.old) out.old.items out.new.items
+    ensures spells { Spells (mode_in sender.old) out.old.items out.new.items
         (names_in sender.old) (names_in sender.new) (state_in sender.old) (state_in sender.new)
-        (when_ready (state_in sender.old) (first_fitting
-        (encoded (limits_in sender.old) (kind_in sender.old) (names_in sender.old) document)
-        (encoded (limits_in sender.old) (kind_in sender.old) (names_in sender.old)
-        (unfit_fault relates)))) result }
+        (when_ready (state_in sender.old) (fitting (limits_in sender.old) (kind_in sender.old)
+        (names_in sender.old) None relates)) result }
     ensures unchanged { OnErr result (out.new.items ≡ out.old.items) }
     ensures kept { KeepsSettings sender.old sender.new }
 {
@@ -109,14 +102,10 @@ pub fn spell_answer(
     out: &mut Vec<u8>,
 ) -> Result<bool, Memory>
     requires { AreTexts relates }
-    ensures spells { (document : List Item)
-        → IsSaid (limits_in sender.old) (option_copied doc.entry) document
-        → Spells (mode_in sender.old) out.old.items out.new.items
+    ensures spells { Spells (mode_in sender.old) out.old.items out.new.items
         (names_in sender.old) (names_in sender.new) (state_in sender.old) (state_in sender.new)
-        (when_ready (state_in sender.old) (first_fitting
-        (encoded (limits_in sender.old) (kind_in sender.old) (names_in sender.old) document)
-        (encoded (limits_in sender.old) (kind_in sender.old) (names_in sender.old)
-        (unfit_fault relates)))) result }
+        (when_ready (state_in sender.old) (fitting (limits_in sender.old) (kind_in sender.old)
+        (names_in sender.old) (option_copied doc.entry) relates)) result }
     ensures unchanged { OnErr result (out.new.items ≡ out.old.items) }
     ensures kept { KeepsSettings sender.old sender.new }
 {

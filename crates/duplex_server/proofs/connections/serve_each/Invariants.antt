@@ -1,6 +1,6 @@
 use Rattle.{std.proofs.Common.◌≡◌, io_edges.specs.Wires.network_at}
 use Rattle.{nbfx_values.specs.QuotasOf.limits_of, stream_reader.specs.Sides.endpoint_of}
-use Rattle.duplex_server.specs.{Along.IsAlong, Owed.answering, Served.ends_at}
+use Rattle.duplex_server.specs.{Along.IsAlong, ServerStream.answering, Served.ends_at}
 use Rattle.duplex_server.proofs.connections.serve_each.Given as goal
 
 abbrev pub invariant-loop-number : goal.invariant-loop-number
@@ -9,10 +9,10 @@ invariant-loop-number g l =
     let w = g.W.Writer.Sink in
     IsAlong (answering (g.V.Service.served l.fn.server.service.now) l.fn.server.statics.now
     (limits_of l.fn.server.quotas.now)) (endpoint_of l.fn.server.endpoint.now)
-    (ends_at r.left r.taken r.faults r.empty_takes w.written w.held w.faults)
-    g.O.Sink.written g.O.Sink.held g.O.Sink.faults
+    (ends_at r.left r.taken r.faults r.empty_takes w.view)
     (network_at g.W.Wire.waiting g.W.Wire.closed g.W.Wire.out g.W.Wire.faults
     g.W.Wire.end_faults l.fn.wire)
     (network_at g.W.Wire.waiting g.W.Wire.closed g.W.Wire.out g.W.Wire.faults
-    g.W.Wire.end_faults l.wire) l.fn.output l.output l.number
-    × (g.O.Sink.may_want l.output ≡ g.O.Sink.may_want l.fn.output)
+    g.W.Wire.end_faults l.wire) (g.O.Sink.view l.fn.output) (g.O.Sink.view l.output)
+    (l.output ≡ l.fn.output) l.number
+    × ((g.O.Sink.view l.output).may_run_out ≡ (g.O.Sink.view l.fn.output).may_run_out)

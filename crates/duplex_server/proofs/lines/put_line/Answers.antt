@@ -1,5 +1,5 @@
 use Rattle.{std.proofs.lemmas.Result.err_from_is_err_and, duplex_server.proofs.Wording.line_is}
-use Rattle.io_edges.proofs.Putting.{PutsAll-cut, PutsAll-then}
+use Rattle.io_edges.proofs.Putting.{Puts-cut, Puts-then}
 use Rattle.stream_loop.proofs.Writing.{after_flush}
 use Rattle.duplex_server.proofs.lines.put_line.Goals as goal
 
@@ -7,18 +7,17 @@ pub returns-in_err-put_counts-clause-puts : goal.returns-in_err-put_counts-claus
 returns-in_err-put_counts-clause-puts g c =
     let r = err_from_is_err_and c.from_residual.result c.from_residual.ensures.1 in
     rw (r.1, r.2, line_is c.args.number c.args.outcome)
-    (PutsAll-cut _ c.in_err-put_counts.ensures)
+    (Puts-cut _ c.in_err-put_counts.ensures)
 
 pub returns-in_err-put_ends-clause-puts : goal.returns-in_err-put_ends-clause-puts
 returns-in_err-put_ends-clause-puts g c =
     let f = c.from_residual-in_err-put_ends in
     let r = err_from_is_err_and f.result f.ensures.1 in
     rw (r.1, r.2, line_is c.args.number c.args.outcome)
-    (PutsAll-then _ c.in_ok-put_counts.ensures c.in_err-put_ends.ensures)
+    (Puts-then _ c.in_ok-put_counts.ensures c.in_err-put_ends.ensures)
 
 pub returns-clause-puts : goal.returns-clause-puts
 returns-clause-puts g c =
-    let f = c.flush.ensures in
     rw (line_is c.args.number c.args.outcome)
-    (after_flush c.flush.result (PutsAll-then _ c.in_ok-put_counts.ensures
-    c.in_ok-put_ends.ensures) f.written f.refused f.emptied f.counted f.wanted f.settled)
+    (after_flush c.flush.result (Puts-then _ c.in_ok-put_counts.ensures
+    c.in_ok-put_ends.ensures) c.flush.ensures.puts)

@@ -1,13 +1,12 @@
 use Rattle.std.proofs.Common.{◌≡◌, ℕ, List, Result, rules}
-use Rattle.{nbfx_encoder.proofs.Leasts.large_is_unwritten, duplex_server.proofs.Spelled.only_try}
 use Rattle.nbfx_encoder.specs.{declared.sender.SendState.TheVariants.Ready, Placing.Placed}
 use Rattle.nbfx_encoder.specs.Sending.{kind_in, limits_in, mode_in, names_in, state_in}
 use Rattle.nbfx_encoder.specs.Spelling.{encoded, Unfit}
-use Rattle.action_dispatch.specs.Refusals.{unfit_fault}
+use Rattle.{action_dispatch.specs.Refusals.unfit_fault, duplex_server.proofs.Spelled.only_try}
 use Rattle.duplex_server.proofs.spelling.spell_unmade.Goals as goal
 
 pub returns-clause-spells : goal.returns-clause-spells
-returns-clause-spells c = λ document large.
+returns-clause-spells c =
     let s = c.args.sender.now in
     let s1 = c.spell_if_fits.new.sender in
     let ready : state_in s ≡ Ready = search rules in
@@ -17,8 +16,6 @@ returns-clause-spells c = λ document large.
     encoded (limits_in s) (kind_in s) (names_in s) c.in_ok-unfit.unfit in
     let is = c.in_ok-unfit.ensures in
     let same : again ≡ other = cc in
-    let unwritten = large_is_unwritten (limits_in s) (kind_in s) (names_in s) document large in
     only_try (mode_in s) c.args.out.now.items c.spell_if_fits.new.out.items (names_in s)
-    (names_in s1) (state_in s) (state_in s1) unwritten.0
-    (encoded (limits_in s) (kind_in s) (names_in s) document) other again same ready unwritten.1
-    c.spell_if_fits.result c.spell_if_fits.ensures.tries
+    (names_in s1) (state_in s) (state_in s1) other again same ready c.spell_if_fits.result
+    c.spell_if_fits.ensures.tries
