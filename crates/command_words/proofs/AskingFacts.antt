@@ -1,5 +1,5 @@
 -- What values ask for, computed.
-use Rattle.std.proofs.Common.{◌≡◌, ℕ, ◌^◌, ◌<◌, ◌≤◌, Bool, true, ◌&&◌, length, if◌then◌else◌}
+use Rattle.std.proofs.Common.{◌≡◌, ℕ, ◌^◌, ◌<◌, ◌≤◌, Bool, true, false, ◌&&◌, length, if◌then◌else◌}
 use Rattle.std.proofs.Common.{nat_le, Some, None, decimal, Option, option_map, option_and_then, sym}
 use Rattle.std.proofs.Common.{refl, ap, ◌∙◌, subst, inl, inr, arith, le-leb, leb-true}
 use Rattle.std.proofs.lemmas.{Bool.cases_Bool, Option.option_and_then_some}
@@ -8,22 +8,22 @@ use Rattle.nbfx_values.specs.declared.session.{Kind.Kind, Mode.Mode, Mode.TheVar
 use Rattle.nbfx_values.specs.Limits.{IsGood, Limits, limits, usual_limits}
 use Rattle.command_words.specs.declared.{action.Action.Action, task.Origin.Origin}
 use Rattle.command_words.specs.declared.action.Action.TheVariants.{Build, Call, Check, Dump, Gen}
-use Rattle.command_words.specs.declared.action.Action.TheVariants.{Replay, Serve}
+use Rattle.command_words.specs.declared.action.Action.TheVariants.{Rehearse, Replay, Serve}
 use Rattle.command_words.specs.declared.option_name.OptionName.TheVariants.{Connect, Connections}
 use Rattle.command_words.specs.declared.option_name.OptionName.TheVariants.{Content, Count, Depth}
 use Rattle.command_words.specs.declared.option_name.OptionName.TheVariants.{Dictionary, Encoding}
-use Rattle.command_words.specs.declared.option_name.OptionName.TheVariants.{Listen, Static, Via}
+use Rattle.command_words.specs.declared.option_name.OptionName.TheVariants.{Id, Listen, Static, Via, Window}
 use Rattle.command_words.specs.declared.option_name.OptionName.TheVariants.{Mode as ModeOption}
 use Rattle.command_words.specs.declared.option_name.OptionName.TheVariants.{Payload, Replies}
 use Rattle.command_words.specs.declared.option_name.OptionName.TheVariants.{Second, Seed, Session}
 use Rattle.command_words.specs.declared.task.Detail.{Detail, TheVariants.Summary, TheVariants.Whole}
 use Rattle.command_words.specs.declared.task.Origin.TheVariants.{Initiator, Receiver}
-use Rattle.command_words.{specs.Options.Text, proofs.ValueFacts.read_or-sound}
-use Rattle.command_words.specs.Requests.{AreLimits, Asked, AskFor, AskForTask, AskToBuild}
-use Rattle.command_words.specs.Requests.{AskToCall, AskToGenerate, AskToReport, AskToServe}
-use Rattle.command_words.specs.Requests.{IsOpening, IsOrigin, most_connections, most_documents}
-use Rattle.command_words.specs.Requests.{serving_in, usual_content, Values}
-use Rattle.command_words.specs.Tasks.{build, call, generate, Opening, replay, report, serve, Task}
+use Rattle.command_words.{specs.Options.Text, specs.Values.is_blank, proofs.ValueFacts.read_or-sound}
+use Rattle.command_words.specs.Requests.{AreLimits, Asked, AskedOfSessions, AskFor, AskForSessions, AskForTask, AskToBuild}
+use Rattle.command_words.specs.Requests.{AskToCall, AskToGenerate, AskToRehearse, AskToReport, AskToServe}
+use Rattle.command_words.specs.Requests.{IsOpening, IsOrigin, most_connections, most_documents, most_window}
+use Rattle.command_words.specs.Requests.{of_sessions, rehearsal, serving_in, usual_content, usual_window, Values}
+use Rattle.command_words.specs.Tasks.{build, call, generate, Opening, Rehearsal, replay, report, serve, Task}
 use Rattle.command_words.proofs.ValueFacts.{kind_in, kinds_read, mode_in, modes, number_in}
 use Rattle.command_words.proofs.ValueFacts.{number_in-small, numbers, read_or, read_or-complete}
 use Rattle.nbfx_values.specs.declared.session.Kind.TheVariants as kinds
@@ -202,6 +202,7 @@ task_in Replay value = Some (replay (serving_in value))
 task_in Serve value = serve_in value
 task_in Call value = call_in value
 task_in Gen value = generate_in value
+task_in Rehearse value = None
 
 -- what an option holds is of a value that there is
 map-some : {A B : Type 0} (f : A → B) (o : Option A) (y : B) → option_map f o ≡ Some y
@@ -400,6 +401,7 @@ task-sound Replay value task e =
 task-sound Serve value task e = serve-sound value task e
 task-sound Call value task e = call-sound value task e
 task-sound Gen value task e = generate-sound value task e
+task-sound Rehearse value task e = cc e
 
 task-complete : (action : Action) (value : Values) (task : Task) → AskForTask action value task
     → task_in action value ≡ Some task
@@ -410,39 +412,124 @@ task-complete Replay value task asks = ap Some (sym asks)
 task-complete Serve value task asks = serve-complete value task asks
 task-complete Call value task asks = call-complete value task asks
 task-complete Gen value task asks = generate-complete value task asks
+task-complete Rehearse value task asks = absurd asks
+
+-- ---- the history of a sequence
+
+abbrev named_alone : Text → Option Text
+named_alone id = if is_blank id then None else Some id
+
+abbrev sequence : Text → ℕ → Rehearsal
+sequence id window = record { id = id; window = window }
+
+abbrev rehearsal_in : Values → Option Rehearsal
+rehearsal_in value =
+    option_and_then (λ id. option_map (sequence id)
+    (option_and_then (within_alone 1 most_window) (number_or usual_window (value Window))))
+    (option_and_then named_alone (value Id))
+
+named-alone : (text id : Text) → named_alone text ≡ Some id → (text ≡ id) × (is_blank id ≡ false)
+named-alone text id e =
+    elim (cases_Bool (is_blank text)) [
+      | inl blank ↦ cc (rw blank at e)
+      | inr named ↦
+          let is : text ≡ id = cc (rw named at e) in
+          (is, subst (λ t. is_blank t ≡ false) is named)
+    ]
+
+rehearsal-sound : (value : Values) (asked : Rehearsal) → rehearsal_in value ≡ Some asked
+    → AskToRehearse value asked
+rehearsal-sound value asked e =
+    option_and_then_some _ _ asked e (λ id is_id e.
+    let made = map-some (sequence id) _ asked e in
+    option_and_then_some _ _ made.0 made.1 (λ m is_m e.
+    option_and_then_some _ _ id is_id (λ text is_text is_named.
+    let named = named-alone text id is_named in
+    let within = within-alone 1 most_window m made.0 e in
+    let is : AskToRehearse value (sequence id made.0) = record {
+      identified = is_text ∙ ap Some named.0;
+      named = named.1;
+      number = read_or-sound numbers usual_window (value Window) made.0
+          (is_m ∙ ap Some within.0);
+      least = within.1;
+      most = within.2;
+    } in
+    subst (AskToRehearse value) made.2 is)))
+
+rehearsal-complete : (value : Values) (asked : Rehearsal) → AskToRehearse value asked
+    → rehearsal_in value ≡ Some asked
+rehearsal-complete value asked asks =
+    let n = asked.window in
+    let number = read_or-complete numbers usual_window (value Window) n
+    (omega (arith, asks.most)) asks.number in
+    rw (asks.identified, asks.named, number, within-passes 1 most_window n asks.least asks.most)
+    refl
 
 -- ---- requests
 
-abbrev asked : Text → Limits → Task → Asked
+abbrev asked : Text → Limits → Task → AskedOfSessions
 asked statics limits task = record { statics = statics; limits = limits; task = task }
 
-abbrev pub asked_in : Action → Values → Option Asked
-asked_in action value =
+abbrev session_in : Action → Values → Option AskedOfSessions
+session_in action value =
     option_and_then (λ statics.
     option_and_then (λ limits. option_map (asked statics limits) (task_in action value))
     (limits_in value))
     (value Static)
 
-pub asked-sound : (action : Action) (value : Values) (asks : Asked)
-    → asked_in action value ≡ Some asks → AskFor action value asks
-asked-sound action value asks e =
+session-sound : (action : Action) (value : Values) (asks : AskedOfSessions)
+    → session_in action value ≡ Some asks → AskForSessions action value asks
+session-sound action value asks e =
     option_and_then_some _ _ asks e (λ statics is_statics e.
     option_and_then_some _ _ asks e (λ limits is_limits e.
     let task = map-some (asked statics limits) (task_in action value) asks e in
     let set = limits-sound value limits is_limits in
-    let asks_for : AskFor action value (asked statics limits task.0) = record {
+    let asks_for : AskForSessions action value (asked statics limits task.0) = record {
       named = is_statics;
       numbers = set.0;
       good = set.1;
       task = task-sound action value task.0 task.1;
     } in
-    subst (AskFor action value) task.2 asks_for))
+    subst (AskForSessions action value) task.2 asks_for))
 
-pub asked-complete : (action : Action) (value : Values) (asks : Asked) → AskFor action value asks
-    → asked_in action value ≡ Some asks
-asked-complete action value asks is =
+session-complete : (action : Action) (value : Values) (asks : AskedOfSessions)
+    → AskForSessions action value asks → session_in action value ≡ Some asks
+session-complete action value asks is =
     rw (
       is.named,
       limits-complete value asks.limits is.numbers is.good,
       task-complete action value asks.task is.task,
     ) refl
+
+abbrev pub asked_in : Action → Values → Option Asked
+asked_in Rehearse value = option_map rehearsal (rehearsal_in value)
+asked_in action value = option_map of_sessions (session_in action value)
+
+some_session : (action : Action) (value : Values) (asks : Asked)
+    → option_map of_sessions (session_in action value) ≡ Some asks → AskFor action value asks
+some_session action value asks e =
+    let is = map-some of_sessions (session_in action value) asks e in
+    subst (AskFor action value) is.2 (session-sound action value is.0 is.1)
+
+pub asked-sound : (action : Action) (value : Values) (asks : Asked)
+    → asked_in action value ≡ Some asks → AskFor action value asks
+asked-sound Rehearse value asks e =
+    let is = map-some rehearsal (rehearsal_in value) asks e in
+    subst (AskFor Rehearse value) is.2 (refl, rehearsal-sound value is.0 is.1)
+asked-sound action value asks e = some_session action value asks e
+
+-- the command of a request on sessions isn't the one that plays a history
+no_session : (value : Values) (asks : AskedOfSessions) → AskForSessions Rehearse value asks → ⊥
+no_session value asks is = is.task
+
+some_history : (action : Action) (value : Values) (asks : Rehearsal) → action ≡ Rehearse
+    → AskToRehearse value asks → asked_in action value ≡ Some (rehearsal asks)
+some_history action value asks is asks_so =
+    ap (λ a. asked_in a value) is ∙ ap (option_map rehearsal) (rehearsal-complete value asks asks_so)
+
+pub asked-complete : (action : Action) (value : Values) (asks : Asked) → AskFor action value asks
+    → asked_in action value ≡ Some asks
+asked-complete action value (rehearsal asks) is = some_history action value asks is.0 is.1
+asked-complete Rehearse value (of_sessions asks) is = absurd (no_session value asks is)
+asked-complete action value (of_sessions asks) is =
+    ap (option_map of_sessions) (session-complete action value asks is)

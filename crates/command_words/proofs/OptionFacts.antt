@@ -9,10 +9,10 @@ use Rattle.command_words.specs.declared.option_name.OptionName.TheVariants.{Acti
 use Rattle.command_words.specs.declared.option_name.OptionName.TheVariants.{Connections, Content}
 use Rattle.command_words.specs.declared.option_name.OptionName.TheVariants.{Count, Depth}
 use Rattle.command_words.specs.declared.option_name.OptionName.TheVariants.{Dictionary, Encoding}
-use Rattle.command_words.specs.declared.option_name.OptionName.TheVariants.{Endpoint, Listen, Mode}
+use Rattle.command_words.specs.declared.option_name.OptionName.TheVariants.{Endpoint, Id, Listen, Mode}
 use Rattle.command_words.specs.declared.option_name.OptionName.TheVariants.{Payload, Replies}
 use Rattle.command_words.specs.declared.option_name.OptionName.TheVariants.{Second, Seed, Session}
-use Rattle.command_words.specs.declared.option_name.OptionName.TheVariants.{Static, Via}
+use Rattle.command_words.specs.declared.option_name.OptionName.TheVariants.{Static, Via, Window}
 use Rattle.command_words.specs.Options.{Given, given_for, is_empty, is_option, IsOnce, option_text}
 
 -- ---- options by their texts
@@ -31,6 +31,8 @@ named text =
     else if bytes_eq text (codes "second") then Second
     else if bytes_eq text (codes "seed") then Seed
     else if bytes_eq text (codes "count") then Count
+    else if bytes_eq text (codes "id") then Id
+    else if bytes_eq text (codes "window") then Window
     else if bytes_eq text (codes "endpoint") then Endpoint
     else if bytes_eq text (codes "actions") then Actions
     else if bytes_eq text (codes "payload") then Payload
@@ -51,6 +53,8 @@ named-option_text Connect = refl
 named-option_text Second = refl
 named-option_text Seed = refl
 named-option_text Count = refl
+named-option_text Id = refl
+named-option_text Window = refl
 named-option_text Endpoint = refl
 named-option_text Actions = refl
 named-option_text Payload = refl

@@ -12,10 +12,10 @@ use Rattle.command_words.specs.declared.option_name.OptionName.TheVariants.{Acti
 use Rattle.command_words.specs.declared.option_name.OptionName.TheVariants.{Connections, Content}
 use Rattle.command_words.specs.declared.option_name.OptionName.TheVariants.{Count, Depth}
 use Rattle.command_words.specs.declared.option_name.OptionName.TheVariants.{Dictionary, Encoding}
-use Rattle.command_words.specs.declared.option_name.OptionName.TheVariants.{Endpoint, Listen, Mode}
+use Rattle.command_words.specs.declared.option_name.OptionName.TheVariants.{Endpoint, Id, Listen, Mode}
 use Rattle.command_words.specs.declared.option_name.OptionName.TheVariants.{Payload, Replies}
 use Rattle.command_words.specs.declared.option_name.OptionName.TheVariants.{Second, Seed, Session}
-use Rattle.command_words.specs.declared.option_name.OptionName.TheVariants.{Static, Via}
+use Rattle.command_words.specs.declared.option_name.OptionName.TheVariants.{Static, Via, Window}
 use Rattle.command_words.specs.Options.{begins_with_hyphen, dashed, option_text, Text}
 
 -- ---- the words of options
@@ -33,6 +33,8 @@ long_of-dashed Connect = refl
 long_of-dashed Second = refl
 long_of-dashed Seed = refl
 long_of-dashed Count = refl
+long_of-dashed Id = refl
+long_of-dashed Window = refl
 long_of-dashed Endpoint = refl
 long_of-dashed Actions = refl
 long_of-dashed Payload = refl
@@ -54,6 +56,8 @@ long_of-joined Connect value = refl
 long_of-joined Second value = refl
 long_of-joined Seed value = refl
 long_of-joined Count value = refl
+long_of-joined Id value = refl
+long_of-joined Window value = refl
 long_of-joined Endpoint value = refl
 long_of-joined Actions value = refl
 long_of-joined Payload value = refl

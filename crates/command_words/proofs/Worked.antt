@@ -11,6 +11,7 @@ use Rattle.command_words.specs.declared.task.Detail.{Detail, TheVariants.Summary
 use Rattle.command_words.specs.{declared.task.Origin.Origin, Options.Text}
 use Rattle.command_words.specs.declared.task.Origin.TheVariants.{Initiator, Receiver}
 use Rattle.command_words.specs.{Requests.Asked, Requests.IsRequest, Tasks.Serving, Tasks.Task}
+use Rattle.command_words.specs.Requests.{of_sessions, rehearsal}
 use Rattle.command_words.specs.Tasks.{build, call, generate, Opening, replay, report, serve}
 use Rattle.command_words.proofs.RequestFacts.{request-complete, request-sound, request_in}
 
@@ -56,7 +57,8 @@ are-refused (line ∷ lines) same =
 -- ---- requests
 
 abbrev asks : Text → Limits → Task → Asked
-asks statics limits task = record { statics = statics; limits = limits; task = task }
+asks statics limits task =
+    of_sessions (record { statics = statics; limits = limits; task = task })
 
 -- with the static strings of the file S
 abbrev within : Limits → Detail → Origin → Asked
@@ -249,6 +251,22 @@ makes =
 are_makes : AreRequests makes
 unfolding digits
 are_makes = are-requests makes refl
+
+-- the history of a sequence
+abbrev played : Text → ℕ → Asked
+played id window = rehearsal (record { id = id; window = window })
+
+abbrev plays : List Row
+plays =
+    (codes "x rehearse --id u", played (codes "u") 32) ∷
+    (codes "x rehearse --window 1 --id=--window", played (codes "--window") 1) ∷
+    (codes "x rehearse --id=urn:a --window=1024", played (codes "urn:a") 1024) ∷
+    (codes "x rehearse --id \t.", played (codes "\t.") 32) ∷
+    []
+
+are_plays : AreRequests plays
+unfolding digits
+are_plays = are-requests plays refl
 
 -- ---- none
 
@@ -458,3 +476,28 @@ no_makes =
 no_makes_is : AreRefused no_makes
 unfolding digits
 no_makes_is = are-refused no_makes refl
+
+-- a history can't be played so
+abbrev no_plays : List Text
+no_plays =
+    codes "x rehearse" ∷
+    codes "x rehearse --window 32" ∷
+    codes "x rehearse --id" ∷
+    codes "x rehearse --id=" ∷
+    codes "x rehearse --id \t" ∷
+    codes "x rehearse --id=\t\r\n" ∷
+    codes "x rehearse --id u --window 0" ∷
+    codes "x rehearse --id u --window 1025" ∷
+    codes "x rehearse --id u --window 01" ∷
+    codes "x rehearse --id u --window 4294967328" ∷
+    codes "x rehearse --id u --window=" ∷
+    codes "x rehearse --id u --id=u" ∷
+    codes "x rehearse --id u --static S" ∷
+    codes "x rehearse --id u --payload 65536" ∷
+    codes "x gen --static S --seed 0 --count 0 --id u" ∷
+    codes "x check --static S --window 32" ∷
+    []
+
+no_plays_is : AreRefused no_plays
+unfolding digits
+no_plays_is = are-refused no_plays refl

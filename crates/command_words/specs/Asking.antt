@@ -1,12 +1,15 @@
 -- A request as what its words ask for.
 use Rattle.nbfx_values.specs.QuotasOf.{limits_of}
-use Rattle.command_words.specs.declared.{request.Request.Request, task.Task.Task as TaskTaken}
-use Rattle.command_words.specs.{declared.task.Opening.Opening as OpeningTaken, Requests.Asked}
+use Rattle.command_words.specs.declared.request.{Request.Request, SessionRequest.SessionRequest}
+use Rattle.command_words.specs.declared.request.Request.TheVariants.{Rehearse, Sessions}
+use Rattle.command_words.specs.declared.{task.Rehearsal.Rehearsal as RehearsalTaken, task.Task.Task as TaskTaken}
+use Rattle.command_words.specs.{declared.task.Opening.Opening as OpeningTaken, Requests.Asked, Requests.AskedOfSessions}
 use Rattle.command_words.specs.{declared.task.Serving.Serving as ServingTaken, Values.text_behind}
 use Rattle.command_words.specs.declared.task.Task.TheVariants.{Build, Call, Generate, Replay}
 use Rattle.command_words.specs.declared.task.Task.TheVariants.{Report, Serve}
 use Rattle.command_words.specs.Tasks.{build, call, generate, Opening, replay, report, serve}
-use Rattle.command_words.specs.Tasks.{Serving, Task}
+use Rattle.command_words.specs.Tasks.{Rehearsal, Serving, Task}
+use Rattle.command_words.specs.Requests.{of_sessions, rehearsal}
 
 abbrev pub opening_of : OpeningTaken → Opening
 opening_of opening = record {
@@ -31,9 +34,16 @@ task_of (Call connect opening second) =
     call connect.now (opening_of opening) (text_behind second)
 task_of (Generate seed count) = generate seed count
 
-abbrev pub asked_of : Request → Asked
-asked_of request = record {
+abbrev pub session_of : SessionRequest → AskedOfSessions
+session_of request = record {
   statics = request.statics.now;
   limits = limits_of request.quotas;
   task = task_of request.task;
 }
+
+abbrev pub rehearsal_of : RehearsalTaken → Rehearsal
+rehearsal_of taken = record { id = taken.id.now; window = taken.window }
+
+abbrev pub asked_of : Request → Asked
+asked_of (Sessions request) = of_sessions (session_of request)
+asked_of (Rehearse taken) = rehearsal (rehearsal_of taken)

@@ -2,15 +2,15 @@
 use Rattle.std.specs.Prelude.{List, [], ◌∷◌, codes}
 use Rattle.command_words.specs.declared.{action.Action.Action, option_name.OptionName.OptionName}
 use Rattle.command_words.specs.declared.action.Action.TheVariants.{Build, Call, Check, Dump, Gen}
-use Rattle.command_words.specs.declared.action.Action.TheVariants.{Replay, Serve}
+use Rattle.command_words.specs.declared.action.Action.TheVariants.{Rehearse, Replay, Serve}
 use Rattle.command_words.specs.declared.option_name.OptionName.TheVariants.{Actions, Connect}
 use Rattle.command_words.specs.declared.option_name.OptionName.TheVariants.{Connections, Content}
 use Rattle.command_words.specs.declared.option_name.OptionName.TheVariants.{Count, Depth}
 use Rattle.command_words.specs.declared.option_name.OptionName.TheVariants.{Dictionary, Encoding}
-use Rattle.command_words.specs.declared.option_name.OptionName.TheVariants.{Endpoint, Listen, Mode}
+use Rattle.command_words.specs.declared.option_name.OptionName.TheVariants.{Endpoint, Id, Listen, Mode}
 use Rattle.command_words.specs.declared.option_name.OptionName.TheVariants.{Payload, Replies}
 use Rattle.command_words.specs.declared.option_name.OptionName.TheVariants.{Second, Seed, Session}
-use Rattle.command_words.specs.declared.option_name.OptionName.TheVariants.{Static, Via}
+use Rattle.command_words.specs.declared.option_name.OptionName.TheVariants.{Static, Via, Window}
 use Rattle.command_words.specs.Options.{Text}
 
 abbrev pub word_of : Action → Text
@@ -21,8 +21,9 @@ word_of Replay = codes "replay"
 word_of Serve = codes "serve"
 word_of Call = codes "call"
 word_of Gen = codes "gen"
+word_of Rehearse = codes "rehearse"
 
--- the options of every command
+-- the options of every command on sessions
 abbrev pub common_options : List OptionName
 common_options = Static ∷ Payload ∷ Depth ∷ Dictionary ∷ Content ∷ Session ∷ []
 
@@ -34,3 +35,4 @@ options_of Replay = Endpoint ∷ Actions ∷ common_options
 options_of Serve = Listen ∷ Connections ∷ Endpoint ∷ Actions ∷ common_options
 options_of Call = Connect ∷ Via ∷ Mode ∷ Encoding ∷ Second ∷ common_options
 options_of Gen = Seed ∷ Count ∷ common_options
+options_of Rehearse = Id ∷ Window ∷ []

@@ -7,10 +7,10 @@ use Rattle.command_words.specs.declared.option_name.OptionName.TheVariants.{Acti
 use Rattle.command_words.specs.declared.option_name.OptionName.TheVariants.{Connections, Content}
 use Rattle.command_words.specs.declared.option_name.OptionName.TheVariants.{Count, Depth}
 use Rattle.command_words.specs.declared.option_name.OptionName.TheVariants.{Dictionary, Encoding}
-use Rattle.command_words.specs.declared.option_name.OptionName.TheVariants.{Endpoint, Listen, Mode}
+use Rattle.command_words.specs.declared.option_name.OptionName.TheVariants.{Endpoint, Id, Listen, Mode}
 use Rattle.command_words.specs.declared.option_name.OptionName.TheVariants.{Payload, Replies}
 use Rattle.command_words.specs.declared.option_name.OptionName.TheVariants.{Second, Seed, Session}
-use Rattle.command_words.specs.declared.option_name.OptionName.TheVariants.{Static, Via}
+use Rattle.command_words.specs.declared.option_name.OptionName.TheVariants.{Static, Via, Window}
 
 abbrev pub Text : Type 0
 Text = List ℕ
@@ -28,6 +28,8 @@ option_text Connect = codes "connect"
 option_text Second = codes "second"
 option_text Seed = codes "seed"
 option_text Count = codes "count"
+option_text Id = codes "id"
+option_text Window = codes "window"
 option_text Endpoint = codes "endpoint"
 option_text Actions = codes "actions"
 option_text Payload = codes "payload"

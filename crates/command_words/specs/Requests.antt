@@ -1,35 +1,40 @@
 -- What the values of options mean, and the words of a request.
-use Rattle.std.specs.Prelude.{◌≡◌, ℕ, ◌*◌, ◌^◌, ◌<◌, ◌≤◌, max, List, ◌∷◌, length, IsTrue, Some}
+use Rattle.std.specs.Prelude.{◌≡◌, ℕ, ◌*◌, ◌^◌, ◌<◌, ◌≤◌, false, max, List, ◌∷◌, length, IsTrue, Some}
 use Rattle.std.specs.{Prelude.None, Prelude.decimal, Prelude.Option, List.list_all, List.list_any}
 use Rattle.nbfx_values.specs.declared.session.{Kind.Kind, Mode.Mode}
 use Rattle.nbfx_values.specs.Limits.{IsGood, Limits, usual_limits}
 use Rattle.command_words.specs.declared.{action.Action.Action, task.Origin.Origin}
 use Rattle.command_words.specs.declared.action.Action.TheVariants.{Build, Call, Check, Dump, Gen}
-use Rattle.command_words.specs.declared.action.Action.TheVariants.{Replay, Serve}
+use Rattle.command_words.specs.declared.action.Action.TheVariants.{Rehearse, Replay, Serve}
 use Rattle.command_words.specs.declared.option_name.OptionName.{OptionName}
 use Rattle.command_words.specs.declared.option_name.OptionName.TheVariants.{Actions, Connect}
 use Rattle.command_words.specs.declared.option_name.OptionName.TheVariants.{Connections, Content}
 use Rattle.command_words.specs.declared.option_name.OptionName.TheVariants.{Count, Depth}
 use Rattle.command_words.specs.declared.option_name.OptionName.TheVariants.{Dictionary, Encoding}
-use Rattle.command_words.specs.declared.option_name.OptionName.TheVariants.{Endpoint, Listen}
+use Rattle.command_words.specs.declared.option_name.OptionName.TheVariants.{Endpoint, Id, Listen}
 use Rattle.command_words.specs.declared.option_name.OptionName.TheVariants.{Mode as ModeOption}
 use Rattle.command_words.specs.declared.option_name.OptionName.TheVariants.{Payload, Replies}
 use Rattle.command_words.specs.declared.option_name.OptionName.TheVariants.{Second, Seed, Session}
-use Rattle.command_words.specs.declared.option_name.OptionName.TheVariants.{Static, Via}
+use Rattle.command_words.specs.declared.option_name.OptionName.TheVariants.{Static, Via, Window}
 use Rattle.command_words.specs.declared.task.Detail.{Detail, TheVariants.Summary, TheVariants.Whole}
 use Rattle.command_words.specs.declared.task.Origin.TheVariants.{Initiator, Receiver}
 use Rattle.command_words.specs.Commands.{options_of, word_of}
 use Rattle.command_words.specs.Options.{Given, given_for, HaveValues, is_option, IsOnce}
-use Rattle.command_words.specs.{Options.SpellOptions, Options.Text, Tasks.Serving, Tasks.Task}
+use Rattle.command_words.specs.{Options.SpellOptions, Options.Text, Tasks.Rehearsal, Tasks.Serving, Tasks.Task}
 use Rattle.command_words.specs.Tasks.{build, call, generate, Opening, replay, report, serve}
-use Rattle.command_words.specs.Values.{IsKind, IsMode, IsNumber, mode_name}
+use Rattle.command_words.specs.Values.{is_blank, IsKind, IsMode, IsNumber, mode_name}
 
--- what words ask for: what every command is told, and what is to be done
-pub record Asked : Type 0 where
+-- what words ask of a command on sessions: what each is told, and what is to be done
+pub record AskedOfSessions : Type 0 where
   -- the name of the file of the static strings
   pub statics : Text
   pub limits : Limits
   pub task : Task
+
+-- what words ask for: a task on sessions, or the history of a sequence
+pub data Asked : Type 0 where
+  of_sessions : AskedOfSessions → Asked
+  rehearsal : Rehearsal → Asked
 
 -- ---- what values mean
 
@@ -122,7 +127,22 @@ pub record AskToGenerate (value : Values) (task : Task) : Type 0 where
   pub most : count ≤ most_documents
   pub is : task ≡ generate seed count
 
--- what the values ask of each command
+-- how far the numbers of a sequence may be ahead at most, and where no value says it
+abbrev pub most_window : ℕ
+most_window = 1024
+
+abbrev pub usual_window : ℕ
+usual_window = 32
+
+-- the values ask for the history of a sequence
+pub record AskToRehearse (value : Values) (asked : Rehearsal) : Type 0 where
+  pub identified : value Id ≡ Some asked.id
+  pub named : is_blank asked.id ≡ false
+  pub number : IsNumber (value Window) usual_window asked.window
+  pub least : 1 ≤ asked.window
+  pub most : asked.window ≤ most_window
+
+-- what the values ask of each command on sessions
 abbrev pub AskForTask : Action → Values → Task → Type 0
 AskForTask Check value task = AskToReport Summary value task
 AskForTask Dump value task = AskToReport Whole value task
@@ -131,13 +151,20 @@ AskForTask Replay value task = AskToReplay value task
 AskForTask Serve value task = AskToServe value task
 AskForTask Call value task = AskToCall value task
 AskForTask Gen value task = AskToGenerate value task
+AskForTask Rehearse value task = ⊥
 
--- what they ask for, beside the command
-pub record AskFor (action : Action) (value : Values) (asked : Asked) : Type 0 where
+-- and what each is told
+pub record AskForSessions (action : Action) (value : Values) (asked : AskedOfSessions)
+    : Type 0 where
   pub named : value Static ≡ Some asked.statics
   pub numbers : AreLimits value asked.limits
   pub good : IsGood asked.limits
   pub task : AskForTask action value asked.task
+
+-- what they ask for, beside the command
+abbrev pub AskFor : Action → Values → Asked → Type 0
+AskFor action value (of_sessions asked) = AskForSessions action value asked
+AskFor action value (rehearsal asked) = (action ≡ Rehearse) × AskToRehearse value asked
 
 -- ---- the words of a request
 

@@ -1,4 +1,4 @@
--- What the program may be asked to do.
+-- What the program may be asked to do: tasks on sessions, and to play the history of a sequence.
 use Rattle.{std.specs.Prelude.ℕ, std.specs.Prelude.Option, command_words.specs.Options.Text}
 use Rattle.nbfx_values.specs.declared.session.{Kind.Kind, Mode.Mode}
 use Rattle.command_words.specs.declared.task.{Detail.Detail, Origin.Origin}
@@ -15,6 +15,11 @@ pub record Serving : Type 0 where
   pub endpoint : Option Text
   -- the name of the file of texts by action, or None where the service is the echo
   pub actions : Option Text
+
+-- a reliable sequence
+pub record Rehearsal : Type 0 where
+  pub id : Text
+  pub window : ℕ
 
 pub data Task : Type 0 where
   -- a stream is read and reported

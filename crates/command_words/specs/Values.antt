@@ -1,6 +1,6 @@
--- What values write: numbers, and the names of modes and encodings.
-use Rattle.std.specs.Prelude.{◌≡◌, ℕ, Some, None, codes, decimal, Option, option_map}
-use Rattle.{std.specs.Borrow.Bor, nbfx_values.specs.Session.kind_number}
+-- What values write: numbers, the names of modes and encodings, and texts that aren't blank.
+use Rattle.std.specs.Prelude.{◌≡◌, ℕ, Bool, ◌||◌, ◌==◌, Some, None, codes, decimal, Option, option_map}
+use Rattle.{std.specs.Borrow.Bor, std.specs.List.list_all, nbfx_values.specs.Session.kind_number}
 use Rattle.nbfx_values.specs.declared.session.{Kind.Kind, Mode.Mode}
 use Rattle.nbfx_values.specs.declared.session.Mode.TheVariants.{Duplex, Simplex, Singleton}
 use Rattle.command_words.specs.Options.{Text}
@@ -35,3 +35,10 @@ kind_text kind = decimal (kind_number kind)
 -- the encoding that a value names, or the one with a session dictionary where there is no value
 abbrev pub IsKind : Option Text → Kind → Type 0
 IsKind value kind = IsWritten kind_text kinds.Session value kind
+
+-- space, tab, line feed and carriage return
+abbrev pub is_white : ℕ → Bool
+is_white c = c == 32 || c == 9 || c == 10 || c == 13
+
+abbrev pub is_blank : Text → Bool
+is_blank = list_all is_white

@@ -21,9 +21,11 @@ pub enum Action {
     Call,
     /// `gen`: makes documents, and reads them from their session.
     Gen,
+    /// `rehearse`: plays the history of a reliable sequence.
+    Rehearse,
 }
 
-// The options of a command: its own, and then those of every command.
+// The options of a command on sessions: its own, and then those of every such command.
 macro_rules! options {
     ($($own:ident),+) => {
         [
@@ -50,6 +52,8 @@ static CALLING: [OptionName; 11] = options![Connect, Via, Mode, Encoding, Second
 
 static GENERATING: [OptionName; 8] = options![Seed, Count];
 
+static REHEARSING: [OptionName; 2] = [OptionName::Id, OptionName::Window];
+
 /// The command that a word names; None where it names none.
 pub fn action_of(word: &str) -> Option<Action>
     ensures named { IfSome result (λ action. word.now ≡ word_of action) }
@@ -63,6 +67,7 @@ pub fn action_of(word: &str) -> Option<Action>
         "serve" => Some(Action::Serve),
         "call" => Some(Action::Call),
         "gen" => Some(Action::Gen),
+        "rehearse" => Some(Action::Rehearse),
         _ => None,
     }
 }
@@ -79,6 +84,7 @@ pub fn word_of(action: Action) -> &'static str
         Action::Serve => "serve",
         Action::Call => "call",
         Action::Gen => "gen",
+        Action::Rehearse => "rehearse",
     }
 }
 
@@ -93,5 +99,6 @@ pub fn options_of(action: Action) -> &'static [OptionName]
         Action::Serve => SERVING.as_slice(),
         Action::Call => CALLING.as_slice(),
         Action::Gen => GENERATING.as_slice(),
+        Action::Rehearse => REHEARSING.as_slice(),
     }
 }

@@ -4,10 +4,11 @@ ghost use Rattle.clap.specs.declared.parser.matches.ArgMatches.{ArgMatches};
 ghost use Rattle.nbfx_values.specs.Limits.{usual_limits};
 ghost use Rattle.nbfx_values.specs.QuotasOf.{limits_of};
 ghost use Rattle.command_words.specs.WordAnswers.{found_values};
+ghost use Rattle.command_words.specs.Values as spec;
 ghost use Rattle.command_words.specs.Values.{text_behind};
-ghost use Rattle.command_words.specs.Asking.{asked_of, opening_of, serving_of, task_of};
-ghost use Rattle.command_words.specs.Requests.{AreLimits, AskFor, AskForTask, AskToBuild, AskToCall, AskToGenerate, AskToReport, AskToServe, Asked, IsOpening, IsOrigin, serving_in};
-ghost use Rattle.command_words.specs.Tasks.{Opening as AskedOpening, Task as AskedTask};
+ghost use Rattle.command_words.specs.Asking.{asked_of, opening_of, rehearsal_of, serving_of, session_of, task_of};
+ghost use Rattle.command_words.specs.Requests.{AreLimits, AskFor, AskForSessions, AskForTask, AskToBuild, AskToCall, AskToGenerate, AskToRehearse, AskToReport, AskToServe, Asked, AskedOfSessions, IsOpening, IsOrigin, serving_in};
+ghost use Rattle.command_words.specs.Tasks.{Opening as AskedOpening, Rehearsal as AskedRehearsal, Task as AskedTask};
 
 use crate::action::Action;
 use crate::naming::{kind_in, mode_in, mode_named};
@@ -15,8 +16,8 @@ use crate::number::{number_in, number_within};
 use crate::option_name::OptionName;
 use crate::parsed::given_for;
 use crate::quotas::quotas_of;
-use crate::request::Request;
-use crate::task::{Detail, Opening, Origin, Serving, Task};
+use crate::request::{Request, SessionRequest};
+use crate::task::{Detail, Opening, Origin, Rehearsal, Serving, Task};
 use clap::ArgMatches;
 use nbfx_values::{Kind, Quotas};
 
@@ -25,6 +26,11 @@ const MOST_CONNECTIONS: u32 = 1_000_000;
 
 /// How many documents are made at most.
 const MOST_DOCUMENTS: u32 = 1_000_000;
+
+/// How far the numbers of a sequence may be ahead at most, and where no number is given.
+const MOST_WINDOW: u32 = 1_024;
+
+const USUAL_WINDOW: u32 = 32;
 
 // The end of a session whose stream is to be read.
 fn origin_in(replies: Option<&str>, kind: Kind) -> Option<Origin>
@@ -154,7 +160,50 @@ fn task_in<'w>(action: Action, matches: &ArgMatches<'w>) -> Option<Task<'w>>
         Action::Serve => serve_in(matches),
         Action::Call => call_in(matches),
         Action::Gen => generate_in(matches),
+        Action::Rehearse => None,
     }
+}
+
+// Whether a text has white space alone.
+fn is_blank(text: &str) -> bool
+    ensures { result ≡ spec.is_blank text.now }
+{
+    text.as_bytes()
+        .iter()
+        .all(|c| matches!(*c, b' ' | b'\t' | b'\n' | b'\r'))
+}
+
+// The sequence whose history the values ask for.
+fn rehearsal_in<'w>(matches: &ArgMatches<'w>) -> Option<Rehearsal<'w>>
+    ensures meant { IfSome result
+        (λ sequence. AskToRehearse (found_values matches.now) (rehearsal_of sequence)) }
+    ensures none { IfNone result ((asked : AskedRehearsal)
+        → ¬ AskToRehearse (found_values matches.now) asked) }
+{
+    let id = given_for(matches, OptionName::Id)?;
+    if is_blank(id) {
+        return None;
+    }
+    let number = given_for(matches, OptionName::Window);
+    let window = number_within(number, USUAL_WINDOW, 1, MOST_WINDOW)?;
+    Some(Rehearsal { id, window })
+}
+
+// What the values ask of a command on sessions.
+fn session_in<'w>(action: Action, matches: &ArgMatches<'w>) -> Option<SessionRequest<'w>>
+    ensures meant { IfSome result (λ request.
+        AskForSessions action (found_values matches.now) (session_of request)) }
+    ensures none { IfNone result ((asked : AskedOfSessions)
+        → ¬ AskForSessions action (found_values matches.now) asked) }
+{
+    let statics = given_for(matches, OptionName::Static)?;
+    let quotas = quotas_of(matches)?;
+    let task = task_in(action, matches)?;
+    Some(SessionRequest {
+        statics,
+        quotas,
+        task,
+    })
 }
 
 /// What the values of its options ask of a command; None where one of them isn't valid.
@@ -164,12 +213,8 @@ pub fn judged<'w>(action: Action, matches: &ArgMatches<'w>) -> Option<Request<'w
     ensures none { IfNone result ((asked : Asked)
         → ¬ AskFor action (found_values matches.now) asked) }
 {
-    let statics = given_for(matches, OptionName::Static)?;
-    let quotas = quotas_of(matches)?;
-    let task = task_in(action, matches)?;
-    Some(Request {
-        statics,
-        quotas,
-        task,
-    })
+    match action {
+        Action::Rehearse => Some(Request::Rehearse(rehearsal_in(matches)?)),
+        action => Some(Request::Sessions(session_in(action, matches)?)),
+    }
 }

@@ -1,5 +1,5 @@
-//! What the program's arguments ask for: the file of the static strings, quotas, and what a command
-//! is to do.
+//! What the program's arguments ask for: a task on sessions, with the file of the static strings and
+//! quotas, or the history of a reliable sequence.
 //!
 //! The first word is the program's name, and isn't judged. The second is a command. The others are
 //! its options, in any order and each at most once. An option and its value are two words, of
@@ -7,7 +7,7 @@
 //! after the first equals sign. A value isn't empty. A number is decimal digits without a leading
 //! zero, or the zero alone.
 //!
-//! Every command has `--static NAME`, which has to be there, and `--payload`, `--depth`,
+//! Every command but `rehearse` has `--static NAME`, which has to be there, and `--payload`, `--depth`,
 //! `--dictionary`, `--content` and `--session`, each with a number. A quota that isn't given is the
 //! default, and the default content is four times the payload where that is more; the quota of a
 //! Via is always the default. Quotas that aren't valid, and any other words, are not understood.
@@ -25,6 +25,8 @@
 //!   `--second` with the name of a file.
 //! - `gen` has `--seed` with a number below 2^64 and `--count` with one of at most 1,000,000, which
 //!   both have to be there.
+//! - `rehearse` has `--id` with a text, which has to be there and has a character other than white
+//!   space, and `--window` with a number from 1 to 1,024, which is 32 where it is missing.
 //!
 //! `read` returns the one request that the arguments are, or that they aren't valid. The definitions
 //! don't speak of how words are read: `specs/Options` has the options and the two ways to spell one,
@@ -47,6 +49,6 @@ mod request;
 mod task;
 mod words;
 
-pub use request::Request;
-pub use task::{Detail, Opening, Origin, Serving, Task};
+pub use request::{Request, SessionRequest};
+pub use task::{Detail, Opening, Origin, Rehearsal, Serving, Task};
 pub use words::{WordsFault, read};

@@ -27,6 +27,10 @@ pub enum OptionName {
     Seed,
     /// How many documents are made.
     Count,
+    /// The identifier of a sequence.
+    Id,
+    /// How far numbers of a sequence may be ahead.
+    Window,
     /// The only Via that is served.
     Endpoint,
     /// The file that has the reply's text for each action.
@@ -59,6 +63,8 @@ pub fn option_text(option: OptionName) -> &'static str
         OptionName::Second => "second",
         OptionName::Seed => "seed",
         OptionName::Count => "count",
+        OptionName::Id => "id",
+        OptionName::Window => "window",
         OptionName::Endpoint => "endpoint",
         OptionName::Actions => "actions",
         OptionName::Payload => "payload",

@@ -1,11 +1,20 @@
 // What words ask for.
 
-use crate::task::Task;
+use crate::task::{Rehearsal, Task};
 use nbfx_values::Quotas;
 
 /// What the arguments ask for.
 #[derive(Clone, Copy, Debug, PartialEq, Eq)]
-pub struct Request<'w> {
+pub enum Request<'w> {
+    /// A task on sessions.
+    Sessions(SessionRequest<'w>),
+    /// To play the history of a reliable sequence: `rehearse`.
+    Rehearse(Rehearsal<'w>),
+}
+
+/// What the arguments of a command on sessions ask for.
+#[derive(Clone, Copy, Debug, PartialEq, Eq)]
+pub struct SessionRequest<'w> {
     /// The name of the file of the static strings.
     pub statics: &'w str,
     /// The quotas that it works within.

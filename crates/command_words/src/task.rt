@@ -41,7 +41,16 @@ pub struct Serving<'w> {
     pub actions: Option<&'w str>,
 }
 
-/// What a command is to do.
+/// The reliable sequence whose history is played.
+#[derive(Clone, Copy, Debug, PartialEq, Eq)]
+pub struct Rehearsal<'w> {
+    /// Its identifier, which has a character other than white space.
+    pub id: &'w str,
+    /// How far its numbers may be ahead, from 1 to 1,024.
+    pub window: u32,
+}
+
+/// What a command on sessions is to do.
 #[derive(Clone, Copy, Debug, PartialEq, Eq)]
 pub enum Task<'w> {
     /// To read a stream and report it: `check`, and `dump` with the documents.

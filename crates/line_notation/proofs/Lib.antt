@@ -18,6 +18,7 @@ pub mod QuotedFacts
 -- words behind a keyword (ReadingFacts), what records can hold (ValidFacts, HeldFacts), and where a
 -- line
 -- leads (PlacingFacts)
+pub mod ArgumentFacts
 pub mod GatherFacts
 pub mod GatherSteps
 pub mod HeldFacts

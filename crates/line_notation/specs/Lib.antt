@@ -1,7 +1,8 @@
 -- cited by public contracts: the words of a line (Words, Quoted, Numerals, Scalars, Values), its
 -- form (Forms), the lines of documents (Lines), what a form is refused for and says (Judging),
 -- where a reader stands (LineReaderState) and what it says of that (Between), what is put (Puts),
--- and the laws (Laws, Refusals)
+-- what stands by itself in other lines (Arguments), and the laws (Laws, Refusals)
+pub mod Arguments
 pub mod Between
 pub mod Forms
 pub mod Judging

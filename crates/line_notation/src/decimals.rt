@@ -18,7 +18,7 @@ fn last_digit(n: u64) -> u8
 // Puts a number of any kind as the kit formats it, by one put.
 #[inline(never)]
 fn put_formatted<I: Integer, K: Sink>(n: I, sink: &mut K) -> Result<(), SinkFault>
-    ensures { Puts K.written K.held K.faults K.may_want sink.old sink.new (I.text n) result }
+    ensures { Puts (K.view sink.old) (K.view sink.new) (I.text n) result }
 {
     let mut buffer = Buffer::new();
     put_bytes(buffer.format(n).as_bytes(), sink)
@@ -27,7 +27,7 @@ fn put_formatted<I: Integer, K: Sink>(n: I, sink: &mut K) -> Result<(), SinkFaul
 /// Puts a number in decimal digits, by one put. It fails as the sink does.
 #[inline(never)]
 pub fn put_number<K: Sink>(n: u64, sink: &mut K) -> Result<(), SinkFault>
-    ensures { Puts K.written K.held K.faults K.may_want sink.old sink.new (decimal n) result }
+    ensures { Puts (K.view sink.old) (K.view sink.new) (decimal n) result }
 {
     if n < 10 {
         return put_bytes(&[last_digit(n)], sink);
@@ -44,7 +44,7 @@ pub fn put_number<K: Sink>(n: u64, sink: &mut K) -> Result<(), SinkFault>
 
 /// Puts a number of up to 128 bits in decimal digits, by one put. It fails as the sink does.
 pub fn put_natural<K: Sink>(n: u128, sink: &mut K) -> Result<(), SinkFault>
-    ensures { Puts K.written K.held K.faults K.may_want sink.old sink.new (decimal n) result }
+    ensures { Puts (K.view sink.old) (K.view sink.new) (decimal n) result }
 {
     match u64::try_from(n) {
         Ok(small) => put_number(small, sink),
@@ -54,8 +54,7 @@ pub fn put_natural<K: Sink>(n: u128, sink: &mut K) -> Result<(), SinkFault>
 
 /// Puts a number that may be negative in decimal digits, by one put. It fails as the sink does.
 pub fn put_integer<K: Sink>(n: i128, sink: &mut K) -> Result<(), SinkFault>
-    ensures { Puts K.written K.held K.faults K.may_want sink.old sink.new
-        (signed_decimal n) result }
+    ensures { Puts (K.view sink.old) (K.view sink.new) (signed_decimal n) result }
 {
     match u64::try_from(n) {
         Ok(small) => put_number(small, sink),
@@ -67,8 +66,7 @@ pub fn put_integer<K: Sink>(n: i128, sink: &mut K) -> Result<(), SinkFault>
 /// were put. Only the sink takes memory.
 #[inline(always)]
 pub fn put_labelled<K: Sink>(label: &str, n: u64, sink: &mut K) -> Result<(), SinkFault>
-    ensures { Puts K.written K.held K.faults K.may_want sink.old sink.new
-        (label.now ++ decimal n) result }
+    ensures { Puts (K.view sink.old) (K.view sink.new) (label.now ++ decimal n) result }
 {
     put_plain(label, sink)?;
     put_number(n, sink)

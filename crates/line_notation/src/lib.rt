@@ -12,10 +12,12 @@
 //! puts: where a put is expensive, give a buffering sink, such as `io_edges::GatheringSink`. They
 //! take no memory but the sink's. A `LineReader` reads line after line, and is proved to answer
 //! what the definitions bring: a document at its last line, or the first refusal, with the line's
-//! number. `laws` has that reading what was put gives the document back, that documents come from
-//! their own lines alone, and which lines are refused for what.
+//! number. Other lines have the same texts and numbers: `unquote` and `number_up_to` read one that
+//! stands by itself. `laws` has that reading what was put gives the document back, that documents
+//! come from their own lines alone, and which lines are refused for what.
 #![tactic(auto)]
 
+mod arguments;
 mod arrays;
 mod decimals;
 mod digits;
@@ -35,6 +37,7 @@ mod texts;
 mod values;
 mod words;
 
+pub use arguments::{QuoteFault, number_up_to, unquote};
 pub use decimals::put_labelled;
 pub use printing::print;
 pub use puts::{Word, put_joined, put_plain, put_words, quote};

@@ -42,7 +42,7 @@ fn sign_word(negative: bool) -> &'static str
 #[inline(always)]
 fn put_one<K: Sink>(kind: ScalarKind, word: Word, sink: &mut K) -> Result<(), SinkFault>
     requires { IsPuttable word }
-    ensures { Puts K.written K.held K.faults K.may_want sink.old sink.new
+    ensures { Puts (K.view sink.old) (K.view sink.new)
         (behind_spaces (scalar_kind_word kind ∷ word_bytes word.entry ∷ [])) result }
 {
     put_bytes(b" ", sink)?;
@@ -51,7 +51,7 @@ fn put_one<K: Sink>(kind: ScalarKind, word: Word, sink: &mut K) -> Result<(), Si
 }
 
 fn put_decimal<K: Sink>(dec: Dec, sink: &mut K) -> Result<(), SinkFault>
-    ensures { Puts K.written K.held K.faults K.may_want sink.old sink.new
+    ensures { Puts (K.view sink.old) (K.view sink.new)
         (behind_spaces (scalar_words (Scalar.Decimal dec))) result }
 {
     let words = [
@@ -65,14 +65,14 @@ fn put_decimal<K: Sink>(dec: Dec, sink: &mut K) -> Result<(), SinkFault>
 
 // Puts a bit pattern by its bytes.
 fn put_bits<K: Sink>(kind: ScalarKind, bytes: &[u8], sink: &mut K) -> Result<(), SinkFault>
-    ensures { Puts K.written K.held K.faults K.may_want sink.old sink.new
+    ensures { Puts (K.view sink.old) (K.view sink.new)
         (behind_spaces (scalar_kind_word kind ∷ encode_lower bytes.now ∷ [])) result }
 {
     put_one(kind, Word::Digits(bytes), sink)
 }
 
 fn put_blob<K: Sink>(bytes: &Blob, sink: &mut K) -> Result<(), SinkFault>
-    ensures { Puts K.written K.held K.faults K.may_want sink.old sink.new
+    ensures { Puts (K.view sink.old) (K.view sink.new)
         (behind_spaces (scalar_words (Scalar.Bytes bytes.now))) result }
 {
     put_one(
@@ -84,7 +84,7 @@ fn put_blob<K: Sink>(bytes: &Blob, sink: &mut K) -> Result<(), SinkFault>
 
 fn put_name<K: Sink>(letter: u8, name: &Txt, sink: &mut K) -> Result<(), SinkFault>
     requires { letter ≤ 25 }
-    ensures { Puts K.written K.held K.faults K.may_want sink.old sink.new
+    ensures { Puts (K.view sink.old) (K.view sink.new)
         (behind_spaces (scalar_words (Scalar.QName letter name.now))) result }
 {
     let words = [
@@ -98,7 +98,7 @@ fn put_name<K: Sink>(letter: u8, name: &Txt, sink: &mut K) -> Result<(), SinkFau
 // Puts a value's words, each after a space.
 fn put_scalar<K: Sink>(scalar: &Scalar, sink: &mut K) -> Result<(), SinkFault>
     requires { IsTrue (is_valid_scalar scalar.now) }
-    ensures { Puts K.written K.held K.faults K.may_want sink.old sink.new
+    ensures { Puts (K.view sink.old) (K.view sink.new)
         (behind_spaces (scalar_words scalar.now)) result }
 {
     match scalar {
@@ -122,7 +122,7 @@ fn put_scalar<K: Sink>(scalar: &Scalar, sink: &mut K) -> Result<(), SinkFault>
 // Puts values' words, each after a space.
 fn put_scalars<K: Sink>(scalars: &[Scalar], sink: &mut K) -> Result<(), SinkFault>
     requires { IsTrue (list_all is_valid_scalar scalars.now) }
-    ensures { Puts K.written K.held K.faults K.may_want sink.old sink.new
+    ensures { Puts (K.view sink.old) (K.view sink.new)
         (behind_spaces (flat_map scalar_words scalars.now)) result }
 {
     for scalar in scalars {
@@ -133,7 +133,7 @@ fn put_scalars<K: Sink>(scalars: &[Scalar], sink: &mut K) -> Result<(), SinkFaul
 
 fn put_list<K: Sink>(values: &Values, sink: &mut K) -> Result<(), SinkFault>
     requires { IsTrue (list_all is_valid_scalar values.now) }
-    ensures { Puts K.written K.held K.faults K.may_want sink.old sink.new
+    ensures { Puts (K.view sink.old) (K.view sink.new)
         (behind_spaces (value_words (written_value (Value.List values.now)))) result }
 {
     let count = values.len();
@@ -143,7 +143,7 @@ fn put_list<K: Sink>(values: &Values, sink: &mut K) -> Result<(), SinkFault>
 
 fn put_value<K: Sink>(value: &Value, sink: &mut K) -> Result<(), SinkFault>
     requires { IsTrue (is_valid_value value.now) }
-    ensures { Puts K.written K.held K.faults K.may_want sink.old sink.new
+    ensures { Puts (K.view sink.old) (K.view sink.new)
         (behind_spaces (value_words (written_value value.now))) result }
 {
     match value {
@@ -155,7 +155,7 @@ fn put_value<K: Sink>(value: &Value, sink: &mut K) -> Result<(), SinkFault>
 // Puts a line of a keyword and words.
 fn put_line<K: Sink>(keyword: Keyword, words: &[Word], sink: &mut K) -> Result<(), SinkFault>
     requires { All IsPuttable words.now }
-    ensures { Puts K.written K.held K.faults K.may_want sink.old sink.new
+    ensures { Puts (K.view sink.old) (K.view sink.new)
         (with_line_feed (keyword_word keyword ++ spaced_words words.now)) result }
 {
     put_words(keyword.word(), words, sink)
@@ -169,7 +169,7 @@ fn put_names<K: Sink>(
     second: &Txt,
     sink: &mut K,
 ) -> Result<(), SinkFault>
-    ensures { Puts K.written K.held K.faults K.may_want sink.old sink.new
+    ensures { Puts (K.view sink.old) (K.view sink.new)
         (spaced (keyword_word keyword ∷ quoted first.now ∷ quoted second.now ∷ [])) result }
 {
     put_bytes(keyword.word().as_bytes(), sink)?;
@@ -188,7 +188,7 @@ fn put_named<K: Sink>(
     second: &Txt,
     sink: &mut K,
 ) -> Result<(), SinkFault>
-    ensures { Puts K.written K.held K.faults K.may_want sink.old sink.new
+    ensures { Puts (K.view sink.old) (K.view sink.new)
         (with_line_feed (spaced (keyword_word keyword ∷ quoted first.now ∷ quoted second.now ∷ [])))
         result }
 {
@@ -203,7 +203,7 @@ fn put_attribute<K: Sink>(
     sink: &mut K,
 ) -> Result<(), SinkFault>
     requires { IsTrue (is_valid_value value.now) }
-    ensures { Puts K.written K.held K.faults K.may_want sink.old sink.new
+    ensures { Puts (K.view sink.old) (K.view sink.new)
         (form_text (attr prefix.now local.now (written_value value.now))) result }
 {
     put_names(Keyword::Attr, prefix, local, sink)?;
@@ -213,7 +213,7 @@ fn put_attribute<K: Sink>(
 
 fn put_text<K: Sink>(value: &Value, sink: &mut K) -> Result<(), SinkFault>
     requires { IsTrue (is_valid_value value.now) }
-    ensures { Puts K.written K.held K.faults K.may_want sink.old sink.new
+    ensures { Puts (K.view sink.old) (K.view sink.new)
         (form_text (text (written_value value.now))) result }
 {
     put_bytes(Keyword::Text.word().as_bytes(), sink)?;
@@ -223,8 +223,7 @@ fn put_text<K: Sink>(value: &Value, sink: &mut K) -> Result<(), SinkFault>
 
 fn put_array_attribute<K: Sink>(one: &AttrItem, sink: &mut K) -> Result<(), SinkFault>
     requires { IsTrue (is_valid_attribute one.now) }
-    ensures { Puts K.written K.held K.faults K.may_want sink.old sink.new
-        (form_text (attribute_form one.now)) result }
+    ensures { Puts (K.view sink.old) (K.view sink.new) (form_text (attribute_form one.now)) result }
 {
     match one {
         AttrItem::Xmlns { prefix, uri } => put_named(Keyword::Ns, prefix, uri, sink),
@@ -238,7 +237,7 @@ fn put_array_attribute<K: Sink>(one: &AttrItem, sink: &mut K) -> Result<(), Sink
 
 fn put_array_attributes<K: Sink>(all: &[AttrItem], sink: &mut K) -> Result<(), SinkFault>
     requires { IsTrue (list_all is_valid_attribute all.now) }
-    ensures { Puts K.written K.held K.faults K.may_want sink.old sink.new
+    ensures { Puts (K.view sink.old) (K.view sink.new)
         (flat_map form_text (map attribute_form all.now)) result }
 {
     for one in all {
@@ -249,7 +248,7 @@ fn put_array_attributes<K: Sink>(all: &[AttrItem], sink: &mut K) -> Result<(), S
 
 fn put_array_values<K: Sink>(scalars: &[Scalar], sink: &mut K) -> Result<(), SinkFault>
     requires { IsTrue (list_all is_valid_scalar scalars.now) }
-    ensures { Puts K.written K.held K.faults K.may_want sink.old sink.new
+    ensures { Puts (K.view sink.old) (K.view sink.new)
         (form_text (values (written_scalars scalars.now))) result }
 {
     put_bytes(Keyword::Values.word().as_bytes(), sink)?;
@@ -263,7 +262,7 @@ fn put_array_start<K: Sink>(
     local: &Txt,
     sink: &mut K,
 ) -> Result<(), SinkFault>
-    ensures { Puts K.written K.held K.faults K.may_want sink.old sink.new
+    ensures { Puts (K.view sink.old) (K.view sink.new)
         (form_text (array kind prefix.now local.now)) result }
 {
     let words = [
@@ -276,8 +275,7 @@ fn put_array_start<K: Sink>(
 
 fn put_array<K: Sink>(array: &ArrayItem, sink: &mut K) -> Result<(), SinkFault>
     requires { IsTrue (is_valid_array array.now) }
-    ensures { Puts K.written K.held K.faults K.may_want sink.old sink.new
-        (item_text (Item.Array array.now)) result }
+    ensures { Puts (K.view sink.old) (K.view sink.new) (item_text (Item.Array array.now)) result }
 {
     put_array_start(array.kind, &array.prefix, &array.local, sink)?;
     put_array_attributes(array.attrs.as_slice(), sink)?;
@@ -286,8 +284,7 @@ fn put_array<K: Sink>(array: &ArrayItem, sink: &mut K) -> Result<(), SinkFault>
 
 fn put_item<K: Sink>(item: &Item, sink: &mut K) -> Result<(), SinkFault>
     requires { IsTrue (is_valid_item item.now) }
-    ensures { Puts K.written K.held K.faults K.may_want sink.old sink.new
-        (item_text item.now) result }
+    ensures { Puts (K.view sink.old) (K.view sink.new) (item_text item.now) result }
 {
     match item {
         Item::Start { prefix, local } => put_named(Keyword::Start, prefix, local, sink),
@@ -306,8 +303,7 @@ fn put_item<K: Sink>(item: &Item, sink: &mut K) -> Result<(), SinkFault>
 
 fn put_items<K: Sink>(items: &[Item], sink: &mut K) -> Result<(), SinkFault>
     requires { IsTrue (list_all is_valid_item items.now) }
-    ensures { Puts K.written K.held K.faults K.may_want sink.old sink.new
-        (items_text items.now) result }
+    ensures { Puts (K.view sink.old) (K.view sink.new) (items_text items.now) result }
 {
     for item in items {
         put_item(item, sink)?;
@@ -319,8 +315,7 @@ fn put_items<K: Sink>(items: &[Item], sink: &mut K) -> Result<(), SinkFault>
 /// is expensive, give a buffering sink, such as `io_edges::GatheringSink`. On an error first bytes
 /// of the lines were put. Only the sink takes memory.
 pub fn print<K: Sink>(doc: &Doc, sink: &mut K) -> Result<(), SinkFault>
-    ensures { Puts K.written K.held K.faults K.may_want sink.old sink.new
-        (items_text doc.now) result }
+    ensures { Puts (K.view sink.old) (K.view sink.new) (items_text doc.now) result }
 {
     put_items(doc.items().as_slice(), sink)
 }

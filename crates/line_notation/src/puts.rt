@@ -37,7 +37,7 @@ pub enum Word<'a> {
 /// Puts bytes by one put, with the contract of several puts. It fails as the sink does.
 #[inline(always)]
 pub fn put_bytes<K: Sink>(bytes: &[u8], sink: &mut K) -> Result<(), SinkFault>
-    ensures { Puts K.written K.held K.faults K.may_want sink.old sink.new bytes.now result }
+    ensures { Puts (K.view sink.old) (K.view sink.new) bytes.now result }
 {
     sink.put(bytes)
 }
@@ -46,7 +46,7 @@ pub fn put_bytes<K: Sink>(bytes: &[u8], sink: &mut K) -> Result<(), SinkFault>
 /// memory.
 #[inline(always)]
 pub fn put_plain<K: Sink>(text: &str, sink: &mut K) -> Result<(), SinkFault>
-    ensures { Puts K.written K.held K.faults K.may_want sink.old sink.new text.now result }
+    ensures { Puts (K.view sink.old) (K.view sink.new) text.now result }
 {
     put_bytes(text.as_bytes(), sink)
 }
@@ -160,8 +160,7 @@ fn spell(bytes: &[u8], piece: &mut [u8]) -> usize
 // Puts a few bytes as a quoted text shows them, by one put.
 fn put_piece<K: Sink>(bytes: &[u8], sink: &mut K) -> Result<(), SinkFault>
     requires { length bytes.now ≤ PIECE }
-    ensures { Puts K.written K.held K.faults K.may_want sink.old sink.new
-        (flat_map quoted_byte bytes.now) result }
+    ensures { Puts (K.view sink.old) (K.view sink.new) (flat_map quoted_byte bytes.now) result }
 {
     let mut piece = [0; 3 * PIECE + 1];
     let end = spell(bytes, &mut piece);
@@ -171,8 +170,7 @@ fn put_piece<K: Sink>(bytes: &[u8], sink: &mut K) -> Result<(), SinkFault>
 // Puts what a text has between its quotes: many plain bytes as they stand, others by pieces.
 #[inline(never)]
 fn put_pieces<K: Sink>(bytes: &[u8], sink: &mut K) -> Result<(), SinkFault>
-    ensures { Puts K.written K.held K.faults K.may_want sink.old sink.new
-        (flat_map quoted_byte bytes.now) result }
+    ensures { Puts (K.view sink.old) (K.view sink.new) (flat_map quoted_byte bytes.now) result }
 {
     let mut rest = bytes;
     while !rest.is_empty() {
@@ -193,8 +191,7 @@ fn put_pieces<K: Sink>(bytes: &[u8], sink: &mut K) -> Result<(), SinkFault>
 // Puts what a text of these bytes has between its quotes.
 #[inline(never)]
 fn put_shown<K: Sink>(bytes: &[u8], sink: &mut K) -> Result<(), SinkFault>
-    ensures { Puts K.written K.held K.faults K.may_want sink.old sink.new
-        (flat_map quoted_byte bytes.now) result }
+    ensures { Puts (K.view sink.old) (K.view sink.new) (flat_map quoted_byte bytes.now) result }
 {
     if are_plain(bytes) {
         return put_bytes(bytes, sink);
@@ -205,8 +202,7 @@ fn put_shown<K: Sink>(bytes: &[u8], sink: &mut K) -> Result<(), SinkFault>
 /// Puts what a quoted text has between its quotes. It fails as the sink does.
 #[inline(always)]
 pub fn put_within_quotes<K: Sink>(text: &str, sink: &mut K) -> Result<(), SinkFault>
-    ensures { Puts K.written K.held K.faults K.may_want sink.old sink.new
-        (flat_map quoted_byte text.now) result }
+    ensures { Puts (K.view sink.old) (K.view sink.new) (flat_map quoted_byte text.now) result }
 {
     match text.as_bytes() {
         [] => Ok(()),
@@ -221,7 +217,7 @@ pub fn put_within_quotes<K: Sink>(text: &str, sink: &mut K) -> Result<(), SinkFa
 /// puts: where a put is expensive, give a buffering sink, such as `io_edges::GatheringSink`. On an
 /// error first bytes of it were put. Only the sink takes memory.
 pub fn quote<K: Sink>(text: &str, sink: &mut K) -> Result<(), SinkFault>
-    ensures { Puts K.written K.held K.faults K.may_want sink.old sink.new (quoted text.now) result }
+    ensures { Puts (K.view sink.old) (K.view sink.new) (quoted text.now) result }
 {
     put_bytes(b"\"", sink)?;
     put_within_quotes(text, sink)?;
@@ -234,8 +230,7 @@ const CHUNK: usize = 32;
 // Puts the hexadecimal digits of a few bytes.
 fn put_chunk<K: Sink>(bytes: &[u8], sink: &mut K) -> Result<(), SinkFault>
     requires { length bytes.now ≤ CHUNK }
-    ensures { Puts K.written K.held K.faults K.may_want sink.old sink.new
-        (encode_lower bytes.now) result }
+    ensures { Puts (K.view sink.old) (K.view sink.new) (encode_lower bytes.now) result }
 {
     let mut digits = [0; 2 * CHUNK];
     let spelled = &mut digits[..2 * bytes.len()];
@@ -245,8 +240,7 @@ fn put_chunk<K: Sink>(bytes: &[u8], sink: &mut K) -> Result<(), SinkFault>
 
 // Puts the hexadecimal digits of bytes.
 fn put_digits<K: Sink>(bytes: &[u8], sink: &mut K) -> Result<(), SinkFault>
-    ensures { Puts K.written K.held K.faults K.may_want sink.old sink.new
-        (encode_lower bytes.now) result }
+    ensures { Puts (K.view sink.old) (K.view sink.new) (encode_lower bytes.now) result }
 {
     let mut rest = bytes;
     while !rest.is_empty() {
@@ -258,8 +252,7 @@ fn put_digits<K: Sink>(bytes: &[u8], sink: &mut K) -> Result<(), SinkFault>
 }
 
 fn put_digits_in_quotes<K: Sink>(bytes: &[u8], sink: &mut K) -> Result<(), SinkFault>
-    ensures { Puts K.written K.held K.faults K.may_want sink.old sink.new
-        (digits_in_quotes bytes.now) result }
+    ensures { Puts (K.view sink.old) (K.view sink.new) (digits_in_quotes bytes.now) result }
 {
     put_bytes(b"\"", sink)?;
     put_digits(bytes, sink)?;
@@ -267,8 +260,7 @@ fn put_digits_in_quotes<K: Sink>(bytes: &[u8], sink: &mut K) -> Result<(), SinkF
 }
 
 fn put_identifier<K: Sink>(bytes: &[u8; 16], sink: &mut K) -> Result<(), SinkFault>
-    ensures { Puts K.written K.held K.faults K.may_want sink.old sink.new
-        (identifier_word bytes.now) result }
+    ensures { Puts (K.view sink.old) (K.view sink.new) (identifier_word bytes.now) result }
 {
     let mut buffer = Uuid::encode_buffer();
     let id = Uuid::from_bytes_le(*bytes);
@@ -278,8 +270,7 @@ fn put_identifier<K: Sink>(bytes: &[u8; 16], sink: &mut K) -> Result<(), SinkFau
 #[inline(always)]
 fn put_word<K: Sink>(word: &Word, sink: &mut K) -> Result<(), SinkFault>
     requires { IsPuttable word.now }
-    ensures { Puts K.written K.held K.faults K.may_want sink.old sink.new
-        (word_bytes word.now) result }
+    ensures { Puts (K.view sink.old) (K.view sink.new) (word_bytes word.now) result }
 {
     match word {
         Word::Plain(text) => put_bytes(text.as_bytes(), sink),
@@ -297,8 +288,7 @@ fn put_word<K: Sink>(word: &Word, sink: &mut K) -> Result<(), SinkFault>
 #[inline(always)]
 pub fn put_spaced_word<K: Sink>(word: &Word, sink: &mut K) -> Result<(), SinkFault>
     requires { IsPuttable word.now }
-    ensures { Puts K.written K.held K.faults K.may_want sink.old sink.new
-        (spaced_word word.now) result }
+    ensures { Puts (K.view sink.old) (K.view sink.new) (spaced_word word.now) result }
 {
     put_bytes(b" ", sink)?;
     put_word(word, sink)
@@ -307,8 +297,7 @@ pub fn put_spaced_word<K: Sink>(word: &Word, sink: &mut K) -> Result<(), SinkFau
 /// Puts words, each after a space. It fails as the sink does.
 pub fn put_spaced_words<K: Sink>(words: &[Word], sink: &mut K) -> Result<(), SinkFault>
     requires { All IsPuttable words.now }
-    ensures { Puts K.written K.held K.faults K.may_want sink.old sink.new
-        (spaced_words words.now) result }
+    ensures { Puts (K.view sink.old) (K.view sink.new) (spaced_words words.now) result }
 {
     for word in words {
         put_spaced_word(word, sink)?;
@@ -320,8 +309,7 @@ pub fn put_spaced_words<K: Sink>(words: &[Word], sink: &mut K) -> Result<(), Sin
 /// put. Only the sink takes memory.
 pub fn put_joined<K: Sink>(words: &[Word], sink: &mut K) -> Result<(), SinkFault>
     requires { All IsPuttable words.now }
-    ensures { Puts K.written K.held K.faults K.may_want sink.old sink.new
-        (joined_words words.now) result }
+    ensures { Puts (K.view sink.old) (K.view sink.new) (joined_words words.now) result }
 {
     for word in words {
         put_word(word, sink)?;
@@ -333,7 +321,7 @@ pub fn put_joined<K: Sink>(words: &[Word], sink: &mut K) -> Result<(), SinkFault
 /// first bytes of it were put. Only the sink takes memory.
 pub fn put_words<K: Sink>(keyword: &str, words: &[Word], sink: &mut K) -> Result<(), SinkFault>
     requires { All IsPuttable words.now }
-    ensures { Puts K.written K.held K.faults K.may_want sink.old sink.new
+    ensures { Puts (K.view sink.old) (K.view sink.new)
         (with_line_feed (keyword.now ++ spaced_words words.now)) result }
 {
     put_bytes(keyword.as_bytes(), sink)?;

@@ -48,8 +48,9 @@ fn escaped_byte(pieces: &[u8]) -> Option<u8>
     }
 }
 
-// The bytes of a text that these pieces write.
-fn unescaped(alloc: Global, pieces: &[u8]) -> Result<Vec<u8>, Stop>
+/// The bytes of a text that these pieces write. It fails where they aren't plain bytes and escapes,
+/// or without memory.
+pub fn unescaped(alloc: Global, pieces: &[u8]) -> Result<Vec<u8>, Stop>
     ensures { Finds (λ text. text.items) result (spec.unescaped pieces.now) }
 {
     let mut text = Vec::new(alloc);
@@ -91,7 +92,8 @@ fn shown_text(alloc: Global, bytes: &[u8]) -> Result<Judged<Txt>, Stop>
     Ok(Ok(Txt::of(alloc, text)?))
 }
 
-fn judged_text(bytes: Vec<u8>) -> Judged<Txt>
+/// These bytes as a text; BadText where they aren't UTF-8.
+pub fn judged_text(bytes: Vec<u8>) -> Judged<Txt>
     ensures { result ≡ judged_text bytes.items }
 {
     match String::from_utf8(bytes) {

@@ -1,11 +1,11 @@
 use Rattle.std.proofs.lemmas.Result.{err_from_is_err_and}
-use Rattle.io_edges.proofs.Putting.{PutsAll-then, PutsAll-cut}
+use Rattle.io_edges.proofs.Putting.{Puts-then, Puts-cut}
 use Rattle.line_notation.proofs.decimals.put_labelled.Goals as goal
 
 pub returns-in_err-put_plain : goal.returns-in_err-put_plain
 returns-in_err-put_plain g c =
     let p = err_from_is_err_and c.from_residual.result c.from_residual.ensures.1 in
-    rw (p.1, p.2) (PutsAll-cut _ c.in_err-put_plain.ensures)
+    rw (p.1, p.2) (Puts-cut _ c.in_err-put_plain.ensures)
 
 pub returns : goal.returns
-returns g c = PutsAll-then _ c.in_ok-put_plain.ensures c.put_number.ensures
+returns g c = Puts-then _ c.in_ok-put_plain.ensures c.put_number.ensures

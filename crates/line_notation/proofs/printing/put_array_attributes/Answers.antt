@@ -25,4 +25,4 @@ returns g c =
     c.loop-one.invariant)
 
 pub loop-one-init : goal.loop-one-init
-loop-one-init g c = HavePut-none _ _ _ _ _ (flat_map-joins (λ one. form_text (attribute_form one)))
+loop-one-init g c = HavePut-none _ _ (flat_map-joins (λ one. form_text (attribute_form one)))

@@ -6,6 +6,4 @@ use Rattle.line_notation.proofs.printing.put_array_attributes.Given as goal
 abbrev pub invariant-loop-one : goal.invariant-loop-one
 invariant-loop-one g l =
     HavePut (flat_map (λ one. form_text (attribute_form one))) l.all (drop l.one-index l.all)
-    (g.K.Sink.written l.fn.sink) (g.K.Sink.written l.sink)
-    (g.K.Sink.held l.fn.sink) (g.K.Sink.held l.sink) (g.K.Sink.faults l.fn.sink)
-    (g.K.Sink.faults l.sink) (g.K.Sink.may_want l.fn.sink) (g.K.Sink.may_want l.sink)
+    (g.K.Sink.view l.fn.sink) (g.K.Sink.view l.sink)

@@ -24,4 +24,4 @@ returns g c =
     (HavePut-list item_text c.loop-item.item-index c.loop-item-test.false c.loop-item.invariant)
 
 pub loop-item-init : goal.loop-item-init
-loop-item-init g c = HavePut-none _ _ _ _ _ (flat_map-joins item_text)
+loop-item-init g c = HavePut-none _ _ (flat_map-joins item_text)

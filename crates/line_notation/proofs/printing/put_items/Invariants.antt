@@ -5,6 +5,4 @@ use Rattle.line_notation.proofs.printing.put_items.Given as goal
 abbrev pub invariant-loop-item : goal.invariant-loop-item
 invariant-loop-item g l =
     HavePut (flat_map item_text) l.items (drop l.item-index l.items)
-    (g.K.Sink.written l.fn.sink) (g.K.Sink.written l.sink)
-    (g.K.Sink.held l.fn.sink) (g.K.Sink.held l.sink) (g.K.Sink.faults l.fn.sink)
-    (g.K.Sink.faults l.sink) (g.K.Sink.may_want l.fn.sink) (g.K.Sink.may_want l.sink)
+    (g.K.Sink.view l.fn.sink) (g.K.Sink.view l.sink)

@@ -7,7 +7,4 @@ abbrev pub invariant-loop-scalar : goal.invariant-loop-scalar
 invariant-loop-scalar g l =
     HavePut (flat_map (λ s. behind_spaces (scalar_words s))) l.scalars
     (drop l.scalar-index l.scalars)
-    (g.K.Sink.written l.fn.sink) (g.K.Sink.written l.sink)
-    (g.K.Sink.held l.fn.sink) (g.K.Sink.held l.sink)
-    (g.K.Sink.faults l.fn.sink) (g.K.Sink.faults l.sink) (g.K.Sink.may_want l.fn.sink)
-    (g.K.Sink.may_want l.sink)
+    (g.K.Sink.view l.fn.sink) (g.K.Sink.view l.sink)

@@ -15,4 +15,4 @@ loop-rest-preserved g c =
     (rw c.split_at.ensures.front at c.in_ok-put_chunk.ensures))
 
 pub loop-rest-init : goal.loop-rest-init
-loop-rest-init g c = HavePut-none _ _ _ _ _ encode_lower-joins
+loop-rest-init g c = HavePut-none _ _ encode_lower-joins

@@ -4,10 +4,7 @@ use Rattle.line_notation.proofs.puts.put_digits.Given as goal
 
 abbrev pub invariant-loop-rest : goal.invariant-loop-rest
 invariant-loop-rest g l =
-    HavePut encode_lower l.bytes l.rest (g.K.Sink.written l.fn.sink) (g.K.Sink.written l.sink)
-    (g.K.Sink.held l.fn.sink) (g.K.Sink.held l.sink)
-    (g.K.Sink.faults l.fn.sink) (g.K.Sink.faults l.sink) (g.K.Sink.may_want l.fn.sink)
-    (g.K.Sink.may_want l.sink)
+    HavePut encode_lower l.bytes l.rest (g.K.Sink.view l.fn.sink) (g.K.Sink.view l.sink)
 
 abbrev pub decreases-loop-rest : goal.decreases-loop-rest
 decreases-loop-rest g l = length l.rest

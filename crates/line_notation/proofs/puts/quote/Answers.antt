@@ -1,5 +1,5 @@
 use Rattle.std.proofs.{Common.[], Common.◌∷◌, lemmas.Result.err_from_is_err_and}
-use Rattle.io_edges.proofs.Putting.{PutsAll-cut, PutsAll-then}
+use Rattle.io_edges.proofs.Putting.{Puts-cut, Puts-then}
 use Rattle.line_notation.specs.Quoted.{quoted}
 use Rattle.line_notation.proofs.puts.quote.Goals as goal
 
@@ -7,7 +7,7 @@ pub returns-in_err-put_bytes : goal.returns-in_err-put_bytes
 unfolding quoted
 returns-in_err-put_bytes g c =
     let p = err_from_is_err_and c.from_residual.result c.from_residual.ensures.1 in
-    rw (p.1, p.2) (PutsAll-cut _ c.in_err-put_bytes.ensures)
+    rw (p.1, p.2) (Puts-cut _ c.in_err-put_bytes.ensures)
 
 pub returns-in_err-put_within_quotes : goal.returns-in_err-put_within_quotes
 unfolding quoted
@@ -15,11 +15,11 @@ returns-in_err-put_within_quotes g c =
     let p = err_from_is_err_and c.from_residual-in_err-put_within_quotes.result
     c.from_residual-in_err-put_within_quotes.ensures.1 in
     rw (p.1, p.2)
-    (PutsAll-cut (34 ∷ [])
-    (PutsAll-then _ c.in_ok-put_bytes.ensures c.in_err-put_within_quotes.ensures))
+    (Puts-cut (34 ∷ [])
+    (Puts-then _ c.in_ok-put_bytes.ensures c.in_err-put_within_quotes.ensures))
 
 pub returns : goal.returns
 unfolding quoted
 returns g c =
-    PutsAll-then _ c.in_ok-put_bytes.ensures (PutsAll-then _ c.in_ok-put_within_quotes.ensures
+    Puts-then _ c.in_ok-put_bytes.ensures (Puts-then _ c.in_ok-put_within_quotes.ensures
     c.put_bytes-2.ensures)
