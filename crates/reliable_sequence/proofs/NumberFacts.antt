@@ -6,7 +6,7 @@ use Rattle.std.proofs.lemmas.Bool.{cases_lt, le-leb, le-ltb, leb-true, ltb-false
 use Rattle.nbfx_values.specs.declared.content.Item.{Item}
 use Rattle.reliable_sequence.specs.declared.ranges.Range.{Range}
 use Rattle.reliable_sequence.specs.Received.{place_of}
-use Rattle.reliable_sequence.specs.Ranges.{begun_with, ended, first_above, is_in, is_within, range, rise_from, runs}
+use Rattle.reliable_sequence.specs.Ranges.{begun_with, Below, ended, first_above, is_in, is_within, range, rise_from, runs}
 use Rattle.reliable_sequence.specs.{Sent.without, Sent.without_all, Slots.body_at, Slots.Slots}
 use Rattle.reliable_sequence.proofs.PlaceFacts.{freed_at-within, free_at-freed, kept_at-freed}
 use Rattle.reliable_sequence.proofs.SlotFacts.{length-freed}
@@ -93,11 +93,6 @@ kept-without_all front slots [] place body e = e
 kept-without_all front slots (r ∷ more) place body e =
     kept_at-freed slots (place_of front r.lower) (r.upper - front) place body
     (kept-without_all front (without front slots r) more place body e)
-
--- no range ends above a number
-abbrev pub Below : ℕ → List Range → Type 0
-Below number [] = Unit {0}
-Below number (r ∷ more) = (r.upper ≤ number) × Below number more
 
 pub below-more : (a b : ℕ) (ranges : List Range) → a ≤ b → Below a ranges → Below b ranges
 below-more a b [] le below = tt
@@ -320,3 +315,14 @@ in-bound bound (r ∷ more) number none e =
     go true is found rest = cc
     go false is found rest =
         bound-first bound r more number e (rest found) (ltb-false bound r.upper is)
+
+pub below-of : (bound : ℕ) (ranges : List Range) → first_above bound ranges ≡ None
+    → Below bound ranges
+below-of bound [] none = tt
+below-of bound (r ∷ more) none = go (nat_lt bound r.upper) refl none (below-of bound more)
+  where
+    go : (above : Bool) → nat_lt bound r.upper ≡ above
+        → (if above then Some r.upper else first_above bound more) ≡ None
+        → (first_above bound more ≡ None → Below bound more) → Below bound (r ∷ more)
+    go true is found rest = cc
+    go false is found rest = (ltb-false bound r.upper is, rest found)

@@ -2,7 +2,7 @@
 use Rattle.std.proofs.Common.{◌≡◌, ◌≢◌, ℕ, zero, suc, ◌+◌, ◌<◌, ◌≤◌, ◌⊎◌, List, [], ◌∷◌, ◌++◌}
 use Rattle.std.proofs.Common.{length, drop, slice_get, Some, None, inl, inr, refl, ap, arith}
 use Rattle.nbfx_values.specs.declared.content.Item.{Item}
-use Rattle.reliable_sequence.specs.Slots.{body_at, freed, leading_free, Slots, with_body}
+use Rattle.reliable_sequence.specs.Slots.{body_at, free_count, freed, leading_free, Slots, with_body}
 
 pub body_at-with_body_same : (slots : Slots) (at : ℕ) (body : List Item)
     → body_at (with_body slots at body) at ≡ Some body
@@ -132,6 +132,12 @@ pub leading_free-push : (slots : Slots) (body : List Item) → leading_free slot
 leading_free-push [] body none = refl
 leading_free-push (None ∷ more) body none = absurd (omega arith)
 leading_free-push (Some first ∷ more) body none = refl
+
+pub free_count-push : (slots : Slots) (body : List Item)
+    → free_count (slots ++ Some body ∷ []) ≡ free_count slots
+free_count-push [] body = refl
+free_count-push (None ∷ more) body = ap suc (free_count-push more body)
+free_count-push (Some first ∷ more) body = free_count-push more body
 
 pub freed_at-within : (slots : Slots) (from end i : ℕ) → from ≤ i → i < end
     → body_at (freed slots from end) i ≡ None

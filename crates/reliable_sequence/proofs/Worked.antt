@@ -2,11 +2,10 @@
 use Rattle.std.proofs.Common.{◌≡◌, ℕ, Bool, true, false, List, [], ◌∷◌, map, Some, None, Option, Ok, Err}
 use Rattle.std.proofs.Common.{codes, Result, refl}
 use Rattle.nbfx_values.specs.declared.content.Item.{Item, TheVariants.Comment}
-use Rattle.reliable_sequence.specs.declared.{faults.TakeFault.TakeFault, parts.Data.Data}
-use Rattle.reliable_sequence.specs.declared.faults.AckFault.{AckFault, TheVariants.InvalidAck}
+use Rattle.reliable_sequence.specs.declared.{faults.RmFault.RmFault, parts.Data.Data}
+use Rattle.reliable_sequence.specs.declared.faults.RmFault.TheVariants.{AfterLast, InvalidAck}
 use Rattle.reliable_sequence.specs.declared.faults.SubmitFault.{TheVariants.Closed}
 use Rattle.reliable_sequence.specs.declared.faults.SubmitFault.TheVariants.{WindowFull}
-use Rattle.reliable_sequence.specs.declared.faults.TakeFault.TheVariants.{AfterLast}
 use Rattle.reliable_sequence.specs.declared.parts.Taken.{Taken, TheVariants.Again, TheVariants.Ahead}
 use Rattle.reliable_sequence.specs.declared.parts.Taken.TheVariants.{New}
 use Rattle.reliable_sequence.specs.declared.ranges.Range.{Range}
@@ -15,8 +14,9 @@ use Rattle.reliable_sequence.specs.Received.{Received, received, received_ranges
 use Rattle.reliable_sequence.specs.Sent.{acknowledged, acknowledged_count, data_of, is_acknowledged, Sent}
 use Rattle.reliable_sequence.specs.Sent.{submitted, submitted_count}
 use Rattle.reliable_sequence.specs.Slots.{Slots}
-use Rattle.reliable_sequence.specs.World.{Deliver, Event, new_world, run, Send, SendRanges, Submit}
-use Rattle.reliable_sequence.specs.World.{TakeData, TakeRanges, World}
+use Rattle.reliable_sequence.specs.declared.events.Event.{Event, TheVariants.Ack, TheVariants.Data as Hand}
+use Rattle.reliable_sequence.specs.declared.events.Event.TheVariants.{Deliver, Send, SendAck, Submit}
+use Rattle.reliable_sequence.specs.PlainWorld.{new_world, run, World}
 
 -- bodies
 abbrev x : List Item
@@ -48,8 +48,8 @@ worlds : AllSeen (
     (
       (
         32,
-        Submit x false ∷ Submit y false ∷ Send 2 ∷ Send 1 ∷ TakeData 0 ∷ Deliver ∷ SendRanges
-            ∷ TakeRanges 0 ∷ TakeData 1 ∷ TakeData 1 ∷ Deliver ∷ Deliver ∷ [],
+        Submit x false ∷ Submit y false ∷ Send 2 ∷ Send 1 ∷ Hand 0 ∷ Deliver ∷ SendAck
+            ∷ Ack 0 ∷ Hand 1 ∷ Hand 1 ∷ Deliver ∷ Deliver ∷ [],
       ),
       (x ∷ y ∷ [], (2, (2, 1))),
     )
@@ -58,16 +58,16 @@ worlds : AllSeen (
     ∷ (
       (
         1,
-        Submit x false ∷ Submit y false ∷ Send 1 ∷ TakeData 0 ∷ SendRanges ∷ TakeRanges 0
-            ∷ Submit z false ∷ Send 2 ∷ TakeData 1 ∷ Deliver ∷ Deliver ∷ [],
+        Submit x false ∷ Submit y false ∷ Send 1 ∷ Hand 0 ∷ SendAck ∷ Ack 0
+            ∷ Submit z false ∷ Send 2 ∷ Hand 1 ∷ Deliver ∷ Deliver ∷ [],
       ),
       (x ∷ [], (2, (1, 1))),
     )
     ∷ (
       (
         1,
-        Submit x false ∷ Send 1 ∷ TakeData 0 ∷ SendRanges ∷ TakeRanges 0 ∷ Submit z true ∷ Send 2
-            ∷ Deliver ∷ TakeData 1 ∷ Deliver ∷ SendRanges ∷ TakeRanges 1 ∷ [],
+        Submit x false ∷ Send 1 ∷ Hand 0 ∷ SendAck ∷ Ack 0 ∷ Submit z true ∷ Send 2
+            ∷ Deliver ∷ Hand 1 ∷ Deliver ∷ SendAck ∷ Ack 1 ∷ [],
       ),
       (x ∷ z ∷ [], (2, (2, 2))),
     )
@@ -75,7 +75,7 @@ worlds : AllSeen (
     ∷ (
       (
         32,
-        Submit x true ∷ Submit y false ∷ Send 2 ∷ Send 0 ∷ TakeData 0 ∷ TakeRanges 0 ∷ Deliver
+        Submit x true ∷ Submit y false ∷ Send 2 ∷ Send 0 ∷ Hand 0 ∷ Ack 0 ∷ Deliver
             ∷ [],
       ),
       ([], (1, (0, 0))),
@@ -84,8 +84,8 @@ worlds : AllSeen (
     ∷ (
       (
         32,
-        Submit x false ∷ Submit y false ∷ SendRanges ∷ Send 1 ∷ Send 2 ∷ TakeData 1 ∷ TakeData 0
-            ∷ SendRanges ∷ TakeRanges 1 ∷ TakeRanges 0 ∷ [],
+        Submit x false ∷ Submit y false ∷ SendAck ∷ Send 1 ∷ Send 2 ∷ Hand 1 ∷ Hand 0
+            ∷ SendAck ∷ Ack 1 ∷ Ack 0 ∷ [],
       ),
       ([], (2, (0, 2))),
     )
@@ -131,12 +131,12 @@ six last = record { window = 4; delivered = 3; held = None ∷ None ∷ Some x �
 abbrev with_number : ℕ → Bool → Data
 with_number number last = record { number = number; last = last; body = y }
 
-abbrev answer : Result (Taken × Received) TakeFault → Result (Taken × List Range) TakeFault
+abbrev answer : Result (Taken × Received) RmFault → Result (Taken × List Range) RmFault
 answer (Ok taken) = Ok (taken.0, received_ranges taken.1)
 answer (Err fault) = Err fault
 
 abbrev TakeRow : Type 0
-TakeRow = (Received × Data) × Result (Taken × List Range) TakeFault
+TakeRow = (Received × Data) × Result (Taken × List Range) RmFault
 
 abbrev AllTaken : List TakeRow → Type 0
 AllTaken rows =
@@ -187,7 +187,7 @@ messages = refl
 abbrev numbers : Sent → List Bool
 numbers s = map (is_acknowledged s) (0 ∷ 1 ∷ 3 ∷ 4 ∷ 5 ∷ 6 ∷ 7 ∷ [])
 
-abbrev told : Result Sent AckFault → Result (ℕ × List Bool) AckFault
+abbrev told : Result Sent RmFault → Result (ℕ × List Bool) RmFault
 told (Ok s) = Ok (s.front, numbers s)
 told (Err fault) = Err fault
 

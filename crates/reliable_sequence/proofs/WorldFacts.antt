@@ -3,27 +3,30 @@ use Rattle.std.proofs.Common.{◌≡◌, ℕ, zero, suc, ◌+◌, ◌-◌, ◌<�
 use Rattle.std.proofs.Common.{List, [], ◌∷◌, ◌++◌, length, take, slice_get, Some, None, Option, Ok, Err}
 use Rattle.std.proofs.Common.{inl, inr, refl, sym, ap, ◌∙◌, subst, arith, nat_le, nat_lt, if◌then◌else◌}
 use Rattle.std.proofs.Common.{is_some, IsTrue, length-append, length-drop}
-use Rattle.std.proofs.lemmas.Bool.{le-ltb, cases_eq, cases_lt, eqb-true, leb-false, ltb-false}
+use Rattle.std.proofs.lemmas.Bool.{le-ltb, lt-ltb, cases_eq, cases_lt, eqb-true, leb-false, ltb-false}
 use Rattle.std.proofs.lemmas.List.{append-nil, take_more, take-append-le}
 use Rattle.std.proofs.lemmas.Option.{none-some, get_or_from_slice_get, same_Some, slice_get_within}
 use Rattle.std.specs.Option.{option_to_list}
 use Rattle.nbfx_values.specs.declared.content.Item.{Item}
 use Rattle.reliable_sequence.specs.declared.{ranges.Range.Range, parts.Data.Data}
 use Rattle.reliable_sequence.specs.declared.faults.SubmitFault.TheVariants.{Closed, WindowFull}
-use Rattle.reliable_sequence.specs.declared.faults.TakeFault.TheVariants.{AfterLast}
+use Rattle.reliable_sequence.specs.declared.faults.RmFault.TheVariants.{AfterLast}
 use Rattle.reliable_sequence.specs.declared.parts.Taken.TheVariants.{Again, Ahead, New}
 use Rattle.reliable_sequence.specs.Ranges.{begun_at, first_above, is_in}
 use Rattle.reliable_sequence.specs.Received.{delivered_from, has_number, newest, next_body}
-use Rattle.reliable_sequence.specs.Received.{place_of, Received, received, received_again, received_anew}
+use Rattle.reliable_sequence.specs.Received.{place_of, received, received_again, received_anew}
 use Rattle.reliable_sequence.specs.Received.{is_behind, last_with, breaks_the_end, received_ranges}
-use Rattle.reliable_sequence.specs.Sent.{is_acknowledged, body_of, data_of, data_with, sent_with}
+use Rattle.reliable_sequence.specs.Sent.{is_acknowledged, body_of, data_of, data_with, Sent, sent_with}
 use Rattle.reliable_sequence.specs.Sent.{acknowledged_unless, sent_without, submitted_count, without_all}
 use Rattle.reliable_sequence.specs.Slots.{body_at, leading_free, Slots, with_body}
-use Rattle.reliable_sequence.specs.World.{after_acknowledgement, after_arrival, after_submission, Event}
-use Rattle.reliable_sequence.specs.World.{happens, run, new_world, World, with_sender, after_receipt}
-use Rattle.reliable_sequence.specs.World.{Submit, Send, TakeData, Deliver, SendRanges, TakeRanges}
+use Rattle.reliable_sequence.specs.Soundness.{AreReceived, Has, Holds, IsFaithful, IsSubmitted}
+use Rattle.reliable_sequence.specs.Soundness.{Keeps}
+use Rattle.reliable_sequence.specs.PlainWorld.{after_acknowledgement, after_arrival, after_submission}
+use Rattle.reliable_sequence.specs.PlainWorld.{happens, run, new_world, World, with_sender, after_receipt}
+use Rattle.reliable_sequence.specs.declared.events.Event.{Event, TheVariants.Ack, TheVariants.Data as Hand}
+use Rattle.reliable_sequence.specs.declared.events.Event.TheVariants.{Deliver, Send, SendAck, Submit}
 use Rattle.reliable_sequence.proofs.AckFacts.{acknowledged-parts, received-at, received-before}
-use Rattle.reliable_sequence.proofs.NumberFacts.{both-true, either-false, is_none_of, Below, BegunAre, below-more, free-without_all, kept-without_all}
+use Rattle.reliable_sequence.proofs.NumberFacts.{both-true, either-false, is_none_of, BegunAre, below-more, free-without_all, kept-without_all}
 use Rattle.reliable_sequence.proofs.NumberFacts.{none_above, runs-are, runs-below}
 use Rattle.reliable_sequence.proofs.PlaceFacts.{body_at-drop, body_at-push, body_at-with_body_other}
 use Rattle.reliable_sequence.proofs.PlaceFacts.{leading_free-drop, leading_free-push, body_at-with_body_same, free_at-push, free_in_front}
@@ -31,62 +34,35 @@ use Rattle.reliable_sequence.proofs.PlaceFacts.{slice_get-push, slice_get-push_b
 use Rattle.reliable_sequence.proofs.SentFacts.{length-without_all}
 use Rattle.reliable_sequence.proofs.SlotFacts.{leading_free-le, length-with_body}
 
--- a number is held
-pub record IsHeld (delivered : ℕ) (held : Slots) (number : ℕ) : Type 0 where
-  pub place : ℕ
-  pub body : List Item
-  pub is : number ≡ delivered + place + 1
-  pub found : body_at held place ≡ Some body
-
--- a number was delivered or is held
-abbrev pub Has : Received → ℕ → Type 0
-Has r number = (number ≤ r.delivered) ⊎ IsHeld r.delivered r.held number
-
--- what is sent is a body that was submitted under its number
-pub record IsSubmitted (bodies : List (List Item)) (closed : Bool) (d : Data) : Type 0 where
-  pub counted : 1 ≤ d.number
-  pub body : slice_get bodies (d.number - 1) ≡ Some d.body
-  pub last : d.last ≡ true → (closed ≡ true) × (d.number ≡ length bodies)
-
--- the numbers in ranges were received, and none is above the newest
-pub record AreReceived (r : Received) (ranges : List Range) : Type 0 where
-  pub each : (number : ℕ) → is_in ranges number ≡ true → Has r number
-  pub below : Below (newest r) ranges
-
-pub record IsFaithful (w : World) : Type 0 where
-  pub counted : submitted_count w.sender ≡ length w.bodies
-  pub kept : (place : ℕ) (body : List Item) → body_at w.sender.unacknowledged place ≡ Some body
-      → slice_get w.bodies (w.sender.front + place) ≡ Some body
-  pub passed : (number : ℕ) → number ≤ w.sender.front → Has w.receiver number
-  pub freed : (place : ℕ) → place < length w.sender.unacknowledged
-      → body_at w.sender.unacknowledged place ≡ None → Has w.receiver (w.sender.front + place + 1)
-  pub tight : leading_free w.sender.unacknowledged ≡ 0
-  pub in_order : w.delivered ≡ take w.receiver.delivered w.bodies
-  pub held : (place : ℕ) (body : List Item) → body_at w.receiver.held place ≡ Some body
-      → slice_get w.bodies (w.receiver.delivered + place) ≡ Some body
-  pub few : newest w.receiver ≤ length w.bodies
-  pub near : length w.receiver.held ≤ w.receiver.window
-  pub last : (number : ℕ) → w.receiver.last ≡ Some number
-      → (w.sender.closed ≡ true) × (number ≡ length w.bodies)
-  pub data_sent : (at : ℕ) (d : Data) → slice_get w.data_sent at ≡ Some d
-      → IsSubmitted w.bodies w.sender.closed d
-  pub ranges_sent : (at : ℕ) (ranges : List Range) → slice_get w.ranges_sent at ≡ Some ranges
-      → AreReceived w.receiver ranges
-
 pub faithful-new : (window : ℕ) → IsFaithful (new_world window)
 faithful-new window = record {
-  counted = refl;
-  kept = λ place body e. cc;
-  passed = λ number le. inl le;
-  freed = λ place below e. absurd (omega arith);
-  tight = refl;
-  in_order = refl;
-  held = λ place body e. cc;
-  few = omega arith;
-  near = omega arith;
-  last = λ number e. cc;
+  keeps = record {
+    counted = refl;
+    kept = λ place body e. cc;
+    passed = λ number le. inl le;
+    freed = λ place below e. absurd (omega arith);
+    tight = refl;
+  };
+  holds = record {
+    in_order = refl;
+    held = λ place body e. cc;
+    few = omega arith;
+    near = omega arith;
+    last = λ number e. cc;
+  };
   data_sent = λ at d e. cc;
   ranges_sent = λ at ranges e. cc;
+}
+
+-- where more was received
+received-more : (bodies : List (List Item)) (s : Sent) (Was Is : ℕ → Type 0)
+    → ((number : ℕ) → Was number → Is number) → Keeps bodies s Was → Keeps bodies s Is
+received-more bodies s Was Is more k = record {
+  counted = k.counted;
+  kept = k.kept;
+  passed = λ number le. more number (k.passed number le);
+  freed = λ place below e. more (s.front + place + 1) (k.freed place below e);
+  tight = k.tight;
 }
 
 -- a body is submitted
@@ -105,32 +81,37 @@ module _ (w : World) (f : IsFaithful w) where
       let slots = w.sender.unacknowledged in
       let long = length-append w.bodies (body ∷ []) in
       let wide = length-append slots (Some body ∷ []) in
-      let counted = f.counted in
-      let few = f.few in
+      let counted = f.keeps.counted in
+      let few = f.holds.few in
       record {
-        counted = omega arith;
-        kept = λ place found e.
-            elim (body_at-push slots body place found e) [
-              | inl before ↦
-                  slice_get-push_before w.bodies body (w.sender.front + place) found
-                  (f.kept place found before)
-              | inr this ↦
-                  let here : w.sender.front + place ≡ length w.bodies =
-                  let at = this.0 in omega arith in
-                  rw (here, this.1) (slice_get-push_last w.bodies found)
-            ];
-        passed = f.passed;
-        freed = λ place below e.
-            let free = free_at-push slots body place (omega arith) e in f.freed place free.0 free.1;
-        tight = leading_free-push slots body f.tight;
-        in_order = f.in_order
-            ∙ sym (take-append-le w.receiver.delivered w.bodies (body ∷ []) (omega arith));
-        held = λ place found e.
-            slice_get-push_before w.bodies body (w.receiver.delivered + place) found
-            (f.held place found e);
-        few = omega arith;
-        near = f.near;
-        last = λ number e. let no = (f.last number e).0 in cc;
+        keeps = record {
+          counted = omega arith;
+          kept = λ place found e.
+              elim (body_at-push slots body place found e) [
+                | inl before ↦
+                    slice_get-push_before w.bodies body (w.sender.front + place) found
+                    (f.keeps.kept place found before)
+                | inr this ↦
+                    let here : w.sender.front + place ≡ length w.bodies =
+                    let at = this.0 in omega arith in
+                    rw (here, this.1) (slice_get-push_last w.bodies found)
+              ];
+          passed = f.keeps.passed;
+          freed = λ place below e.
+              let free = free_at-push slots body place (omega arith) e in
+              f.keeps.freed place free.0 free.1;
+          tight = leading_free-push slots body f.keeps.tight;
+        };
+        holds = record {
+          in_order = f.holds.in_order
+              ∙ sym (take-append-le w.receiver.delivered w.bodies (body ∷ []) (omega arith));
+          held = λ place found e.
+              slice_get-push_before w.bodies body (w.receiver.delivered + place) found
+              (f.holds.held place found e);
+          few = omega arith;
+          near = f.holds.near;
+          last = λ number e. let no = (f.holds.last number e).0 in cc;
+        };
         data_sent = λ at d e.
             submitted-more w.bodies body d last
             (subst (λ (closed : Bool). IsSubmitted w.bodies closed d) still (f.data_sent at d e));
@@ -139,7 +120,7 @@ module _ (w : World) (f : IsFaithful w) where
 
   pub faithful-submit : (body : List Item) (last : Bool) → IsFaithful (happens w (Submit body last))
   faithful-submit body last =
-      go w.sender.closed (nat_le w.sender.window (length w.sender.unacknowledged)) refl
+      go w.sender.closed (length w.sender.unacknowledged == w.sender.window) refl
     where
       go : (closed full : Bool) → w.sender.closed ≡ closed
           → IsFaithful (after_submission w body
@@ -151,7 +132,7 @@ module _ (w : World) (f : IsFaithful w) where
       go false false e = faithful-submitted body last e
 
   -- a body is sent
-  sent-submitted : (number : ℕ) (body : List Item) → body_of w.sender number ≡ Some body
+  pub sent-submitted : (number : ℕ) (body : List Item) → body_of w.sender number ≡ Some body
       → IsSubmitted w.bodies w.sender.closed (data_with w.sender number body)
   sent-submitted number body e = go (nat_le number w.sender.front) refl e
     where
@@ -163,11 +144,11 @@ module _ (w : World) (f : IsFaithful w) where
       go false is found =
           let above = leb-false number w.sender.front is in
           let here : w.sender.front + place_of w.sender.front number ≡ number - 1 = omega arith in
-          let counted = f.counted in
+          let counted = f.keeps.counted in
           record {
             counted = omega arith;
             body = ap (slice_get w.bodies) (sym here)
-                ∙ f.kept (place_of w.sender.front number) body found;
+                ∙ f.keeps.kept (place_of w.sender.front number) body found;
             last = λ both.
                 let parts = both-true w.sender.closed (number == submitted_count w.sender) both in
                 (parts.0, eqb-true number (submitted_count w.sender) parts.1 ∙ counted);
@@ -176,38 +157,25 @@ module _ (w : World) (f : IsFaithful w) where
   with_data : (sent : Option Data)
       → ((d : Data) → sent ≡ Some d → IsSubmitted w.bodies w.sender.closed d)
       → IsFaithful (record w { data_sent = w.data_sent ++ option_to_list sent })
-  with_data None all = record {
-    counted = f.counted;
-    kept = f.kept;
-    passed = f.passed;
-    freed = f.freed;
-    tight = f.tight;
-    in_order = f.in_order;
-    held = f.held;
-    few = f.few;
-    near = f.near;
-    last = f.last;
+  with_data sent all = record {
+    keeps = f.keeps;
+    holds = f.holds;
+    data_sent = sent-among sent all;
     ranges_sent = f.ranges_sent;
-    data_sent = λ at d e. f.data_sent at d (ap (λ (ds : List Data). slice_get ds at) (sym (append-nil w.data_sent)) ∙ e);
   }
-  with_data (Some sent) all = record {
-    counted = f.counted;
-    kept = f.kept;
-    passed = f.passed;
-    freed = f.freed;
-    tight = f.tight;
-    in_order = f.in_order;
-    held = f.held;
-    few = f.few;
-    near = f.near;
-    last = f.last;
-    ranges_sent = f.ranges_sent;
-    data_sent = λ at d e.
-        elim (slice_get-push w.data_sent sent at d e) [
-          | inl before ↦ f.data_sent at d before
-          | inr this ↦ all d (ap Some this.1)
-        ];
-  }
+    where
+      sent-among : (more : Option Data)
+          → ((d : Data) → more ≡ Some d → IsSubmitted w.bodies w.sender.closed d)
+          → (at : ℕ) (d : Data) → slice_get (w.data_sent ++ option_to_list more) at ≡ Some d
+          → IsSubmitted w.bodies w.sender.closed d
+      sent-among None all at d e =
+          f.data_sent at d
+          (ap (λ (ds : List Data). slice_get ds at) (sym (append-nil w.data_sent)) ∙ e)
+      sent-among (Some this) all at d e =
+          elim (slice_get-push w.data_sent this at d e) [
+            | inl before ↦ f.data_sent at d before
+            | inr last ↦ all d (ap Some last.1)
+          ]
 
   sent-are : (body : Option (List Item)) (number : ℕ) → body_of w.sender number ≡ body
       → (d : Data) → option_map (data_with w.sender number) body ≡ Some d
@@ -234,21 +202,13 @@ module _ (w : World) (f : IsFaithful w) where
       begun true = tt
       begun false = λ number low high. inl high
 
-  pub faithful-send_ranges : IsFaithful (happens w SendRanges)
+  pub faithful-send_ranges : IsFaithful (happens w SendAck)
   faithful-send_ranges =
       let below = runs-below w.receiver.held (begun_at w.receiver.delivered) w.receiver.delivered
       (newest w.receiver) (omega arith) in
       record {
-        counted = f.counted;
-        kept = f.kept;
-        passed = f.passed;
-        freed = f.freed;
-        tight = f.tight;
-        in_order = f.in_order;
-        held = f.held;
-        few = f.few;
-        near = f.near;
-        last = f.last;
+        keeps = f.keeps;
+        holds = f.holds;
         data_sent = f.data_sent;
         ranges_sent = λ at ranges e.
             elim (slice_get-push w.ranges_sent (received_ranges w.receiver) at ranges e) [
@@ -270,34 +230,32 @@ module _ (w : World) (f : IsFaithful w) where
       let long = length-without_all front slots ranges in
       let few = leading_free-le left in
       let rest = length-drop count left in
-      let counted = f.counted in
-      let free = free-without_all (Has w.receiver) front slots ranges f.freed all.each in
+      let counted = f.keeps.counted in
+      let free = free-without_all (Has w.receiver) front slots ranges f.keeps.freed all.each in
       record {
-        counted = omega arith;
-        kept = λ place body e.
-            let found = kept-without_all front slots ranges (count + place) body
-            (sym (body_at-drop count left place) ∙ e) in
-            let same : front + (count + place) ≡ front + count + place = omega arith in
-            ap (slice_get w.bodies) (sym same) ∙ f.kept (count + place) body found;
-        passed = λ number le.
-            elim (cases_lt front number) [
-              | inl above ↦
-                  let here : front + (number - front - 1) + 1 ≡ number = omega arith in
-                  subst (Has w.receiver) here
-                  (free (number - front - 1) (omega arith)
-                  (free_in_front left (number - front - 1) (omega arith)))
-              | inr most ↦ f.passed number most
-            ];
-        freed = λ place below e.
-            let same : front + (count + place) + 1 ≡ front + count + place + 1 = omega arith in
-            subst (Has w.receiver) same
-            (free (count + place) (omega arith) (sym (body_at-drop count left place) ∙ e));
-        tight = leading_free-drop left;
-        in_order = f.in_order;
-        held = f.held;
-        few = f.few;
-        near = f.near;
-        last = f.last;
+        keeps = record {
+          counted = omega arith;
+          kept = λ place body e.
+              let found = kept-without_all front slots ranges (count + place) body
+              (sym (body_at-drop count left place) ∙ e) in
+              let same : front + (count + place) ≡ front + count + place = omega arith in
+              ap (slice_get w.bodies) (sym same) ∙ f.keeps.kept (count + place) body found;
+          passed = λ number le.
+              elim (cases_lt front number) [
+                | inl above ↦
+                    let here : front + (number - front - 1) + 1 ≡ number = omega arith in
+                    subst (Has w.receiver) here
+                    (free (number - front - 1) (omega arith)
+                    (free_in_front left (number - front - 1) (omega arith)))
+                | inr most ↦ f.keeps.passed number most
+              ];
+          freed = λ place below e.
+              let same : front + (count + place) + 1 ≡ front + count + place + 1 = omega arith in
+              subst (Has w.receiver) same
+              (free (count + place) (omega arith) (sym (body_at-drop count left place) ∙ e));
+          tight = leading_free-drop left;
+        };
+        holds = f.holds;
         data_sent = f.data_sent;
         ranges_sent = f.ranges_sent;
       }
@@ -305,13 +263,13 @@ module _ (w : World) (f : IsFaithful w) where
   pub ranges-accepted : (at : ℕ) (ranges : List Range) → slice_get w.ranges_sent at ≡ Some ranges
       → first_above (submitted_count w.sender) ranges ≡ None
   ranges-accepted at ranges e =
-      let counted = f.counted in
-      let few = f.few in
+      let counted = f.keeps.counted in
+      let few = f.holds.few in
       none_above (submitted_count w.sender) ranges
       (below-more (newest w.receiver) (submitted_count w.sender) ranges (omega arith)
       (f.ranges_sent at ranges e).below)
 
-  pub faithful-take_ranges : (at : ℕ) → IsFaithful (happens w (TakeRanges at))
+  pub faithful-take_ranges : (at : ℕ) → IsFaithful (happens w (Ack at))
   faithful-take_ranges at = go (slice_get w.ranges_sent at) refl
     where
       go : (ranges : Option (List Range)) → slice_get w.ranges_sent at ≡ ranges
@@ -353,10 +311,11 @@ module _ (w : World) (f : IsFaithful w) where
       })
   delivered-one body more is =
       let long = ap (λ (held : Slots). length held) is in
-      let few = f.few in
-      let near = f.near in
+      let few = f.holds.few in
+      let near = f.holds.near in
       let at = λ (place : ℕ). ap (λ (held : Slots). body_at held place) is in
-      let first : slice_get w.bodies (w.receiver.delivered + 0) ≡ Some body = f.held 0 body (at 0) in
+      let first : slice_get w.bodies (w.receiver.delivered + 0) ≡ Some body =
+      f.holds.held 0 body (at 0) in
       let here : w.receiver.delivered + 0 ≡ w.receiver.delivered = omega arith in
       let next = ap (slice_get w.bodies) (sym here) ∙ first in
       let step = take_more w.bodies w.receiver.delivered body
@@ -365,22 +324,20 @@ module _ (w : World) (f : IsFaithful w) where
       has-delivered body more number
       (subst (λ (held : Slots). Has (record w.receiver { held = held }) number) is h) in
       record {
-        counted = f.counted;
-        kept = f.kept;
-        passed = λ number le. has number (f.passed number le);
-        freed = λ place below e. has (w.sender.front + place + 1) (f.freed place below e);
-        tight = f.tight;
-        in_order =
-            ap (λ (xs : List (List Item)). xs ++ body ∷ []) f.in_order
-            ∙ ap (λ (x : List Item). take w.receiver.delivered w.bodies ++ x ∷ [])
-            (sym (get_or_from_slice_get w.bodies w.receiver.delivered body body next))
-            ∙ sym step;
-        held = λ place found e.
-            let same : w.receiver.delivered + suc place ≡ w.receiver.delivered + 1 + place = omega arith in
-            ap (slice_get w.bodies) (sym same) ∙ f.held (suc place) found (at (suc place) ∙ e);
-        few = omega arith;
-        near = omega arith;
-        last = f.last;
+        keeps = received-more w.bodies w.sender (Has w.receiver) _ has f.keeps;
+        holds = record {
+          in_order =
+              ap (λ (xs : List (List Item)). xs ++ body ∷ []) f.holds.in_order
+              ∙ ap (λ (x : List Item). take w.receiver.delivered w.bodies ++ x ∷ [])
+              (sym (get_or_from_slice_get w.bodies w.receiver.delivered body body next))
+              ∙ sym step;
+          held = λ place found e.
+              let same : w.receiver.delivered + suc place ≡ w.receiver.delivered + 1 + place = omega arith in
+              ap (slice_get w.bodies) (sym same) ∙ f.holds.held (suc place) found (at (suc place) ∙ e);
+          few = omega arith;
+          near = omega arith;
+          last = f.holds.last;
+        };
         data_sent = f.data_sent;
         ranges_sent = λ at ranges e.
             ranges-delivered body more ranges
@@ -393,16 +350,9 @@ module _ (w : World) (f : IsFaithful w) where
     where
       none : IsFaithful (record w { delivered = w.delivered ++ [] })
       none = record {
-        counted = f.counted;
-        kept = f.kept;
-        passed = f.passed;
-        freed = f.freed;
-        tight = f.tight;
-        in_order = append-nil w.delivered ∙ f.in_order;
-        held = f.held;
-        few = f.few;
-        near = f.near;
-        last = f.last;
+        keeps = f.keeps;
+        holds =
+            subst (Holds w.bodies w.sender.closed w.receiver) (sym (append-nil w.delivered)) f.holds;
         data_sent = f.data_sent;
         ranges_sent = f.ranges_sent;
       }
@@ -427,21 +377,21 @@ module _ (w : World) (f : IsFaithful w) where
             → (w.sender.closed ≡ true) × (number ≡ length w.bodies)
         go true is noted =
             let marked = s.last is in
-            (marked.0, sym (same_Some d.number number noted) ∙ marked.1)
-        go false is noted = f.last number noted
+            let some = lt-ltb 0 d.number s.counted in
+            let kept = ap (λ (b : Bool). if b then Some d.number else w.receiver.last) some in
+            (marked.0, sym (same_Some d.number number (sym kept ∙ noted)) ∙ marked.1)
+        go false is noted = f.holds.last number noted
 
     taken-again : IsFaithful (record w { receiver = received_again w.receiver d })
     taken-again = record {
-      counted = f.counted;
-      kept = f.kept;
-      passed = f.passed;
-      freed = f.freed;
-      tight = f.tight;
-      in_order = f.in_order;
-      held = f.held;
-      few = f.few;
-      near = f.near;
-      last = last-noted;
+      keeps = f.keeps;
+      holds = record {
+        in_order = f.holds.in_order;
+        held = f.holds.held;
+        few = f.holds.few;
+        near = f.holds.near;
+        last = last-noted;
+      };
       data_sent = f.data_sent;
       ranges_sent = λ at ranges e.
           let all = f.ranges_sent at ranges e in record { each = all.each; below = all.below };
@@ -473,29 +423,28 @@ module _ (w : World) (f : IsFaithful w) where
           let place = place_of w.receiver.delivered d.number in
           let long = length-with_body held place d.body in
           let within = slice_get_within w.bodies (d.number - 1) d.body s.body in
-          let few = f.few in
-          let close = f.near in
+          let few = f.holds.few in
+          let close = f.holds.near in
           record {
-            counted = f.counted;
-            kept = f.kept;
-            passed = λ number le. has-taken number (f.passed number le);
-            freed = λ at below e. has-taken (w.sender.front + at + 1) (f.freed at below e);
-            tight = f.tight;
-            in_order = f.in_order;
-            held = λ at found e.
-                elim (cases_eq at place) [
-                  | inl same ↦
-                      let here : d.number - 1 ≡ w.receiver.delivered + at = omega arith in
-                      let this = same_Some d.body found
-                      (sym (body_at-with_body_same held place d.body)
-                      ∙ ap (body_at (with_body held place d.body)) (sym same) ∙ e) in
-                      ap (slice_get w.bodies) (sym here) ∙ s.body ∙ ap Some this
-                  | inr other ↦
-                      f.held at found (sym (body_at-with_body_other held place d.body at other) ∙ e)
-                ];
-            few = omega arith;
-            near = omega arith;
-            last = last-noted;
+            keeps = received-more w.bodies w.sender (Has w.receiver) _ has-taken f.keeps;
+            holds = record {
+              in_order = f.holds.in_order;
+              held = λ at found e.
+                  elim (cases_eq at place) [
+                    | inl same ↦
+                        let here : d.number - 1 ≡ w.receiver.delivered + at = omega arith in
+                        let this = same_Some d.body found
+                        (sym (body_at-with_body_same held place d.body)
+                        ∙ ap (body_at (with_body held place d.body)) (sym same) ∙ e) in
+                        ap (slice_get w.bodies) (sym here) ∙ s.body ∙ ap Some this
+                    | inr other ↦
+                        f.holds.held at found
+                        (sym (body_at-with_body_other held place d.body at other) ∙ e)
+                  ];
+              few = omega arith;
+              near = omega arith;
+              last = last-noted;
+            };
             data_sent = f.data_sent;
             ranges_sent = λ at ranges e.
                 let all = f.ranges_sent at ranges e in
@@ -541,7 +490,7 @@ module _ (w : World) (f : IsFaithful w) where
         behind : (last : Option ℕ) → w.receiver.last ≡ last → is_behind last d.number ≡ false
         behind None is = refl
         behind (Some last) is =
-            let end = (f.last last is).1 in
+            let end = (f.holds.last last is).1 in
             let within = within in
             let counted = s.counted in
             le-ltb last d.number (omega arith)
@@ -549,11 +498,11 @@ module _ (w : World) (f : IsFaithful w) where
         marked : (last : Bool) → d.last ≡ last → last && nat_lt d.number (newest w.receiver) ≡ false
         marked true is =
             let end = (s.last is).1 in
-            let few = f.few in
+            let few = f.holds.few in
             le-ltb d.number (newest w.receiver) (omega arith)
         marked false is = refl
 
-  pub faithful-take_data : (at : ℕ) → IsFaithful (happens w (TakeData at))
+  pub faithful-take_data : (at : ℕ) → IsFaithful (happens w (Hand at))
   faithful-take_data at = go (slice_get w.data_sent at) refl
     where
       go : (sent : Option Data) → slice_get w.data_sent at ≡ sent
@@ -582,20 +531,20 @@ module _ (w : World) (f : IsFaithful w) where
           → (number ≤ w.sender.front) ⊎ ((w.sender.front < number)
           × (body_at w.sender.unacknowledged (place_of w.sender.front number) ≡ None))
           → Has w.receiver number
-      go low (inl passed) = f.passed number passed
+      go low (inl passed) = f.keeps.passed number passed
       go low (inr found) =
           let place = place_of w.sender.front number in
           let above = found.0 in
           let here : w.sender.front + place + 1 ≡ number = omega arith in
-          subst (Has w.receiver) here (f.freed place (omega arith) found.1)
+          subst (Has w.receiver) here (f.keeps.freed place (omega arith) found.1)
 
 pub faithful-happens : (w : World) → IsFaithful w → (event : Event) → IsFaithful (happens w event)
 faithful-happens w f (Submit body last) = faithful-submit w f body last
 faithful-happens w f (Send number) = faithful-send w f number
-faithful-happens w f (TakeData at) = faithful-take_data w f at
+faithful-happens w f (Hand at) = faithful-take_data w f at
 faithful-happens w f Deliver = faithful-deliver w f
-faithful-happens w f SendRanges = faithful-send_ranges w f
-faithful-happens w f (TakeRanges at) = faithful-take_ranges w f at
+faithful-happens w f SendAck = faithful-send_ranges w f
+faithful-happens w f (Ack at) = faithful-take_ranges w f at
 
 pub faithful-run : (w : World) → IsFaithful w → (events : List Event) → IsFaithful (run w events)
 faithful-run w f [] = f

@@ -3,5 +3,17 @@ pub mod Slots
 pub mod Ranges
 pub mod Received
 pub mod Sent
-pub mod World
+pub mod Names
+pub mod Made
+pub mod Numbers
+pub mod Blocks
+pub mod Reading
+pub mod Ends
+pub mod Rehearsal
+pub mod DocumentLaws
 pub mod Laws
+pub mod Acknowledged
+-- private calls cite these
+pub mod PlainWorld
+pub mod Soundness
+pub mod Exchange

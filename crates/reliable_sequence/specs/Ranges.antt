@@ -1,5 +1,5 @@
 -- Ranges of numbers.
-use Rattle.std.specs.Prelude.{ℕ, ◌+◌, ◌==◌, Bool, true, false, ◌&&◌, ◌||◌, List, [], ◌∷◌, ◌++◌}
+use Rattle.std.specs.Prelude.{ℕ, ◌+◌, ◌≤◌, ◌==◌, Bool, true, false, ◌&&◌, ◌||◌, List, [], ◌∷◌, ◌++◌}
 use Rattle.std.specs.Prelude.{if◌then◌else◌, is_some, nat_le, nat_lt, Some, None, Option}
 use Rattle.reliable_sequence.specs.declared.ranges.Range.{Range}
 use Rattle.reliable_sequence.specs.Slots.{Slots}
@@ -21,6 +21,11 @@ abbrev pub rise_from : ℕ → List Range → Bool
 rise_from least [] = true
 rise_from least (r ∷ more) =
     nat_le least r.lower && (nat_le r.lower r.upper && rise_from (r.upper + 2) more)
+
+-- no range ends above a number
+abbrev pub Below : ℕ → List Range → Type 0
+Below number [] = Unit {0}
+Below number (r ∷ more) = (r.upper ≤ number) × Below number more
 
 -- the first upper end that is above a number
 abbrev pub first_above : ℕ → List Range → Option ℕ

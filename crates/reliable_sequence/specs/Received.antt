@@ -6,7 +6,7 @@ use Rattle.nbfx_values.specs.declared.content.Item.{Item}
 use Rattle.reliable_sequence.specs.declared.{ranges.Range.Range, parts.Data.Data}
 use Rattle.reliable_sequence.specs.declared.parts.Taken.{Taken, TheVariants.Again, TheVariants.Ahead}
 use Rattle.reliable_sequence.specs.declared.parts.Taken.TheVariants.{New}
-use Rattle.reliable_sequence.specs.declared.faults.TakeFault.{TakeFault, TheVariants.AfterLast}
+use Rattle.reliable_sequence.specs.declared.faults.RmFault.{RmFault, TheVariants.AfterLast}
 use Rattle.reliable_sequence.specs.Ranges.{begun_at, runs}
 use Rattle.reliable_sequence.specs.Slots.{body_at, Slots, with_body}
 
@@ -44,8 +44,9 @@ is_behind (Some last) number = nat_lt last number
 abbrev pub breaks_the_end : Received → Data → Bool
 breaks_the_end r d = is_behind r.last d.number || (d.last && nat_lt d.number (newest r))
 
+-- the last number, where this one is received too, marked as the last or not: 0 is no number
 abbrev pub last_with : ℕ → Bool → Option ℕ → Option ℕ
-last_with number is_last last = if is_last then Some number else last
+last_with number is_last last = if is_last && nat_lt 0 number then Some number else last
 
 -- what is received of a number that was received before, and of one that wasn't
 abbrev pub received_again : Received → Data → Received
@@ -71,7 +72,7 @@ taken r d =
     else (New, received_anew r d)
 
 -- what taking a body answers, and what is received then
-abbrev pub received : Received → Data → Result (Taken × Received) TakeFault
+abbrev pub received : Received → Data → Result (Taken × Received) RmFault
 received r d = if breaks_the_end r d then Err (AfterLast d.number) else Ok (taken r d)
 
 -- the next body in order, if it is held, and what is received once it is delivered

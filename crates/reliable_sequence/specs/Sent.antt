@@ -1,10 +1,10 @@
 -- The sending end of a sequence.
-use Rattle.std.specs.Prelude.{ℕ, ◌+◌, ◌-◌, ◌==◌, Bool, false, ◌&&◌, List, [], ◌∷◌}
+use Rattle.std.specs.Prelude.{◌≡◌, ℕ, zero, suc, ◌+◌, ◌-◌, ◌^◌, ◌==◌, ◌<◌, ◌≤◌, Bool, false, ◌&&◌, List, [], ◌∷◌}
 use Rattle.std.specs.Prelude.{◌++◌, length, is_none, nat_le, nat_lt, if◌then◌else◌, Some}
 use Rattle.std.specs.Prelude.{drop, None, Option, Ok, Err, Result, option_map}
 use Rattle.nbfx_values.specs.declared.content.Item.{Item}
 use Rattle.reliable_sequence.specs.declared.{ranges.Range.Range, parts.Data.Data}
-use Rattle.reliable_sequence.specs.declared.faults.AckFault.{AckFault, TheVariants.InvalidAck}
+use Rattle.reliable_sequence.specs.declared.faults.RmFault.{RmFault, TheVariants.InvalidAck}
 use Rattle.reliable_sequence.specs.declared.faults.SubmitFault.{SubmitFault, TheVariants.Closed}
 use Rattle.reliable_sequence.specs.declared.faults.SubmitFault.TheVariants.{WindowFull}
 use Rattle.reliable_sequence.specs.Ranges.{first_above}
@@ -21,6 +21,12 @@ pub record Sent : Type 0 where
   pub unacknowledged : Slots
   -- whether the last body of the sequence was submitted
   pub closed : Bool
+
+-- no more places than the window has stand behind a front, which is the longest
+pub record IsWithinWindow (window front : ℕ) (unacknowledged : Slots) : Type 0 where
+  pub few : front + length unacknowledged < 2 ^ 64
+  pub within : length unacknowledged ≤ window
+  pub longest : leading_free unacknowledged ≡ 0
 
 abbrev pub nothing_sent : ℕ → Sent
 nothing_sent window = record { window = window; front = 0; unacknowledged = []; closed = false }
@@ -41,7 +47,7 @@ sent_with s body last = record {
 abbrev pub submitted : Sent → List Item → Bool → Result (ℕ × Sent) SubmitFault
 submitted s body last =
     if s.closed then Err Closed
-    else if nat_le s.window (length s.unacknowledged)
+    else if length s.unacknowledged == s.window
     then Err (WindowFull (length s.unacknowledged))
     else Ok (submitted_count s + 1, sent_with s body last)
 
@@ -90,13 +96,19 @@ sent_without s ranges = sent_with_slots s (without_all s.front s.unacknowledged 
 
 -- what is sent once these ranges are acknowledged, or the upper end of the first that goes beyond
 -- what was submitted
-abbrev pub acknowledged_unless : Option ℕ → List Range → Sent → Result Sent AckFault
+abbrev pub acknowledged_unless : Option ℕ → List Range → Sent → Result Sent RmFault
 acknowledged_unless None ranges s = Ok (sent_without s ranges)
 acknowledged_unless (Some upper) ranges s = Err (InvalidAck upper)
 
-abbrev pub acknowledged : Sent → List Range → Result Sent AckFault
+abbrev pub acknowledged : Sent → List Range → Result Sent RmFault
 acknowledged s ranges = acknowledged_unless (first_above (submitted_count s) ranges) ranges s
 
 -- how many numbers are acknowledged
 abbrev pub acknowledged_count : Sent → ℕ
 acknowledged_count s = s.front + free_count s.unacknowledged
+
+-- how many of the numbers up to this one are acknowledged
+abbrev pub acknowledged_among : Sent → ℕ → ℕ
+acknowledged_among s zero = 0
+acknowledged_among s (suc n) =
+    if is_acknowledged s (suc n) then acknowledged_among s n + 1 else acknowledged_among s n

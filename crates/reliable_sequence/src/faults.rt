@@ -1,10 +1,23 @@
 //! Why a body isn't taken or submitted.
 
+use soap_envelope::SoapFault;
 use unit_streams::Memory;
 
-/// Why a body that came isn't taken.
+/// Why a document isn't taken. The first that applies is answered, in this order, and then nothing
+/// has changed. Places are those of the document's items, counted from 0.
 #[derive(Clone, Copy, Debug, PartialEq, Eq)]
-pub enum TakeFault {
+pub enum RmFault {
+    /// The document isn't an envelope.
+    View(SoapFault),
+    /// The envelope has no block of the kind, or two.
+    NoBlock,
+    /// The item breaks the form of its block.
+    BadBlock { item: usize },
+    /// The block is of another sequence.
+    OtherSequence,
+    /// The upper end of a range, of the first that has such a one, is above the count of submitted
+    /// bodies.
+    InvalidAck { upper: u64 },
     /// The number is above that of the last body, or its body is marked as the last and the number
     /// of another one that came before is above it.
     AfterLast { number: u64 },
@@ -12,14 +25,14 @@ pub enum TakeFault {
     Memory,
 }
 
-impl From<Memory> for TakeFault {
+impl From<Memory> for RmFault {
     ghost use Rattle.std.specs.Prelude.{◌≡◌};
-    ghost use Rattle.reliable_sequence.specs.declared.faults.TakeFault.TheVariants as faults;
+    ghost use Rattle.reliable_sequence.specs.declared.faults.RmFault.TheVariants as faults;
 
     ghost from_gives = { λ _ fault. fault ≡ faults.Memory };
 
-    fn from(_memory: Memory) -> TakeFault {
-        TakeFault::Memory
+    fn from(_memory: Memory) -> RmFault {
+        RmFault::Memory
     }
 }
 
@@ -43,12 +56,4 @@ impl From<Memory> for SubmitFault {
     fn from(_memory: Memory) -> SubmitFault {
         SubmitFault::Memory
     }
-}
-
-/// Why ranges aren't acknowledged.
-#[derive(Clone, Copy, Debug, PartialEq, Eq)]
-pub enum AckFault {
-    /// The upper end of a range, of the first that has such a one, is above the count of submitted
-    /// bodies.
-    InvalidAck { upper: u64 },
 }

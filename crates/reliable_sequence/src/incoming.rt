@@ -1,10 +1,12 @@
 //! The receiving end of a sequence.
 
 ghost use Rattle.std.specs.Prelude.{◌≡◌, ◌≢◌, ◌≤◌, ◌<◌, Err, IfErr, IfOk, Ok, OnErr, OnOk};
+ghost use Rattle.reliable_sequence.specs.Made.{AreSmall};
+ghost use Rattle.reliable_sequence.specs.Exchange.{is_wanted};
 ghost use Rattle.reliable_sequence.specs.Received as spec;
 ghost use Rattle.reliable_sequence.specs.Received.{after_delivery, has_number, newest, next_body, nothing_received, received, received_anew, received_ranges};
 
-use crate::faults::TakeFault;
+use crate::faults::RmFault;
 use crate::parts::{Data, Taken};
 use crate::ranges::Ranges;
 use crate::slots::Slots;
@@ -71,6 +73,13 @@ impl Incoming {
         number <= self.delivered || self.held.has_body((number - self.delivered - 1) as usize)
     }
 
+    /// Whether the body of a number is held once it is taken: it isn't received, and is near enough.
+    pub fn wants(&self, number: u64) -> bool
+        ensures { result ≡ is_wanted self.now number }
+    {
+        !self.has_number(number) && number - self.delivered <= self.window as u64
+    }
+
     // Whether a number comes behind the last, or is marked as the last and came before another.
     fn breaks_the_end(&self, sent: &Data) -> bool
         ensures { result ≡ spec.breaks_the_end self.now sent.now }
@@ -82,11 +91,15 @@ impl Incoming {
         is_behind || (sent.last && sent.number < self.newest())
     }
 
-    // The last number, where one that is marked so is received too.
+    // The last number, where this one is received too, marked as the last or not: 0 is no number.
     fn last_with(&self, number: u64, last: bool) -> Option<u64>
         ensures { result ≡ spec.last_with number last self.now.last }
     {
-        if last { Some(number) } else { self.last }
+        if last && number > 0 {
+            Some(number)
+        } else {
+            self.last
+        }
     }
 
     // Holds the body of a number that wasn't received.
@@ -101,16 +114,17 @@ impl Incoming {
         Ok(())
     }
 
-    /// Takes a body that came. One whose number is held is there until `deliver` gives it. After a
-    /// fault nothing has changed.
-    pub fn take(&mut self, sent: Data) -> Result<Taken, TakeFault>
+    /// Takes a body that came, and answers what became of it. One whose number is held is there
+    /// until `deliver` gives it. It fails with `AfterLast` where that doesn't agree with which body
+    /// is the last, or without memory for its place; then nothing has changed.
+    pub fn take(&mut self, sent: Data) -> Result<Taken, RmFault>
         ensures taken { IfOk result (λ taken. received self.old sent ≡ Ok (taken, self.new)) }
         ensures refused { IfErr result (λ fault.
-            fault ≢ TakeFault.Memory → received self.old sent ≡ Err fault) }
+            fault ≢ RmFault.Memory → received self.old sent ≡ Err fault) }
         ensures unchanged { OnErr result (self.new ≡ self.old) }
     {
         if self.breaks_the_end(&sent) {
-            return Err(TakeFault::AfterLast {
+            return Err(RmFault::AfterLast {
                 number: sent.number,
             });
         }
@@ -138,11 +152,23 @@ impl Incoming {
         self.held.pop_first()
     }
 
-    /// The ranges of the numbers that were delivered or are held.
-    pub fn ranges(&self, alloc: Global) -> Result<Ranges, Memory>
+    // The ranges of the numbers that were received.
+    fn received(&self, alloc: Global) -> Result<Ranges, Memory>
         ensures { IfOk result (λ ranges. ranges ≡ received_ranges self.now) }
     {
         let begun = if self.delivered == 0 { None } else { Some(1) };
         self.held.runs(alloc, begun, self.delivered)
+    }
+
+    /// The ranges of the numbers that were delivered or are held, in rising order. It fails without
+    /// memory for the list.
+    pub fn ranges(&self, alloc: Global) -> Result<Ranges, Memory>
+        ensures ranges { IfOk result (λ ranges. ranges ≡ received_ranges self.now) }
+        ensures small { IfOk result AreSmall }
+    {
+        // No end is above a number.
+        let _newest = self.newest();
+        let ranges = self.received(alloc)?;
+        Ok(ranges)
     }
 }

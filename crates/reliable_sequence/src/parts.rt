@@ -5,13 +5,21 @@ use nbfx_values::Items;
 /// A body with its number in the sequence.
 #[derive(Debug, Drop)]
 pub struct Data {
-    /// Counted from 1. A body of number 0 counts as received; marked as the last, it closes the
-    /// sequence to all others.
+    /// Counted from 1. A body of number 0 counts as received.
     pub number: u64,
     /// Whether the body is the last of the sequence.
     pub last: bool,
     /// The content of Body.
     pub body: Items,
+}
+
+/// A number that was sent.
+#[derive(Clone, Copy, Debug, PartialEq, Eq)]
+pub struct Marked {
+    /// Counted from 1.
+    pub number: u64,
+    /// Whether its body was marked as the last of the sequence.
+    pub last: bool,
 }
 
 /// What became of a body that came.

@@ -9,10 +9,13 @@ use unit_streams::Memory;
 /// The numbers from the lower to the upper one.
 #[derive(Clone, Copy, Debug, PartialEq, Eq)]
 pub struct Range {
+    /// The first of them.
     pub lower: u64,
+    /// The last of them.
     pub upper: u64,
 }
 
+/// Ranges in the order in which an acknowledgement has them.
 pub type Ranges = Sequence<Range>;
 
 // The first upper end that is above a number.

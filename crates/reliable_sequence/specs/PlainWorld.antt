@@ -1,11 +1,13 @@
--- Both ends of a sequence, and all that was ever sent between them, of which any may be lost, come
--- twice or come in another order.
-use Rattle.std.specs.Prelude.{ℕ, Bool, List, [], ◌∷◌, ◌++◌, slice_get, Some, None, Option, Ok, Err}
+-- Both ends of a sequence, and all that was ever sent between them, by numbers, bodies and ranges
+-- alone, without documents.
+use Rattle.std.specs.Prelude.{ℕ, List, [], ◌∷◌, ◌++◌, slice_get, Some, None, Option, Ok, Err}
 use Rattle.std.specs.Prelude.{Result}
 use Rattle.std.specs.Option.{option_to_list}
 use Rattle.nbfx_values.specs.declared.content.Item.{Item}
 use Rattle.reliable_sequence.specs.declared.{ranges.Range.Range, parts.Data.Data, parts.Taken.Taken}
-use Rattle.reliable_sequence.specs.declared.faults.{AckFault.AckFault, SubmitFault.SubmitFault, TakeFault.TakeFault}
+use Rattle.reliable_sequence.specs.declared.faults.{RmFault.RmFault, SubmitFault.SubmitFault}
+use Rattle.reliable_sequence.specs.declared.events.Event.{Event, TheVariants.Ack, TheVariants.Data as Hand}
+use Rattle.reliable_sequence.specs.declared.events.Event.TheVariants.{Deliver, Send, SendAck, Submit}
 use Rattle.reliable_sequence.specs.Received.{after_delivery, next_body, nothing_received, Received}
 use Rattle.reliable_sequence.specs.Received.{received, received_ranges}
 use Rattle.reliable_sequence.specs.Sent.{acknowledged, data_of, nothing_sent, Sent, submitted}
@@ -20,15 +22,6 @@ pub record World : Type 0 where
   pub ranges_sent : List (List Range)
   -- the bodies in the order in which they were delivered
   pub delivered : List (List Item)
-
--- what may happen next: a loss is something sent that is never taken
-pub data Event : Type 0 where
-  Submit : (body : List Item) → (last : Bool) → Event
-  Send : (number : ℕ) → Event
-  TakeData : (at : ℕ) → Event
-  Deliver : Event
-  SendRanges : Event
-  TakeRanges : (at : ℕ) → Event
 
 abbrev pub new_world : ℕ → World
 new_world window = record {
@@ -47,7 +40,7 @@ after_submission w body (Ok answer) = record w {
   sender = answer.1;
 }
 
-abbrev pub after_receipt : World → Result (Taken × Received) TakeFault → World
+abbrev pub after_receipt : World → Result (Taken × Received) RmFault → World
 after_receipt w (Err fault) = w
 after_receipt w (Ok answer) = record w { receiver = answer.1 }
 
@@ -55,7 +48,7 @@ abbrev pub after_arrival : World → Option Data → World
 after_arrival w None = w
 after_arrival w (Some d) = after_receipt w (received w.receiver d)
 
-abbrev pub with_sender : World → Result Sent AckFault → World
+abbrev pub with_sender : World → Result Sent RmFault → World
 with_sender w (Err fault) = w
 with_sender w (Ok sender) = record w { sender = sender }
 
@@ -69,15 +62,15 @@ happens w (Submit body last) = after_submission w body (submitted w.sender body 
 happens w (Send number) = record w {
   data_sent = w.data_sent ++ option_to_list (data_of w.sender number);
 }
-happens w (TakeData at) = after_arrival w (slice_get w.data_sent at)
+happens w (Hand at) = after_arrival w (slice_get w.data_sent at)
 happens w Deliver = record w {
   receiver = after_delivery w.receiver;
   delivered = w.delivered ++ option_to_list (next_body w.receiver.held);
 }
-happens w SendRanges = record w {
+happens w SendAck = record w {
   ranges_sent = w.ranges_sent ++ received_ranges w.receiver ∷ [];
 }
-happens w (TakeRanges at) = after_acknowledgement w (slice_get w.ranges_sent at)
+happens w (Ack at) = after_acknowledgement w (slice_get w.ranges_sent at)
 
 -- the world after a list of events
 abbrev pub run : World → List Event → World
