@@ -1,0 +1,5 @@
+use Rattle.rehearsal.{specs.History.history_rules, proofs.LineFacts.closes}
+use Rattle.rehearsal.proofs.laws.history_is_closed.Goals as goal
+
+pub returns : goal.returns
+returns c = λ x. closes (history_rules x)
