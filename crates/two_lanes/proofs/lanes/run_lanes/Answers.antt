@@ -1,0 +1,11 @@
+use Rattle.std.proofs.Common.{[], refl}
+use Rattle.two_lanes.proofs.{Joining.alone_done, Rule.begins}
+use Rattle.two_lanes.proofs.lanes.run_lanes.Goals as goal
+
+pub bounded_with-requires-clause-rule : goal.bounded_with-requires-clause-rule
+bounded_with-requires-clause-rule g c = begins
+
+pub returns-in_default-clause-finished : goal.returns-in_default-clause-finished
+returns-in_default-clause-finished g c =
+    alone_done g.W.LaneWorker.did g.W.LaneWorker.finished c.args.a c.args.b [] c.args.worker
+    c.args.worker c.work_alone.new.worker refl refl c.requires.begins c.work_alone.ensures
