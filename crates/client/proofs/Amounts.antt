@@ -1,6 +1,6 @@
 -- How many bytes of a call's session were written to the peer.
-use Rattle.std.proofs.Common.{◌≡◌, ℕ, ◌+◌, Bool, ◌⊎◌, List, [], ◌∷◌, ◌++◌, length, take, Some, Ok}
-use Rattle.std.proofs.Common.{Err, Option, Result, sym, refl, ap, ◌∙◌, subst, inl, inr}
+use Rattle.std.proofs.Common.{◌≡◌, ℕ, ◌+◌, ◌⊎◌, List, [], ◌∷◌, ◌++◌, length, take, Some, Ok}
+use Rattle.std.proofs.Common.{Err, Result, sym, refl, ap, ◌∙◌, subst, inl, inr}
 use Rattle.std.proofs.Common.{append_assoc, append-nil, arith}
 use Rattle.{std.proofs.Math.Seq.take-append_seam, io_edges.specs.Flow.GrowsByPrefix}
 use Rattle.{string_tables.specs.StringTable.StringTable, session_ends.specs.Sent.first_table}
@@ -11,13 +11,14 @@ use Rattle.nbfx_encoder.specs.Envelopes.{behind_bytes, envelope, envelope_then, 
 use Rattle.nbfx_encoder.specs.{Placing.Placed, Spelling.encoded, Spelling.Unfit}
 use Rattle.stream_loop.proofs.Grown.{all_written, AllWritten, cut_grew, Grew, grew_more}
 use Rattle.stream_loop.{proofs.Writing.told_some, specs.declared.outbound.Outbound.Outbound}
-use Rattle.stream_loop.specs.Writing.{HoldNothing, IsCut}
+use Rattle.stream_loop.specs.Writing.{IsCut}
 use Rattle.initiator_machine.specs.Opening.{opening_bytes}
-use Rattle.client.specs.declared.caller.Ack.{Ack, TheVariants.Awaited, TheVariants.Read}
+use Rattle.client.specs.Called.{Ack, Awaited, Read}
 use Rattle.client.specs.declared.outcome.ClientOut.{ClientOut}
 use Rattle.client.specs.Called.{BreaksOpening, Sends, WritesCall, WritesFirst, WritesNone}
 use Rattle.client.specs.Sent.{bytes_of, due_next, due_of, envelopes, HasBroken, Sending}
 use Rattle.client.specs.Sent.{sent_behind, sent_by, sent_of}
+use Rattle.io_edges.specs.Views.{SinkView}
 use Rattle.stream_loop.specs.declared.outbound.Outbound.TheVariants as outbounds
 use Rattle.client.specs.declared.outcome.ClientOut.TheVariants as out
 
@@ -118,48 +119,42 @@ module _ (x : Sending) where
       (joined ∙ sym (append_assoc done (d ∷ []) rest)) one)
       (encoded x.limits x.kind table d) refl
 
-  module _ {K : Type 0} (written : K → Option (List ℕ)) (held : K → List ℕ) (faults : K → ℕ)
-      (may_want : K → Bool) (via : List ℕ) (first now : K) where
+  module _ (via : List ℕ) (first now : SinkView) where
     abbrev opening : List ℕ
     opening = opening_bytes x.mode x.kind via
 
     abbrev Grew' : List ℕ → Type 0
-    Grew' = Grew written held faults may_want first now
+    Grew' = Grew first now
 
     abbrev All' : List ℕ → Type 0
-    All' = AllWritten written held faults may_want first now
+    All' = AllWritten first now
 
     -- the writing ended at the opening
-    opening_grew : (o : Outbound) → IsCut written held faults may_want o opening first now
-        → Grew' opening
-    opening_grew o cut = cut_grew written held faults may_want o opening first now cut
+    opening_grew : (o : Outbound) → IsCut o opening first now → Grew' opening
+    opening_grew o cut = cut_grew o opening first now cut
 
     -- or behind envelopes
     broken_grew : (o : Outbound) (sent : ℕ)
-        → HasBroken x written held faults may_want opening first o sent now
+        → HasBroken x opening first o sent now
         → Grew' (sent_by x via)
     broken_grew o sent h =
         let due : List ℕ = due_next x h.table h.rest in
         let on = goes_on h.rest h.done h.table h.bytes h.joined h.spelled in
         let same : (opening ++ (h.bytes ++ due)) ++ on.0 ≡ sent_by x via =
         append_assoc opening (h.bytes ++ due) on.0 ∙ ap (λ l. opening ++ l) (sym on.1) in
-        subst Grew' same (grew_more written held faults may_want first now
+        subst Grew' same (grew_more first now
         (opening ++ (h.bytes ++ due)) on.0 (λ w is. told_some (λ w w'. GrowsByPrefix w w'
-        (held first ++ (opening ++ (h.bytes ++ due)))) (written first) (written now) w is h.grown))
-
-    -- where sinks hold nothing back
-    abbrev Plain : Type 0
-    Plain = HoldNothing written held faults may_want
+        (first.held ++ (opening ++ (h.bytes ++ due)))) first.written now.written w is h.grown))
 
     -- the envelopes of the first documents are written whole then
     first_written : (o : Outbound) (sent : ℕ)
-        → HasBroken x written held faults may_want opening first o sent now
-        → (w : List ℕ) → written first ≡ Some w → (w' : List ℕ) × (written now ≡ Some w')
-        × WritesFirst x Plain via (held first) w w' sent
+        → HasBroken x opening first o sent now
+        → (w : List ℕ) → first.written ≡ Some w → (w' : List ℕ) × (now.written ≡ Some w')
+        × WritesFirst x via first w w' sent
     first_written o sent h w is =
         let due : List ℕ = due_next x h.table h.rest in
         let k = told_some (λ w w'. GrowsByPrefix w w'
-        (held first ++ (opening ++ (h.bytes ++ due)))) (written first) (written now) w is h.grown
+        (first.held ++ (opening ++ (h.bytes ++ due)))) first.written now.written w is h.grown
         in (
           k.0,
           k.1,
@@ -173,37 +168,37 @@ module _ (x : Sending) where
             spelled = h.spelled;
             within = k.2;
             grown = λ plain.
-                let l = told_some (λ w w'. GrowsByPrefix (w ++ held first ++ (opening ++ h.bytes))
-                w' due) (written first) (written now) w is (h.whole plain) in
+                let l = told_some (λ w w'. GrowsByPrefix (w ++ first.held ++ (opening ++ h.bytes))
+                w' due) first.written now.written w is (h.whole plain) in
                 let same : l.0 ≡ k.0 = cc (l.1, k.1) in
-                subst (λ v. GrowsByPrefix (w ++ held first ++ (opening ++ h.bytes)) v due) same
+                subst (λ v. GrowsByPrefix (w ++ first.held ++ (opening ++ h.bytes)) v due) same
                 l.2;
           },
         )
 
     -- what is written of a call
     abbrev Writes : Ack → ClientOut → ℕ → Type 0
-    Writes ack outbound sent = (w : List ℕ) → written first ≡ Some w → (w' : List ℕ)
-        × (written now ≡ Some w') × WritesCall x Plain via (held first) w w' ack outbound sent
+    Writes ack outbound sent = (w : List ℕ) → first.written ≡ Some w → (w' : List ℕ)
+        × (now.written ≡ Some w') × WritesCall x via first w w' ack outbound sent
 
     -- with a fact more, and with two
     with_fact : (A : Type 0) (B : List ℕ → List ℕ → Type 0) → A
-        → ((w : List ℕ) → written first ≡ Some w → (w' : List ℕ) × (written now ≡ Some w') × B w w')
-        → (w : List ℕ) → written first ≡ Some w → (w' : List ℕ) × (written now ≡ Some w')
+        → ((w : List ℕ) → first.written ≡ Some w → (w' : List ℕ) × (now.written ≡ Some w') × B w w')
+        → (w : List ℕ) → first.written ≡ Some w → (w' : List ℕ) × (now.written ≡ Some w')
         × (A × B w w')
     with_fact A B a all w is = let k = all w is in (k.0, k.1, (a, k.2))
 
     with_facts : (A C : Type 0) (B : List ℕ → List ℕ → Type 0) → A → C
-        → ((w : List ℕ) → written first ≡ Some w → (w' : List ℕ) × (written now ≡ Some w') × B w w')
-        → (w : List ℕ) → written first ≡ Some w → (w' : List ℕ) × (written now ≡ Some w')
+        → ((w : List ℕ) → first.written ≡ Some w → (w' : List ℕ) × (now.written ≡ Some w') × B w w')
+        → (w : List ℕ) → first.written ≡ Some w → (w' : List ℕ) × (now.written ≡ Some w')
         × (A × C × B w w')
     with_facts A C B a c all w is = let k = all w is in (k.0, k.1, (a, c, k.2))
 
     -- two facts of what is written now
     both : (A B : List ℕ → List ℕ → Type 0)
-        → ((w : List ℕ) → written first ≡ Some w → (w' : List ℕ) × (written now ≡ Some w') × A w w')
-        → ((w : List ℕ) → written first ≡ Some w → (w' : List ℕ) × (written now ≡ Some w') × B w w')
-        → (w : List ℕ) → written first ≡ Some w → (w' : List ℕ) × (written now ≡ Some w')
+        → ((w : List ℕ) → first.written ≡ Some w → (w' : List ℕ) × (now.written ≡ Some w') × A w w')
+        → ((w : List ℕ) → first.written ≡ Some w → (w' : List ℕ) × (now.written ≡ Some w') × B w w')
+        → (w : List ℕ) → first.written ≡ Some w → (w' : List ℕ) × (now.written ≡ Some w')
         × (A w w' × B w w')
     both A B all also w is =
         let k = all w is in
@@ -213,35 +208,35 @@ module _ (x : Sending) where
 
     -- the writing failed behind the Ack, at the opening or behind envelopes
     broken_opening : (o : Outbound) (sent : ℕ)
-        → BreaksOpening written held faults may_want x via o sent first now
-        → (w : List ℕ) → written first ≡ Some w → (w' : List ℕ) × (written now ≡ Some w')
-        × (GrowsByPrefix w w' (held first ++ sent_by x via)
-        × (WritesNone x via (held first) w w' sent
-        ⊎ WritesFirst x Plain via (held first) w w' sent))
-    broken_opening o sent h = both (λ w w'. GrowsByPrefix w w' (held first ++ sent_by x via))
-        (λ w w'. WritesNone x via (held first) w w' sent
-        ⊎ WritesFirst x Plain via (held first) w w' sent)
-        (grew_more written held faults may_want first now opening (sent_behind x)
+        → BreaksOpening x via o sent first now
+        → (w : List ℕ) → first.written ≡ Some w → (w' : List ℕ) × (now.written ≡ Some w')
+        × (GrowsByPrefix w w' (first.held ++ sent_by x via)
+        × (WritesNone x via first w w' sent
+        ⊎ WritesFirst x via first w w' sent))
+    broken_opening o sent h = both (λ w w'. GrowsByPrefix w w' (first.held ++ sent_by x via))
+        (λ w w'. WritesNone x via first w w' sent
+        ⊎ WritesFirst x via first w w' sent)
+        (grew_more first now opening (sent_behind x)
         (opening_grew o h.1))
         (λ w is. let k = opening_grew o h.1 w is in (k.0, k.1, inl (h.0, k.2)))
 
     broken_behind : (o : Outbound) (sent : ℕ)
-        → HasBroken x written held faults may_want opening first o sent now
-        → (w : List ℕ) → written first ≡ Some w → (w' : List ℕ) × (written now ≡ Some w')
-        × (GrowsByPrefix w w' (held first ++ sent_by x via)
-        × (WritesNone x via (held first) w w' sent
-        ⊎ WritesFirst x Plain via (held first) w w' sent))
-    broken_behind o sent h = both (λ w w'. GrowsByPrefix w w' (held first ++ sent_by x via))
-        (λ w w'. WritesNone x via (held first) w w' sent
-        ⊎ WritesFirst x Plain via (held first) w w' sent)
+        → HasBroken x opening first o sent now
+        → (w : List ℕ) → first.written ≡ Some w → (w' : List ℕ) × (now.written ≡ Some w')
+        × (GrowsByPrefix w w' (first.held ++ sent_by x via)
+        × (WritesNone x via first w w' sent
+        ⊎ WritesFirst x via first w w' sent))
+    broken_behind o sent h = both (λ w w'. GrowsByPrefix w w' (first.held ++ sent_by x via))
+        (λ w w'. WritesNone x via first w w' sent
+        ⊎ WritesFirst x via first w w' sent)
         (broken_grew o sent h)
         (λ w is. let k = first_written o sent h w is in (k.0, k.1, inr k.2))
 
     pub sends_written : (ack : Ack) (outbound : ClientOut) (sent : ℕ)
-        → Sends written held faults may_want x via ack outbound sent first now
+        → Sends x via ack outbound sent first now
         → Writes ack outbound sent
-    sends_written Awaited out.Done sent h = with_fact _ _ h.0 (all_written written held faults
-        may_want first now opening h.1 h.2)
+    sends_written Awaited out.Done sent h =
+        with_fact _ _ h.0 (all_written first now opening h.1 h.2)
     sends_written Awaited (out.Unfit number fault) sent h = absurd h
     sends_written Awaited out.WriteFault sent h =
         with_fact _ _ h.0 (opening_grew outbounds.WriteFault h.1)
@@ -250,7 +245,7 @@ module _ (x : Sending) where
     sends_written Read out.Done sent h =
         with_facts _ _ _ h.counted ((h.bytes, h.table), h.spelled)
         (subst All' (ap (λ l. opening ++ l) (sym (all_sent h.table h.bytes h.spelled)))
-        (all_written written held faults may_want first now
+        (all_written first now
         (opening ++ (h.bytes ++ frame_bytes_of End [])) h.puts h.emptied))
     sends_written Read (out.Unfit number fault) sent h =
         let unfit = unfit_at h.done h.table h.puts.bytes h.document h.rest h.why h.joined
@@ -260,7 +255,7 @@ module _ (x : Sending) where
         with_facts _ _ _ (h.counted ∙ sym h.number_is)
         (record { number = length h.done; why = h.why }, unfit, h.number_is, h.fault_is)
         (subst All' (ap (λ l. opening ++ l) (sym same))
-        (all_written written held faults may_want first now (opening ++ h.puts.bytes) h.puts.puts
+        (all_written first now (opening ++ h.puts.bytes) h.puts.puts
         h.emptied))
     sends_written Read out.WriteFault sent (inl h) = broken_opening outbounds.WriteFault sent h
     sends_written Read out.WriteFault sent (inr h) = broken_behind outbounds.WriteFault sent h

@@ -1,5 +1,5 @@
 -- What is known of a call where the peer's bytes are known.
-use Rattle.std.proofs.Common.{◌≡◌, ℕ, Bool, List, [], ◌++◌, map, Some, None, Option, sym, refl, ap}
+use Rattle.std.proofs.Common.{◌≡◌, ℕ, List, [], ◌++◌, map, Some, None, Option, sym, refl, ap}
 use Rattle.std.{proofs.Common.◌∙◌, proofs.Common.subst, proofs.Common.append-nil, specs.Prelude.⊤}
 use Rattle.{unit_streams.specs.Grammar.Grammar, nbfx_values.specs.declared.refusals.Offence.Offence}
 use Rattle.unit_streams.specs.Tellers.{report as report_by, state_behind, told_along}
@@ -7,20 +7,21 @@ use Rattle.stream_reader.specs.Stream.{Situation, stream, StreamEvent, StreamUni
 use Rattle.stream_loop.proofs.Amounts.{first_told, states_values, whole_told, wrote_grew}
 use Rattle.stream_loop.proofs.Grown.{all_written, AllWritten, Grew, grew_more}
 use Rattle.stream_loop.proofs.Knowing.{events_are, first_broken, first_starved, offence_of}
-use Rattle.stream_loop.{proofs.Knowing.whole_of, specs.Writing.HoldNothing, specs.Writing.Wrote}
+use Rattle.stream_loop.{proofs.Knowing.whole_of, specs.Writing.Wrote}
 use Rattle.stream_loop.specs.{declared.outbound.Outbound.Outbound, Answers.written_by, Edges.Input}
 use Rattle.stream_loop.specs.Followed.{AreFirst, Follows, IsWhole}
 use Rattle.session_report.{proofs.Saying.lines_are, specs.declared.reporter.Outcome.Outcome}
 use Rattle.session_report.specs.Report.{last_line, lines_of, outcome}
 use Rattle.session_report.specs.Saying.{event_for, said_by}
 use Rattle.command_words.specs.declared.task.Detail.TheVariants.{Whole}
-use Rattle.client.specs.declared.caller.Ack.{Ack, TheVariants.Awaited}
+use Rattle.client.specs.Called.{Ack, Awaited}
 use Rattle.client.specs.{declared.outcome.CallOutcome.CallOutcome, Sent.Sending}
 use Rattle.client.specs.declared.outcome.ClientIn.{ClientIn, TheVariants.ReadFault}
 use Rattle.client.specs.declared.outcome.ClientIn.TheVariants.{Ended, Memory, Offended, PeerFault}
 use Rattle.client.specs.Called.{ack_along, answers_to, Calls, dumped, ending_of, HasCalled}
-use Rattle.client.specs.Called.{heard_of, inbound_by, IsAckOf, Judges, KnownCall, reached_along}
+use Rattle.client.specs.Called.{handled_of, inbound_by, IsAckOf, Judges, KnownCall, reached_along}
 use Rattle.client.{specs.Called.ReportsOf, specs.Called.WritesCall, proofs.Amounts.sends_written}
+use Rattle.io_edges.specs.Views.{SinkView}
 use Rattle.stream_loop.specs.declared.outbound.Outbound.TheVariants as outbounds
 use Rattle.session_report.specs.declared.reporter.Outcome.TheVariants as reached
 
@@ -35,20 +36,16 @@ ended_by_peer reached.Open is = cc
 ended_by_peer reached.Ended is = cc
 ended_by_peer reached.Faulted is = refl
 
-module _ {K : Type 0} (k_written : K → Option (List ℕ)) (k_held : K → List ℕ) (k_faults : K → ℕ)
-    (k_wants : K → Bool) {O : Type 0} (o_written : O → Option (List ℕ)) (o_held : O → List ℕ)
-    (o_faults : O → ℕ) (o_wants : O → Bool) (x : Sending) (via : List ℕ) (i i' : Input)
-    (sink sink' : K) (output output' : O) (bytes : List ℕ) (left : i.left ≡ Some bytes) where
+module _ (x : Sending) (via : List ℕ) (i i' : Input) (sink sink' : SinkView)
+    (output output' : SinkView) (bytes : List ℕ) (left : i.left ≡ Some bytes) where
   abbrev y : Grammar Situation StreamUnit StreamEvent Offence
   y = stream (answers_to x)
 
   abbrev Called : CallOutcome → List StreamEvent → Type 0
-  Called = HasCalled k_written k_held k_faults k_wants o_written o_held o_faults o_wants x via sink
-      sink' output output'
+  Called = HasCalled x via sink sink' output output'
 
   abbrev Calls' : CallOutcome → Type 0
-  Calls' = Calls k_written k_held k_faults k_wants o_written o_held o_faults o_wants x via i i' sink
-      sink' output output'
+  Calls' = Calls x via i i' sink sink' output output'
 
   -- how the session ended by all events
   outcome_is : (es : List StreamEvent) (judged : Option Offence) → IsWhole y es judged bytes
@@ -66,14 +63,14 @@ module _ {K : Type 0} (k_written : K → Option (List ℕ)) (k_held : K → List
         let whole = whole_of y i i' bytes left (Called called) None d in
         let r = reached_along (map event_for d.events) in (
           offence_of y d.events None bytes whole,
-          λ faulted. ended_well r (rw is at d.heard.inbound_is)
+          λ faulted. ended_well r (rw is at d.handled.inbound_is)
               (sym (outcome_is d.events None whole) ∙ faulted),
         )
     by PeerFault is d =
         let whole = whole_of y i i' bytes left (Called called) None d in
         let r = reached_along (map event_for d.events) in (
           offence_of y d.events None bytes whole,
-          outcome_is d.events None whole ∙ ended_by_peer r (rw is at d.heard.inbound_is),
+          outcome_is d.events None whole ∙ ended_by_peer r (rw is at d.handled.inbound_is),
         )
     by (Offended o) is d =
         offence_of y d.events (Some o) bytes (whole_of y i i' bytes left (Called called) (Some o) d)
@@ -96,26 +93,26 @@ module _ {K : Type 0} (k_written : K → Option (List ℕ)) (k_held : K → List
       (states_values event_for (said_by Whole) es reached.Open)
 
   abbrev Grew' : List ℕ → Type 0
-  Grew' = Grew o_written o_held o_faults o_wants output output'
+  Grew' = Grew output output'
 
   abbrev All' : List ℕ → Type 0
-  All' = AllWritten o_written o_held o_faults o_wants output output'
+  All' = AllWritten output output'
 
   abbrev Wrote' : Outbound → List ℕ → List StreamEvent → Type 0
-  Wrote' report closing es = Wrote o_written o_held o_faults o_wants (said_by Whole) report closing
+  Wrote' report closing es = Wrote (said_by Whole) report closing
       output (map event_for es) (λ s. ⊤) output'
 
   abbrev Reports' : ClientIn → Outbound → Type 0
-  Reports' inbound report = (w : List ℕ) → o_written output ≡ Some w → (w' : List ℕ)
-      × (o_written output' ≡ Some w')
-      × ReportsOf (dumped x bytes) (o_held output) w w' inbound report
+  Reports' inbound report = (w : List ℕ) → output.written ≡ Some w → (w' : List ℕ)
+      × (output'.written ≡ Some w')
+      × ReportsOf (dumped x bytes) output.held w w' inbound report
 
   grew_dumped : (report : Outbound) (closing : List ℕ) (es : List StreamEvent) (behind : List ℕ)
       → dumped x bytes ≡ (told es ++ closing) ++ behind → Wrote' report closing es
       → Grew' (dumped x bytes)
   grew_dumped report closing es behind is wrote =
-      subst Grew' (sym is) (grew_more o_written o_held o_faults o_wants output output'
-      (told es ++ closing) behind (wrote_grew o_written o_held o_faults o_wants (said_by Whole)
+      subst Grew' (sym is) (grew_more output output'
+      (told es ++ closing) behind (wrote_grew (said_by Whole)
       report closing output (map event_for es) (λ s. ⊤) output' wrote))
 
   -- a stream that was read to its end
@@ -125,7 +122,7 @@ module _ {K : Type 0} (k_written : K → Option (List ℕ)) (k_held : K → List
       → (report : Outbound) (closing : List ℕ) (es : List StreamEvent)
       → dumped x bytes ≡ told es ++ closing → Wrote' report closing es → Reports' inbound report
   reports_judged inbound wholly failed starved outbounds.Done closing es is wrote =
-      wholly (subst All' (sym is) (all_written o_written o_held o_faults o_wants output output'
+      wholly (subst All' (sym is) (all_written output output'
       (told es ++ closing) wrote.puts wrote.emptied))
   reports_judged inbound wholly failed starved outbounds.WriteFault closing es is wrote =
       failed (grew_dumped outbounds.WriteFault closing es []
@@ -149,79 +146,68 @@ module _ {K : Type 0} (k_written : K → Option (List ℕ)) (k_held : K → List
     by Ended is d =
         reports_judged Ended (λ all. all) (λ grew. grew) (λ grew. grew) called.report _ d.events
         (dumped_is d.events None (whole_of y i i' bytes left (Called called) None d))
-        (rw is at d.heard.reported)
+        (rw is at d.handled.reported)
     by PeerFault is d =
         reports_judged PeerFault (λ all. all) (λ grew. grew) (λ grew. grew) called.report _ d.events
         (dumped_is d.events None (whole_of y i i' bytes left (Called called) None d))
-        (rw is at d.heard.reported)
+        (rw is at d.handled.reported)
     by (Offended o) is d =
         reports_judged (Offended o) (λ all. all) (λ grew. grew) (λ grew. grew) called.report _
         d.events (dumped_is d.events (Some o) (whole_of y i i' bytes left (Called called) (Some o)
-        d)) (rw is at d.heard.reported)
+        d)) (rw is at d.handled.reported)
     by ReadFault is d =
         first_dumped called.report _ (first_broken y i i' bytes left (Called called) d)
-        (rw is at d.heard.reported)
+        (rw is at d.handled.reported)
     by Memory is d =
         first_dumped called.report d.events (first_starved y i i' bytes left (Called called) d)
-        (rw is at d.heard.reported)
+        (rw is at d.handled.reported)
 
   -- ---- what is written to the peer
 
   ack_is : (es : List StreamEvent) (judged : Option Offence) → IsWhole y es judged bytes
-      → ack_along Awaited (map event_for es) ≡ ack_along Awaited (heard_of x bytes)
+      → ack_along Awaited (map event_for es) ≡ ack_along Awaited (handled_of x bytes)
   ack_is es judged whole =
       ap (λ (l : List StreamEvent). ack_along Awaited (map event_for l))
       (sym (events_are y es judged bytes whole))
 
-  -- where sinks hold nothing back
-  abbrev Plain : Type 0
-  Plain = HoldNothing k_written k_held k_faults k_wants
-
-  pub writes : (called : CallOutcome) → Calls' called → (w : List ℕ) → k_written sink ≡ Some w
-      → (w' : List ℕ) × (k_written sink' ≡ Some w') × (ack : Ack)
+  pub writes : (called : CallOutcome) → Calls' called → (w : List ℕ) → sink.written ≡ Some w
+      → (w' : List ℕ) × (sink'.written ≡ Some w') × (ack : Ack)
       × IsAckOf x bytes called.inbound ack
-      × WritesCall x Plain via (k_held sink) w w' ack called.outbound called.sent
+      × WritesCall x via sink w w' ack called.outbound called.sent
   writes called h w told_w = by called.inbound refl h.follows where
     so : (inbound : ClientIn) (es : List StreamEvent) → Called called es
         → IsAckOf x bytes inbound (ack_along Awaited (map event_for es))
-        → (w' : List ℕ) × (k_written sink' ≡ Some w') × (ack : Ack)
+        → (w' : List ℕ) × (sink'.written ≡ Some w') × (ack : Ack)
         × IsAckOf x bytes inbound ack
-        × WritesCall x Plain via (k_held sink) w w' ack called.outbound called.sent
+        × WritesCall x via sink w w' ack called.outbound called.sent
     so inbound es c acked =
-        let k = sends_written x k_written k_held k_faults k_wants via sink sink'
+        let k = sends_written x via sink sink'
         (ack_along Awaited (map event_for es)) called.outbound called.sent c.sends w told_w in
         (k.0, k.1, ack_along Awaited (map event_for es), acked, k.2)
 
     by : (inbound : ClientIn) → called.inbound ≡ inbound
         → Follows y (Called called) i i' (ending_of inbound)
-        → (w' : List ℕ) × (k_written sink' ≡ Some w') × (ack : Ack)
+        → (w' : List ℕ) × (sink'.written ≡ Some w') × (ack : Ack)
         × IsAckOf x bytes inbound ack
-        × WritesCall x Plain via (k_held sink) w w' ack called.outbound called.sent
-    by Ended is d = so Ended d.events d.heard
+        × WritesCall x via sink w w' ack called.outbound called.sent
+    by Ended is d = so Ended d.events d.handled
         (ack_is d.events None (whole_of y i i' bytes left (Called called) None d))
-    by PeerFault is d = so PeerFault d.events d.heard
+    by PeerFault is d = so PeerFault d.events d.handled
         (ack_is d.events None (whole_of y i i' bytes left (Called called) None d))
-    by (Offended o) is d = so (Offended o) d.events d.heard
+    by (Offended o) is d = so (Offended o) d.events d.handled
         (ack_is d.events (Some o) (whole_of y i i' bytes left (Called called) (Some o) d))
-    by ReadFault is d = so ReadFault _ d.heard tt
-    by Memory is d = so Memory d.events d.heard tt
+    by ReadFault is d = so ReadFault _ d.handled tt
+    by Memory is d = so Memory d.events d.handled tt
 
 -- all that is known of a call, by what was read, reported and sent
-pub knows : {K : Type 0} (k_written : K → Option (List ℕ)) (k_held : K → List ℕ) (k_faults : K → ℕ)
-    (k_wants : K → Bool) {O : Type 0} (o_written : O → Option (List ℕ)) (o_held : O → List ℕ)
-    (o_faults : O → ℕ) (o_wants : O → Bool) (x : Sending) (via : List ℕ) (i i' : Input)
-    (sink sink' : K) (output output' : O) (called : CallOutcome)
-    → Calls k_written k_held k_faults k_wants o_written o_held o_faults o_wants x via i i' sink
-    sink' output output' called
-    → KnownCall k_written k_held k_faults k_wants o_written o_held o_faults o_wants x via i i' sink
-    sink' output output' called
-knows k_written k_held k_faults k_wants o_written o_held o_faults o_wants x via i i' sink sink'
-    output output' called h = record {
-      judged = λ bytes left. judges k_written k_held k_faults k_wants o_written o_held o_faults
-          o_wants x via i i' sink sink' output output' bytes left called h;
-      reported = λ bytes w left told. reports k_written k_held k_faults k_wants o_written o_held
-          o_faults o_wants x via i i' sink sink' output output' bytes left called h w told;
-      written = λ bytes w left told. writes k_written k_held k_faults k_wants o_written o_held
-          o_faults o_wants x via i i' sink sink' output output' bytes left called h w told;
-      calls = h;
-    }
+pub knows : (x : Sending) (via : List ℕ) (i i' : Input) (sink sink' output output' : SinkView)
+    (called : CallOutcome) → Calls x via i i' sink sink' output output' called
+    → KnownCall x via i i' sink sink' output output' called
+knows x via i i' sink sink' output output' called h = record {
+  judged = λ bytes left. judges x via i i' sink sink' output output' bytes left called h;
+  reported = λ bytes w left told.
+      reports x via i i' sink sink' output output' bytes left called h w told;
+  written = λ bytes w left told.
+      writes x via i i' sink sink' output output' bytes left called h w told;
+  calls = h;
+}

@@ -1,26 +1,27 @@
 -- What a connection that was called and closed leaves of a wire.
-use Rattle.std.proofs.Common.{◌≡◌, ℕ, false, List, [], ◌∷◌, ◌++◌, IfSome, is_err, OnOk, Some, None}
-use Rattle.std.proofs.Common.{Ok, Err, Option, Result, subst}
-use Rattle.{std.specs.Prelude.⊤, unit_streams.specs.Grammar.Grammar}
-use Rattle.io_edges.specs.{Flow.Told, Wires.Fresh, Wires.Network}
+use Rattle.std.proofs.Common.{◌≡◌, ℕ, List, [], ◌∷◌, ◌++◌, IfSome, Some, None}
+use Rattle.std.proofs.Common.{Option}
+use Rattle.{unit_streams.specs.Grammar.Grammar}
+use Rattle.io_edges.specs.{Flow.Told, Wires.Fresh}
 use Rattle.stream_reader.specs.Stream.{stream}
-use Rattle.stream_loop.proofs.{Counts.heard_some, Writing.told_some}
-use Rattle.stream_loop.specs.declared.following.Ending.{Ending, TheVariants.ReadFault}
-use Rattle.stream_loop.specs.declared.following.Ending.TheVariants.{Judged, Memory as Starved}
-use Rattle.stream_loop.specs.{Edges.Input, Edges.Output, Followed.Follows}
-use Rattle.client.specs.declared.{called.Called.Called, outcome.CallOutcome.CallOutcome}
+use Rattle.stream_loop.proofs.{Counts.handled_some, Writing.told_some}
+use Rattle.stream_loop.specs.declared.following.FollowEnding.{FollowEnding, TheVariants.ReadFault}
+use Rattle.stream_loop.specs.declared.following.FollowEnding.TheVariants.{Judged, Memory as Starved}
+use Rattle.stream_loop.specs.{Edges.Input, Followed.Follows}
+use Rattle.client.specs.declared.{outcome.CallOutcome.CallOutcome}
 use Rattle.client.specs.Called.{answers_to, ending_of}
-use Rattle.client.specs.{Peers.CallsPeer, Places.CallsPlace, Sent.Sending, Tags.sent_line}
+use Rattle.client.specs.{Peers.CallsPeer, Sent.Sending}
+use Rattle.io_edges.specs.Views.{SinkView}
 
 -- what was taken stays told
-took_some : {Z U E R : Type 0} (g : Grammar Z U E R) (Heard : List E → Type 0) (i i' : Input)
-    (ending : Ending R) → Follows g Heard i i' ending → (t : List ℕ) → i.taken ≡ Some t
+took_some : {Z U E R : Type 0} (g : Grammar Z U E R) (Handled : List E → Type 0) (i i' : Input)
+    (ending : FollowEnding R) → Follows g Handled i i' ending → (t : List ℕ) → i.taken ≡ Some t
     → (t' : List ℕ) × (i'.taken ≡ Some t')
-took_some g Heard i i' (Judged judged) h t is =
+took_some g Handled i i' (Judged judged) h t is =
     let k = told_some (λ t t'. t' ≡ t ++ h.bytes) i.taken i'.taken t is h.took in (k.0, k.1)
-took_some g Heard i i' ReadFault h t is =
+took_some g Handled i i' ReadFault h t is =
     let k = told_some (λ t t'. t' ≡ t ++ h.bytes) i.taken i'.taken t is h.took in (k.0, k.1)
-took_some g Heard i i' Starved h t is =
+took_some g Handled i i' Starved h t is =
     let k = told_some (λ t t'. t' ≡ t ++ h.before ++ h.piece) i.taken i'.taken t is h.took in
     (k.0, k.1)
 
@@ -31,16 +32,15 @@ paired : (taken written : Option (List ℕ)) (t w : List ℕ) → taken ≡ Some
     → after ≡ before ++ (t, w) ∷ []
 paired taken written t w is_taken is_written before after told = rw (is_taken, is_written) at told
 
-module _ (x : Sending) (holds_nothing : Type 0) (via line : List ℕ) (i i' : Input)
-    (k k' o o' : Output) (called : CallOutcome)
-    (c : CallsPeer x holds_nothing via line i i' k k' o o' called) where
+module _ (x : Sending) (via line : List ℕ) (i i' : Input) (k k' o o' : SinkView)
+    (called : CallOutcome) (c : CallsPeer x via line i i' k k' o o' called) where
   pub taken_told : (t : List ℕ) → i.taken ≡ Some t → (t' : List ℕ) × (i'.taken ≡ Some t')
   taken_told t is =
       took_some (stream (answers_to x)) _ i i' (ending_of called.inbound) c.follows t is
 
   pub written_told : (w : List ℕ) → k.written ≡ Some w → (w' : List ℕ) × (k'.written ≡ Some w')
   written_told w is =
-      let h = heard_some (stream (answers_to x)) _ i i' (ending_of called.inbound) c.follows in
+      let h = handled_some (stream (answers_to x)) _ i i' (ending_of called.inbound) c.follows in
       let told = told_some _ k.written k'.written w is h.1.0 in
       (told.0, told.1)
 
@@ -56,20 +56,3 @@ module _ (x : Sending) (holds_nothing : Type 0) (via line : List ℕ) (i i' : In
       let t = taken_told [] fresh_in in
       let w = written_told [] fresh_out in
       ((t.0, w.0), paired i'.taken k'.written t.0 w.0 t.1 w.1 before after told, t.1, w.1)
-
--- what is known where a call didn't fail
-pub known_ok : {E : Type 0} (result : Result ⊤ E) (Known : Type 0) → is_err result ≡ false
-    → OnOk result Known → Known
-known_ok (Ok done) Known is known = known
-known_ok (Err e) Known is known = cc is
-
--- the same of documents that are sent as these, and of lists that have so many
-pub placed_as : {R K : Type 0} (input_of : R → Input) (output_of : K → Output) (via : List ℕ)
-    (n n' : Network R K) (o o' : Output) (called : Called) (x x' : Sending) (a a' b b' : ℕ)
-    → x ≡ x' → a ≡ a' → b ≡ b'
-    → CallsPlace input_of output_of x via (sent_line a b) n n' o o' called
-    → CallsPlace input_of output_of x' via (sent_line a' b') n n' o o' called
-placed_as input_of output_of via n n' o o' called x x' a a' b b' d e f h =
-    subst (λ (y : Sending). CallsPlace input_of output_of y via (sent_line a' b') n n' o o' called)
-    d (subst (λ (m : ℕ). CallsPlace input_of output_of x via (sent_line m b') n n' o o' called) e
-    (subst (λ (m : ℕ). CallsPlace input_of output_of x via (sent_line a m) n n' o o' called) f h))

@@ -1,14 +1,14 @@
 -- What is written of a call's report, and of the line behind it.
-use Rattle.std.proofs.Common.{◌≡◌, ℕ, ◌+◌, Bool, List, [], ◌++◌, map, length, take, OnOk, Some, Ok}
-use Rattle.std.proofs.Common.{Err, Option, Result, sym, refl, ap, ◌∙◌, subst, append_assoc}
+use Rattle.std.proofs.Common.{◌≡◌, ℕ, ◌+◌, List, [], ◌++◌, map, length, take, OnOk, Some, Ok}
+use Rattle.std.proofs.Common.{Err, Result, sym, refl, ap, ◌∙◌, subst, append_assoc}
 use Rattle.std.proofs.{Common.append-nil, Math.Seq.take-append-add, Math.Seq.take-nil}
 use Rattle.{std.specs.Prelude.⊤, stream_reader.specs.Stream.StreamEvent}
-use Rattle.io_edges.{proofs.Putting.PutsAll-then, specs.Flow.GrowsByPrefix, specs.Flow.Told}
+use Rattle.io_edges.{proofs.Putting.Puts-then, specs.Flow.GrowsByPrefix, specs.Flow.Told}
 use Rattle.io_edges.specs.{declared.SinkFault.SinkFault, Faults.CountsFaults}
 use Rattle.stream_loop.{proofs.Amounts.wrote_grew, specs.declared.outbound.Outbound.Outbound}
 use Rattle.stream_loop.proofs.Grown.{all_written, AllWritten, cut_written, Grew, grew_more}
 use Rattle.stream_loop.proofs.Writing.{counted_with, grown_within, known_told}
-use Rattle.stream_loop.specs.Writing.{outbound_by, PutsTo, Wrote}
+use Rattle.stream_loop.specs.Writing.{outbound_by, Wrote}
 use Rattle.session_report.specs.{declared.reading.Event.Event, Saying.event_for, Saying.said_by}
 use Rattle.command_words.specs.declared.task.Detail.TheVariants.{Whole}
 use Rattle.client.specs.declared.outcome.ClientIn.{ClientIn, TheVariants.ReadFault}
@@ -16,6 +16,8 @@ use Rattle.client.specs.declared.outcome.ClientIn.TheVariants.{Ended, Memory, Of
 use Rattle.client.specs.Called.{closing_of, ending_of, reached_along, ReportsOf}
 use Rattle.client.specs.Peers.{line_after, report_of, WritesDump, WritesReport}
 use Rattle.client.specs.Sending.{Finishes}
+use Rattle.io_edges.specs.Views.{SinkView}
+use Rattle.io_edges.specs.Puts.{Puts}
 use Rattle.io_edges.specs.declared.SinkFault.TheVariants as sinks
 use Rattle.stream_loop.specs.declared.outbound.Outbound.TheVariants as outbounds
 
@@ -29,13 +31,12 @@ grown_behind w w1 w' before line is grown = record {
       ∙ ap (λ l. w ++ l) (sym (take-append-add before line grown.kept));
 }
 
-module _ {O : Type 0} (written : O → Option (List ℕ)) (held : O → List ℕ) (faults : O → ℕ)
-    (may_want : O → Bool) (first mid last : O) (line : List ℕ) where
+module _ (first mid last : SinkView) (line : List ℕ) where
   abbrev All : List ℕ → Type 0
-  All = AllWritten written held faults may_want first last
+  All = AllWritten first last
 
   abbrev Part : List ℕ → Type 0
-  Part = Grew written held faults may_want first last
+  Part = Grew first last
 
   module _ (inbound : ClientIn) (events : List StreamEvent) where
     abbrev closing : List ℕ
@@ -45,49 +46,49 @@ module _ {O : Type 0} (written : O → Option (List ℕ)) (held : O → List ℕ
     behind = line_after inbound line
 
     abbrev Reports : Outbound → Type 0
-    Reports report = Told (written first) (written last)
-        (WritesReport line (held first) events inbound report)
+    Reports report = Told first.written last.written
+        (WritesReport line first.held events inbound report)
 
     whole : All (report_of events inbound ++ behind) → Reports outbounds.Done
-    whole all = known_told (WritesReport line (held first) events inbound outbounds.Done)
-        (written first) (written last) all
+    whole all = known_told (WritesReport line first.held events inbound outbounds.Done)
+        first.written last.written all
 
     failed : Part (report_of events inbound ++ behind) → Reports outbounds.WriteFault
-    failed part = known_told (WritesReport line (held first) events inbound outbounds.WriteFault)
-        (written first) (written last) part
+    failed part = known_told (WritesReport line first.held events inbound outbounds.WriteFault)
+        first.written last.written part
 
     starved : Part (report_of events inbound ++ behind) → Reports outbounds.Memory
-    starved part = known_told (WritesReport line (held first) events inbound outbounds.Memory)
-        (written first) (written last) part
+    starved part = known_told (WritesReport line first.held events inbound outbounds.Memory)
+        first.written last.written part
 
     -- behind a report that is all written
-    by_answer : PutsTo written held faults may_want first mid (report_of events inbound) (Ok tt)
-        → (answer : Result ⊤ SinkFault) → PutsTo written held faults may_want mid last behind answer
-        → OnOk answer (held last ≡ []) → Reports (outbound_by answer)
+    by_answer : Puts first mid (report_of events inbound) (Ok tt)
+        → (answer : Result ⊤ SinkFault) → Puts mid last behind answer
+        → OnOk answer (last.held ≡ []) → Reports (outbound_by answer)
     by_answer puts (Ok done) more emptied =
-        whole (all_written written held faults may_want first last
-        (report_of events inbound ++ behind) (PutsAll-then _ puts more) emptied)
+        whole (all_written first last
+        (report_of events inbound ++ behind) (Puts-then _ puts more) emptied)
     by_answer puts (Err sinks.Failed) more emptied =
-        failed (cut_written written held faults may_want sinks.Failed first last
-        (report_of events inbound ++ behind) (PutsAll-then _ puts more))
+        failed (cut_written sinks.Failed first last
+        (report_of events inbound ++ behind) (Puts-then _ puts more))
     by_answer puts (Err sinks.Memory) more emptied =
-        starved (cut_written written held faults may_want sinks.Memory first last
-        (report_of events inbound ++ behind) (PutsAll-then _ puts more))
+        starved (cut_written sinks.Memory first last
+        (report_of events inbound ++ behind) (Puts-then _ puts more))
 
     -- behind one whose writing has ended
-    part_of : (report : Outbound) → mid ≡ last → Wrote written held faults may_want (said_by Whole)
+    part_of : (report : Outbound) → mid ≡ last → Wrote (said_by Whole)
         report closing first (map event_for events) (λ s. ⊤) mid
         → Part (report_of events inbound ++ behind)
     part_of report same wrote =
-        subst (λ (o : O). Grew written held faults may_want first o
+        subst (λ (o : SinkView). Grew first o
         (report_of events inbound ++ behind)) same
-        (grew_more written held faults may_want first mid (report_of events inbound) behind
-        (wrote_grew written held faults may_want (said_by Whole) report closing first
+        (grew_more first mid (report_of events inbound) behind
+        (wrote_grew (said_by Whole) report closing first
         (map event_for events) (λ s. ⊤) mid wrote))
 
-    pub reports : (report report' : Outbound) → Wrote written held faults may_want (said_by Whole)
+    pub reports : (report report' : Outbound) → Wrote (said_by Whole)
         report closing first (map event_for events) (λ s. ⊤) mid
-        → Finishes written held faults may_want behind report report' mid last → Reports report'
+        → Finishes behind report report' mid last → Reports report'
     reports outbounds.Done report' wrote f =
         let g = f.goes refl in
         subst Reports (sym g.2) (by_answer wrote.puts g.0 g.1 g.3)
@@ -102,30 +103,30 @@ module _ {O : Type 0} (written : O → Option (List ℕ)) (held : O → List ℕ
 
   -- ---- where all bytes are known
 
-  module _ (dump w w1 : List ℕ) (mid_is : written mid ≡ Some w1) where
+  module _ (dump w w1 : List ℕ) (mid_is : mid.written ≡ Some w1) where
     abbrev Dumps : ClientIn → Outbound → Type 0
-    Dumps inbound report = (w' : List ℕ) × (written last ≡ Some w')
-        × WritesDump dump line (held first) inbound report w w'
+    Dumps inbound report = (w' : List ℕ) × (last.written ≡ Some w')
+        × WritesDump dump line first.held inbound report w w'
 
     -- what is behind the report
-    module _ (behind : List ℕ) (emptied : held mid ≡ []) where
+    module _ (behind : List ℕ) (emptied : mid.held ≡ []) where
       abbrev Behind : Result ⊤ SinkFault → List ℕ → Type 0
       Behind (Ok done) w' = w' ≡ w1 ++ behind
       Behind (Err fault) w' = GrowsByPrefix w1 w' behind
 
       more_written : (answer : Result ⊤ SinkFault)
-          → PutsTo written held faults may_want mid last behind answer
-          → OnOk answer (held last ≡ [])
-          → (w' : List ℕ) × (written last ≡ Some w') × Behind answer w'
+          → Puts mid last behind answer
+          → OnOk answer (last.held ≡ [])
+          → (w' : List ℕ) × (last.written ≡ Some w') × Behind answer w'
       more_written (Ok done) puts none =
-          let k = all_written written held faults may_want mid last behind puts none w1 mid_is in (
+          let k = all_written mid last behind puts none w1 mid_is in (
             k.0,
             k.1,
             k.2 ∙ ap (λ h. (w1 ++ h) ++ behind) emptied
                 ∙ ap (λ l. l ++ behind) (append-nil w1),
           )
       more_written (Err fault) puts none =
-          let k = cut_written written held faults may_want fault mid last behind puts w1 mid_is in
+          let k = cut_written fault mid last behind puts w1 mid_is in
           (k.0, k.1, subst (λ h. GrowsByPrefix w1 k.0 (h ++ behind)) emptied k.2)
 
       -- where nothing is behind it, nothing more is written
@@ -136,18 +137,23 @@ module _ {O : Type 0} (written : O → Option (List ℕ)) (held : O → List ℕ
           b.grown ∙ ap (λ l. w1 ++ take b.kept l) none ∙ ap (λ l. w1 ++ l) (take-nil b.kept)
           ∙ append-nil w1
 
-    module _ (report report' : Outbound) (emptied : report ≡ outbounds.Done → held mid ≡ []) where
+    module _ (report report' : Outbound) (emptied : report ≡ outbounds.Done → mid.held ≡ []) where
       -- what is told at last
       at_last : (behind : List ℕ)
-          → Finishes written held faults may_want behind report report' mid last
-          → (w' : List ℕ) × (written last ≡ Some w') × (behind ≡ [] → w' ≡ w1)
+          → Finishes behind report report' mid last
+          → (w' : List ℕ) × (last.written ≡ Some w') × (behind ≡ [] → w' ≡ w1)
       at_last behind f = by report refl where
         stopped : (report ≡ outbounds.Done → ⊥)
-            → (w' : List ℕ) × (written last ≡ Some w') × (behind ≡ [] → w' ≡ w1)
-        stopped other = (w1, ap written (f.untouched other) ∙ mid_is, λ none. refl)
+            → (w' : List ℕ) × (last.written ≡ Some w') × (behind ≡ [] → w' ≡ w1)
+        stopped other = (
+          w1,
+          ap (λ (k : SinkView). k.written) (f.untouched other)
+              ∙ mid_is,
+          λ none. refl,
+        )
 
         by : (r : Outbound) → report ≡ r
-            → (w' : List ℕ) × (written last ≡ Some w') × (behind ≡ [] → w' ≡ w1)
+            → (w' : List ℕ) × (last.written ≡ Some w') × (behind ≡ [] → w' ≡ w1)
         by outbounds.Done is =
             let g = f.goes is in
             let m = more_written behind (emptied is) g.0 g.1 g.3 in
@@ -157,46 +163,46 @@ module _ {O : Type 0} (written : O → Option (List ℕ)) (held : O → List ℕ
 
       -- behind the report of a stream that was read to its end
       module _ (inbound : ClientIn)
-          (wholly : (w' : List ℕ) → w' ≡ w ++ held first ++ (dump ++ line)
-          → WritesDump dump line (held first) inbound outbounds.Done w w')
-          (failed : (w' : List ℕ) → GrowsByPrefix w w' (held first ++ (dump ++ line))
-          → WritesDump dump line (held first) inbound outbounds.WriteFault w w')
-          (starved : (w' : List ℕ) → GrowsByPrefix w w' (held first ++ (dump ++ line))
-          → WritesDump dump line (held first) inbound outbounds.Memory w w')
+          (wholly : (w' : List ℕ) → w' ≡ w ++ first.held ++ (dump ++ line)
+          → WritesDump dump line first.held inbound outbounds.Done w w')
+          (failed : (w' : List ℕ) → GrowsByPrefix w w' (first.held ++ (dump ++ line))
+          → WritesDump dump line first.held inbound outbounds.WriteFault w w')
+          (starved : (w' : List ℕ) → GrowsByPrefix w w' (first.held ++ (dump ++ line))
+          → WritesDump dump line first.held inbound outbounds.Memory w w')
         where
-          grouped : (w' : List ℕ) → GrowsByPrefix w w' ((held first ++ dump) ++ line)
-              → GrowsByPrefix w w' (held first ++ (dump ++ line))
-          grouped w' g = subst (GrowsByPrefix w w') (append_assoc (held first) dump line) g
+          grouped : (w' : List ℕ) → GrowsByPrefix w w' ((first.held ++ dump) ++ line)
+              → GrowsByPrefix w w' (first.held ++ (dump ++ line))
+          grouped w' g = subst (GrowsByPrefix w w') (append_assoc first.held dump line) g
 
-          with_answer : (all : w1 ≡ w ++ held first ++ dump) → (none : held mid ≡ [])
+          with_answer : (all : w1 ≡ w ++ first.held ++ dump) → (none : mid.held ≡ [])
               → (answer : Result ⊤ SinkFault) (w' : List ℕ) → Behind line none answer w'
-              → WritesDump dump line (held first) inbound (outbound_by answer) w w'
+              → WritesDump dump line first.held inbound (outbound_by answer) w w'
           with_answer all none (Ok done) w' b =
-              wholly w' (b ∙ ap (λ l. l ++ line) all ∙ append_assoc (w ++ held first) dump line)
+              wholly w' (b ∙ ap (λ l. l ++ line) all ∙ append_assoc (w ++ first.held) dump line)
           with_answer all none (Err sinks.Failed) w' b =
-              failed w' (grouped w' (grown_behind w w1 w' (held first ++ dump) line
-              (all ∙ append_assoc w (held first) dump) b))
+              failed w' (grouped w' (grown_behind w w1 w' (first.held ++ dump) line
+              (all ∙ append_assoc w first.held dump) b))
           with_answer all none (Err sinks.Memory) w' b =
-              starved w' (grouped w' (grown_behind w w1 w' (held first ++ dump) line
-              (all ∙ append_assoc w (held first) dump) b))
+              starved w' (grouped w' (grown_behind w w1 w' (first.held ++ dump) line
+              (all ∙ append_assoc w first.held dump) b))
 
-          judged_dumps : (report ≡ outbounds.Done → w1 ≡ w ++ held first ++ dump)
-              → ((report ≡ outbounds.Done → ⊥) → GrowsByPrefix w w1 (held first ++ dump))
-              → Finishes written held faults may_want line report report' mid last
+          judged_dumps : (report ≡ outbounds.Done → w1 ≡ w ++ first.held ++ dump)
+              → ((report ≡ outbounds.Done → ⊥) → GrowsByPrefix w w1 (first.held ++ dump))
+              → Finishes line report report' mid last
               → Dumps inbound report'
           judged_dumps all part f = by report refl where
             stopped : (r : Outbound) → report ≡ r → (r ≡ outbounds.Done → ⊥)
-                → WritesDump dump line (held first) inbound r w w1 → Dumps inbound report'
+                → WritesDump dump line first.held inbound r w w1 → Dumps inbound report'
             stopped r is other dumps =
                 let not_done : report ≡ outbounds.Done → ⊥ = λ e. other (sym is ∙ e) in (
                   w1,
-                  ap written (f.untouched not_done) ∙ mid_is,
-                  subst (λ (o : Outbound). WritesDump dump line (held first) inbound o w w1)
+                  ap (λ (k : SinkView). k.written) (f.untouched not_done) ∙ mid_is,
+                  subst (λ (o : Outbound). WritesDump dump line first.held inbound o w w1)
                       (sym (f.stays not_done ∙ is)) dumps,
                 )
 
-            more : (report ≡ outbounds.Done → ⊥) → GrowsByPrefix w w1 (held first ++ (dump ++ line))
-            more other = grouped w1 (grown_within w w1 (held first ++ dump) line (part other))
+            more : (report ≡ outbounds.Done → ⊥) → GrowsByPrefix w w1 (first.held ++ (dump ++ line))
+            more other = grouped w1 (grown_within w w1 (first.held ++ dump) line (part other))
 
             by : (r : Outbound) → report ≡ r → Dumps inbound report'
             by outbounds.Done is =
@@ -204,7 +210,7 @@ module _ {O : Type 0} (written : O → Option (List ℕ)) (held : O → List ℕ
                 let m = more_written line (emptied is) g.0 g.1 g.3 in (
                   m.0,
                   m.1,
-                  subst (λ (o : Outbound). WritesDump dump line (held first) inbound o w m.0)
+                  subst (λ (o : Outbound). WritesDump dump line first.held inbound o w m.0)
                       (sym g.2) (with_answer (all is) (emptied is) g.0 m.0 m.2),
                 )
             by outbounds.WriteFault is =
@@ -215,27 +221,27 @@ module _ {O : Type 0} (written : O → Option (List ℕ)) (held : O → List ℕ
                 stopped outbounds.Memory is other (starved w1 (more (λ e. other (sym is ∙ e))))
 
       -- what a call reports of them
-      module _ (inbound : ClientIn) (of : ReportsOf dump (held first) w w1 inbound report) where
-        judged_all : (ReportsOf dump (held first) w w1 inbound outbounds.Done
-            → w1 ≡ w ++ held first ++ dump) → report ≡ outbounds.Done → w1 ≡ w ++ held first ++ dump
+      module _ (inbound : ClientIn) (of : ReportsOf dump first.held w w1 inbound report) where
+        judged_all : (ReportsOf dump first.held w w1 inbound outbounds.Done
+            → w1 ≡ w ++ first.held ++ dump) → report ≡ outbounds.Done → w1 ≡ w ++ first.held ++ dump
         judged_all to is =
-            to (subst (λ (o : Outbound). ReportsOf dump (held first) w w1 inbound o) is of)
+            to (subst (λ (o : Outbound). ReportsOf dump first.held w w1 inbound o) is of)
 
-        judged_part : (ReportsOf dump (held first) w w1 inbound outbounds.WriteFault
-            → GrowsByPrefix w w1 (held first ++ dump))
-            → (ReportsOf dump (held first) w w1 inbound outbounds.Memory
-            → GrowsByPrefix w w1 (held first ++ dump))
-            → (report ≡ outbounds.Done → ⊥) → GrowsByPrefix w w1 (held first ++ dump)
+        judged_part : (ReportsOf dump first.held w w1 inbound outbounds.WriteFault
+            → GrowsByPrefix w w1 (first.held ++ dump))
+            → (ReportsOf dump first.held w w1 inbound outbounds.Memory
+            → GrowsByPrefix w w1 (first.held ++ dump))
+            → (report ≡ outbounds.Done → ⊥) → GrowsByPrefix w w1 (first.held ++ dump)
         judged_part one two other = by report refl where
-          by : (r : Outbound) → report ≡ r → GrowsByPrefix w w1 (held first ++ dump)
+          by : (r : Outbound) → report ≡ r → GrowsByPrefix w w1 (first.held ++ dump)
           by outbounds.Done is = absurd (other is)
           by outbounds.WriteFault is =
-              one (subst (λ (o : Outbound). ReportsOf dump (held first) w w1 inbound o) is of)
+              one (subst (λ (o : Outbound). ReportsOf dump first.held w w1 inbound o) is of)
           by outbounds.Memory is =
-              two (subst (λ (o : Outbound). ReportsOf dump (held first) w w1 inbound o) is of)
+              two (subst (λ (o : Outbound). ReportsOf dump first.held w w1 inbound o) is of)
 
-      pub dumps : (inbound : ClientIn) → ReportsOf dump (held first) w w1 inbound report
-          → Finishes written held faults may_want (line_after inbound line) report report' mid last
+      pub dumps : (inbound : ClientIn) → ReportsOf dump first.held w w1 inbound report
+          → Finishes (line_after inbound line) report report' mid last
           → Dumps inbound report'
       dumps Ended of f =
           judged_dumps Ended (λ w' e. e) (λ w' g. g) (λ w' g. g)
@@ -249,7 +255,7 @@ module _ {O : Type 0} (written : O → Option (List ℕ)) (held : O → List ℕ
       dumps ReadFault of f = let k = at_last line f in (k.0, k.1, tt)
       dumps Memory of f =
           let k = at_last [] f in
-          (k.0, k.1, subst (λ v. GrowsByPrefix w v (held first ++ dump)) (sym (k.2 refl)) of)
+          (k.0, k.1, subst (λ v. GrowsByPrefix w v (first.held ++ dump)) (sym (k.2 refl)) of)
 
 -- ---- counts, and what is held
 
@@ -263,24 +269,24 @@ failed_back : (answer : Result ⊤ SinkFault) → answer ≡ Err sinks.Failed
     → outbound_by answer ≡ outbounds.WriteFault
 failed_back answer is = ap outbound_by is
 
-module _ {O : Type 0} (written : O → Option (List ℕ)) (held : O → List ℕ) (faults : O → ℕ)
-    (may_want : O → Bool) (first mid last : O) where
+module _ (first mid last : SinkView) where
   -- a report and a line behind it
   pub reports_counted : (behind : List ℕ) (report report' : Outbound)
-      → CountsFaults (faults first) (faults mid) (report ≡ outbounds.WriteFault)
-      → Finishes written held faults may_want behind report report' mid last
-      → CountsFaults (faults first) (faults last) (report' ≡ outbounds.WriteFault)
+      → CountsFaults first.faults mid.faults (report ≡ outbounds.WriteFault)
+      → Finishes behind report report' mid last
+      → CountsFaults first.faults last.faults (report' ≡ outbounds.WriteFault)
   reports_counted behind report report' counted f = by report refl where
     stopped : (report ≡ outbounds.Done → ⊥)
-        → CountsFaults (faults first) (faults last) (report' ≡ outbounds.WriteFault)
+        → CountsFaults first.faults last.faults (report' ≡ outbounds.WriteFault)
     stopped other =
-        subst (λ (o : O). CountsFaults (faults first) (faults o) (report' ≡ outbounds.WriteFault))
+        subst (λ (o : SinkView). CountsFaults first.faults o.faults (report'
+        ≡ outbounds.WriteFault))
         (sym (f.untouched other))
-        (subst (λ (r : Outbound). CountsFaults (faults first) (faults mid)
+        (subst (λ (r : Outbound). CountsFaults first.faults mid.faults
         (r ≡ outbounds.WriteFault)) (sym (f.stays other)) counted)
 
     by : (r : Outbound) → report ≡ r
-        → CountsFaults (faults first) (faults last) (report' ≡ outbounds.WriteFault)
+        → CountsFaults first.faults last.faults (report' ≡ outbounds.WriteFault)
     by outbounds.Done is =
         let g = f.goes is in
         counted_with _ _ _ _ _ (counted.same (λ e. let both = sym is ∙ e in cc)) g.1.counted
@@ -290,8 +296,8 @@ module _ {O : Type 0} (written : O → Option (List ℕ)) (held : O → List ℕ
 
   -- a report that is all written
   pub emptied_by : (closing : List ℕ) (report : Outbound) (events : List Event)
-      → Wrote written held faults may_want (said_by Whole) report closing first events (λ s. ⊤) mid
-      → report ≡ outbounds.Done → held mid ≡ []
+      → Wrote (said_by Whole) report closing first events (λ s. ⊤) mid
+      → report ≡ outbounds.Done → mid.held ≡ []
   emptied_by closing outbounds.Done events wrote is = wrote.emptied
   emptied_by closing outbounds.WriteFault events wrote is = cc
   emptied_by closing outbounds.Memory events wrote is = cc

@@ -15,8 +15,8 @@ use Rattle.nbfx_values.specs.Limits.{limits, usual_limits}
 use Rattle.stream_reader.proofs.OnLiterals.{preamble, streams_on_literals}
 use Rattle.session_report.specs.Report.{offence_line}
 use Rattle.line_notation.specs.{Lines.items_text, Quoted.quoted}
-use Rattle.client.specs.declared.caller.Ack.{Ack, TheVariants.Awaited, TheVariants.Read}
-use Rattle.client.specs.Called.{ack_along, answers_to, dumped, heard_of}
+use Rattle.client.specs.Called.{Ack, Awaited, Read}
+use Rattle.client.specs.Called.{ack_along, answers_to, dumped, handled_of}
 use Rattle.client.specs.Sent.{Sending, sending, sent_by}
 
 unfoldable calls_on_literals : ⊤
@@ -148,7 +148,7 @@ Told = Ack × List ℕ × Option Offence
 abbrev told : Mode → Answer → Told
 told mode a =
     let x : Sending = sending usual_limits [] mode Session [] in
-    (ack_along Awaited (heard_of x a.0), dumped x a.0, offence (stream (answers_to x)) a.0)
+    (ack_along Awaited (handled_of x a.0), dumped x a.0, offence (stream (answers_to x)) a.0)
 
 abbrev wanted : Answer → Told
 wanted a = (a.1, a.2, a.3)

@@ -1,26 +1,28 @@
 -- What was read, reported and sent by a call, however it ends.
-use Rattle.std.specs.Prelude.{◌≡◌, ℕ, Bool, ◌⊎◌, List, [], ◌∷◌, ◌++◌, map, length, Some, None, Ok}
-use Rattle.std.specs.Prelude.{Err, Option, ⊤}
+use Rattle.std.specs.Prelude.{◌≡◌, ℕ, ◌⊎◌, List, [], ◌∷◌, ◌++◌, map, length, Some, None, Ok}
+use Rattle.std.specs.Prelude.{Err, ⊤}
 use Rattle.io_edges.specs.{Faults.CountsFaults, Flow.GrowsByPrefix}
 use Rattle.unit_streams.specs.{Judging.events, Judging.offence, Tellers.state_behind}
 use Rattle.{string_tables.specs.StringTable.StringTable, client.specs.Sent.sent_by}
 use Rattle.nbfx_values.specs.declared.{content.Item.Item, refusals.Offence.Offence}
 use Rattle.nbfx_encoder.specs.{Envelopes.UnfitAt, Placing.Placed, Refusals.told}
 use Rattle.stream_reader.specs.Stream.{receivers, Settings, stream, StreamEvent}
-use Rattle.stream_loop.specs.declared.{following.Ending.Ending, outbound.Outbound.Outbound}
+use Rattle.stream_loop.specs.declared.{following.FollowEnding.FollowEnding}
+use Rattle.stream_loop.specs.declared.{outbound.Outbound.Outbound}
 use Rattle.stream_loop.specs.{Edges.Input, Followed.Follows}
-use Rattle.stream_loop.specs.Writing.{HoldNothing, IsCut, PutsTo, Wrote}
+use Rattle.stream_loop.specs.Writing.{IsCut, Wrote}
 use Rattle.initiator_machine.specs.Opening.{opening_bytes}
 use Rattle.session_report.specs.declared.{reading.Event.Event, reporter.Outcome.Outcome}
 use Rattle.session_report.specs.Report.{last_line, outcome, report}
 use Rattle.session_report.specs.Saying.{event_for, said_by}
 use Rattle.command_words.specs.declared.task.Detail.TheVariants.{Whole}
-use Rattle.client.specs.declared.caller.Ack.{Ack, TheVariants.Awaited, TheVariants.Read}
 use Rattle.client.specs.declared.outcome.{CallOutcome.CallOutcome, ClientOut.ClientOut}
 use Rattle.client.specs.declared.outcome.ClientIn.{ClientIn, TheVariants.ReadFault}
 use Rattle.client.specs.declared.outcome.ClientIn.TheVariants.{Ended, Memory, Offended, PeerFault}
 use Rattle.client.specs.Sent.{due_next, envelopes, HasBroken, HasSentAll, HasSentFitting, Sending}
-use Rattle.stream_loop.specs.declared.following.Ending.TheVariants as endings
+use Rattle.io_edges.specs.Views.{HoldsNothing, SinkView}
+use Rattle.io_edges.specs.Puts.{Puts}
+use Rattle.stream_loop.specs.declared.following.FollowEnding.TheVariants as endings
 use Rattle.stream_loop.specs.declared.outbound.Outbound.TheVariants as outbounds
 use Rattle.session_report.specs.declared.reading.Event.TheVariants as said
 use Rattle.session_report.specs.declared.reporter.Outcome.TheVariants as reached
@@ -40,7 +42,12 @@ answers_to x = record {
 abbrev pub dumped : Sending → List ℕ → List ℕ
 dumped x bytes = report Whole (answers_to x) bytes
 
--- whether the Ack was read, after an event
+-- whether the peer's Preamble Ack was read
+pub data Ack : Type 0 where
+  Awaited : Ack
+  Read : Ack
+
+-- after an event
 abbrev pub ack_after : Ack → Event → Ack
 ack_after ack said.Accepted = Read
 ack_after ack event = ack
@@ -51,22 +58,22 @@ ack_along ack [] = ack
 ack_along ack (event ∷ events) = ack_along (ack_after ack event) events
 
 -- the events of a stream, as they are said
-abbrev pub heard_of : Sending → List ℕ → List Event
-heard_of x bytes = map event_for (events (stream (answers_to x)) bytes)
+abbrev pub handled_of : Sending → List ℕ → List Event
+handled_of x bytes = map event_for (events (stream (answers_to x)) bytes)
 
 -- how the session has ended by events
 abbrev pub reached_along : List Event → Outcome
-reached_along heard = state_behind (said_by Whole) reached.Open heard
+reached_along handled = state_behind (said_by Whole) reached.Open handled
 
 -- how the reading of it ended
-abbrev pub inbound_by : Ending Offence → Outcome → ClientIn
+abbrev pub inbound_by : FollowEnding Offence → Outcome → ClientIn
 inbound_by (endings.Judged (Some offence)) reached = Offended offence
 inbound_by (endings.Judged None) reached.Faulted = PeerFault
 inbound_by (endings.Judged None) reached = Ended
 inbound_by endings.ReadFault reached = ReadFault
 inbound_by endings.Memory reached = Memory
 
-abbrev pub ending_of : ClientIn → Ending Offence
+abbrev pub ending_of : ClientIn → FollowEnding Offence
 ending_of Ended = endings.Judged None
 ending_of PeerFault = endings.Judged None
 ending_of (Offended offence) = endings.Judged (Some offence)
@@ -74,7 +81,7 @@ ending_of ReadFault = endings.ReadFault
 ending_of Memory = endings.Memory
 
 -- the last line of the report: a stream that isn't judged has none
-abbrev pub closing_of : Ending Offence → Outcome → List ℕ
+abbrev pub closing_of : FollowEnding Offence → Outcome → List ℕ
 closing_of (endings.Judged refusal) reached = last_line reached refusal
 closing_of endings.ReadFault reached = []
 closing_of endings.Memory reached = []
@@ -103,13 +110,13 @@ ReportsOf report held w w' inbound outbound = GrowsByPrefix w w' (held ++ report
 abbrev pub IsAckOf : Sending → (bytes : List ℕ) → ClientIn → Ack → Type 0
 IsAckOf x bytes ReadFault ack = ⊤
 IsAckOf x bytes Memory ack = ⊤
-IsAckOf x bytes inbound ack = ack ≡ ack_along Awaited (heard_of x bytes)
+IsAckOf x bytes inbound ack = ack ≡ ack_along Awaited (handled_of x bytes)
 
 -- The writing ended at what was due behind the envelopes of the first documents, as many as were
 -- sent. Of the opening, these envelopes and what was due next the first bytes are written: at most
 -- one envelope more than were sent. Where the sink holds nothing back, the opening and the
 -- envelopes that were sent are written whole, and of what was due next the first bytes, or none.
-pub record WritesFirst (x : Sending) (holds_nothing : Type 0) (via held w w' : List ℕ) (sent : ℕ)
+pub record WritesFirst (x : Sending) (via : List ℕ) (first : SinkView) (w w' : List ℕ) (sent : ℕ)
     : Type 0 where
   pub done : List (List Item)
   pub rest : List (List Item)
@@ -119,106 +126,97 @@ pub record WritesFirst (x : Sending) (holds_nothing : Type 0) (via held w w' : L
   pub table : StringTable
   pub spelled : envelopes x done ≡ Ok (bytes, table)
   pub within : GrowsByPrefix w w'
-      (held ++ (opening_bytes x.mode x.kind via ++ (bytes ++ due_next x table rest)))
-  pub grown : holds_nothing
-      → GrowsByPrefix (w ++ held ++ (opening_bytes x.mode x.kind via ++ bytes)) w'
+      (first.held ++ (opening_bytes x.mode x.kind via ++ (bytes ++ due_next x table rest)))
+  pub grown : HoldsNothing first
+      → GrowsByPrefix (w ++ first.held ++ (opening_bytes x.mode x.kind via ++ bytes)) w'
       (due_next x table rest)
 
 -- first bytes of the opening are written, and no envelope was sent
-abbrev pub WritesNone : Sending → (via held w w' : List ℕ) → (sent : ℕ) → Type 0
-WritesNone x via held w w' sent =
-    (sent ≡ 0) × GrowsByPrefix w w' (held ++ opening_bytes x.mode x.kind via)
+abbrev pub WritesNone : Sending → (via : List ℕ) → (first : SinkView) → (w w' : List ℕ) → (sent : ℕ)
+    → Type 0
+WritesNone x via first w w' sent =
+    (sent ≡ 0) × GrowsByPrefix w w' (first.held ++ opening_bytes x.mode x.kind via)
 
 -- What is written to the peer, behind what was held, by whether its Ack was read: the opening, and
 -- behind the Ack all that is sent of the documents; or first bytes of that, with the envelopes that
 -- were sent.
-abbrev pub WritesCall : Sending → (holds_nothing : Type 0) → (via held w w' : List ℕ) → Ack
+abbrev pub WritesCall : Sending → (via : List ℕ) → (first : SinkView) → (w w' : List ℕ) → Ack
     → ClientOut → (sent : ℕ) → Type 0
-WritesCall x holds_nothing via held w w' Awaited out.Done sent =
-    (sent ≡ 0) × (w' ≡ w ++ held ++ opening_bytes x.mode x.kind via)
-WritesCall x holds_nothing via held w w' Awaited (out.Unfit number fault) sent = ⊥
-WritesCall x holds_nothing via held w w' Awaited outbound sent = WritesNone x via held w w' sent
-WritesCall x holds_nothing via held w w' Read out.Done sent = (sent ≡ length x.documents)
+WritesCall x via first w w' Awaited out.Done sent =
+    (sent ≡ 0) × (w' ≡ w ++ first.held ++ opening_bytes x.mode x.kind via)
+WritesCall x via first w w' Awaited (out.Unfit number fault) sent = ⊥
+WritesCall x via first w w' Awaited outbound sent = WritesNone x via first w w' sent
+WritesCall x via first w w' Read out.Done sent = (sent ≡ length x.documents)
     × ((all : Placed (List ℕ)) × (envelopes x x.documents ≡ Ok all))
-    × (w' ≡ w ++ held ++ sent_by x via)
-WritesCall x holds_nothing via held w w' Read (out.Unfit number fault) sent = (sent ≡ number)
+    × (w' ≡ w ++ first.held ++ sent_by x via)
+WritesCall x via first w w' Read (out.Unfit number fault) sent = (sent ≡ number)
     × ((unfit : UnfitAt) × (envelopes x x.documents ≡ Err unfit) × (number ≡ unfit.number)
     × (fault ≡ told unfit.why))
-    × (w' ≡ w ++ held ++ sent_by x via)
-WritesCall x holds_nothing via held w w' Read outbound sent =
-    GrowsByPrefix w w' (held ++ sent_by x via)
-    × (WritesNone x via held w w' sent ⊎ WritesFirst x holds_nothing via held w w' sent)
+    × (w' ≡ w ++ first.held ++ sent_by x via)
+WritesCall x via first w w' Read outbound sent =
+    GrowsByPrefix w w' (first.held ++ sent_by x via)
+    × (WritesNone x via first w w' sent ⊎ WritesFirst x via first w w' sent)
 
 -- ---- both
 
-module _ {K : Type 0} (written : K → Option (List ℕ)) (held : K → List ℕ) (faults : K → ℕ)
-    (may_want : K → Bool) (x : Sending) (via : List ℕ) where
+module _ (x : Sending) (via : List ℕ) where
   -- the writing ended so at the opening
-  abbrev pub BreaksOpening : Outbound → (sent : ℕ) → K → K → Type 0
+  abbrev pub BreaksOpening : Outbound → (sent : ℕ) → SinkView → SinkView → Type 0
   BreaksOpening outbound sent first now = (sent ≡ 0)
-      × IsCut written held faults may_want outbound (opening_bytes x.mode x.kind via) first now
+      × IsCut outbound (opening_bytes x.mode x.kind via) first now
 
   -- what was put to a sink that was like the first, by whether the Ack was read, how the writing
   -- ended, and how many envelopes were put
-  abbrev pub Sends : Ack → ClientOut → (sent : ℕ) → K → K → Type 0
+  abbrev pub Sends : Ack → ClientOut → (sent : ℕ) → SinkView → SinkView → Type 0
   Sends Awaited out.Done sent first now = (sent ≡ 0)
-      × PutsTo written held faults may_want first now (opening_bytes x.mode x.kind via) (Ok tt)
-      × (held now ≡ [])
+      × Puts first now (opening_bytes x.mode x.kind via) (Ok tt) × (now.held ≡ [])
   Sends Awaited (out.Unfit number fault) sent first now = ⊥
   Sends Awaited out.WriteFault sent first now =
       BreaksOpening outbounds.WriteFault sent first now
   Sends Awaited out.Memory sent first now = BreaksOpening outbounds.Memory sent first now
-  Sends Read out.Done sent first now = HasSentAll x written held faults may_want
-      (opening_bytes x.mode x.kind via) first sent now
-  Sends Read (out.Unfit number fault) sent first now = HasSentFitting x written held faults may_want
+  Sends Read out.Done sent first now = HasSentAll x (opening_bytes x.mode x.kind via) first sent now
+  Sends Read (out.Unfit number fault) sent first now = HasSentFitting x
       (opening_bytes x.mode x.kind via) first number fault sent now
   Sends Read out.WriteFault sent first now = BreaksOpening outbounds.WriteFault sent first now
-      ⊎ HasBroken x written held faults may_want (opening_bytes x.mode x.kind via) first
-      outbounds.WriteFault sent now
+      ⊎ HasBroken x (opening_bytes x.mode x.kind via) first outbounds.WriteFault sent now
   Sends Read out.Memory sent first now = BreaksOpening outbounds.Memory sent first now
-      ⊎ HasBroken x written held faults may_want (opening_bytes x.mode x.kind via) first
-      outbounds.Memory sent now
+      ⊎ HasBroken x (opening_bytes x.mode x.kind via) first outbounds.Memory sent now
 
-module _ {K : Type 0} (k_written : K → Option (List ℕ)) (k_held : K → List ℕ) (k_faults : K → ℕ)
-    (k_wants : K → Bool) {O : Type 0} (o_written : O → Option (List ℕ)) (o_held : O → List ℕ)
-    (o_faults : O → ℕ) (o_wants : O → Bool) (x : Sending) (via : List ℕ) where
-  -- These events of the peer's stream were heard. Their lines were reported, and the last line, or
-  -- the writing of the report ended at a part of it; the documents were sent where an Ack is among
-  -- them.
-  pub record HasCalled (sink sink' : K) (output output' : O) (called : CallOutcome)
+  -- These events of the peer's stream were handled. Their lines were reported, and the last line,
+  -- or the writing of the report ended at a part of it; the documents were sent where an Ack is
+  -- among them.
+  pub record HasCalled (sink sink' output output' : SinkView) (called : CallOutcome)
       (events : List StreamEvent) : Type 0 where
     pub inbound_is : called.inbound
         ≡ inbound_by (ending_of called.inbound) (reached_along (map event_for events))
-    pub reported : Wrote o_written o_held o_faults o_wants (said_by Whole) called.report
+    pub reported : Wrote (said_by Whole) called.report
         (closing_of (ending_of called.inbound) (reached_along (map event_for events))) output
         (map event_for events) (λ s. ⊤) output'
-    pub sends : Sends k_written k_held k_faults k_wants x via
+    pub sends : Sends
         (ack_along Awaited (map event_for events)) called.outbound called.sent sink sink'
 
   -- What is known of a call: what was read of the peer's stream, what was reported and sent, and
   -- what the calls that failed by the outside left of the counts of source, sink and output.
-  pub record Calls (i i' : Input) (sink sink' : K) (output output' : O) (called : CallOutcome)
+  pub record Calls (i i' : Input) (sink sink' output output' : SinkView) (called : CallOutcome)
       : Type 0 where
     pub follows : Follows (stream (answers_to x)) (HasCalled sink sink' output output' called) i i'
         (ending_of called.inbound)
     pub reads_counted : CountsFaults i.faults i'.faults (called.inbound ≡ ReadFault)
-    pub writes_counted : CountsFaults (k_faults sink) (k_faults sink')
-        (called.outbound ≡ out.WriteFault)
-    pub reports_counted : CountsFaults (o_faults output) (o_faults output')
+    pub writes_counted : CountsFaults sink.faults sink'.faults (called.outbound ≡ out.WriteFault)
+    pub reports_counted : CountsFaults output.faults output'.faults
         (called.report ≡ outbounds.WriteFault)
 
   -- All that is known of a call: of all that the peer sends, where the source tells that, how it is
   -- judged, what is reported of it and what is written to the peer; and what was read, reported and
   -- sent, however that ended.
-  pub record KnownCall (i i' : Input) (sink sink' : K) (output output' : O) (called : CallOutcome)
-      : Type 0 where
+  pub record KnownCall (i i' : Input) (sink sink' output output' : SinkView)
+      (called : CallOutcome) : Type 0 where
     pub judged : (bytes : List ℕ) → i.left ≡ Some bytes → Judges x bytes called.inbound
-    pub reported : (bytes w : List ℕ) → i.left ≡ Some bytes → o_written output ≡ Some w
-        → (w' : List ℕ) × (o_written output' ≡ Some w')
-        × ReportsOf (dumped x bytes) (o_held output) w w' called.inbound called.report
-    pub written : (bytes w : List ℕ) → i.left ≡ Some bytes → k_written sink ≡ Some w
-        → (w' : List ℕ) × (k_written sink' ≡ Some w') × (ack : Ack)
+    pub reported : (bytes w : List ℕ) → i.left ≡ Some bytes → output.written ≡ Some w
+        → (w' : List ℕ) × (output'.written ≡ Some w')
+        × ReportsOf (dumped x bytes) output.held w w' called.inbound called.report
+    pub written : (bytes w : List ℕ) → i.left ≡ Some bytes → sink.written ≡ Some w
+        → (w' : List ℕ) × (sink'.written ≡ Some w') × (ack : Ack)
         × IsAckOf x bytes called.inbound ack
-        × WritesCall x (HoldNothing k_written k_held k_faults k_wants) via (k_held sink) w w' ack
-        called.outbound called.sent
+        × WritesCall x via sink w w' ack called.outbound called.sent
     pub calls : Calls i i' sink sink' output output' called

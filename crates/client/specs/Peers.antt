@@ -5,22 +5,18 @@ use Rattle.io_edges.specs.{Faults.CountsFaults, Flow.GrowsByPrefix, Flow.Told}
 use Rattle.unit_streams.specs.Tellers.{told_along}
 use Rattle.stream_reader.specs.Stream.{stream, StreamEvent}
 use Rattle.stream_loop.specs.{declared.outbound.Outbound.Outbound, Followed.Follows}
-use Rattle.stream_loop.specs.Edges.{Input, Output}
+use Rattle.stream_loop.specs.Edges.{Input}
 use Rattle.session_report.specs.Saying.{event_for, said_by}
 use Rattle.command_words.specs.declared.task.Detail.TheVariants.{Whole}
-use Rattle.client.specs.declared.caller.Ack.{Ack, TheVariants.Awaited}
+use Rattle.client.specs.Called.{Ack, Awaited}
 use Rattle.client.specs.declared.outcome.{CallOutcome.CallOutcome, ClientIn.ClientIn}
 use Rattle.client.specs.declared.outcome.ClientIn.TheVariants.{Memory, ReadFault}
 use Rattle.client.specs.Called.{ack_along, answers_to, closing_of, dumped, ending_of, IsAckOf}
 use Rattle.client.specs.{Called.Judges, Called.reached_along, Called.WritesCall, Sent.Sending}
+use Rattle.io_edges.specs.Views.{SinkView}
 use Rattle.stream_loop.specs.declared.outbound.Outbound.TheVariants as outbounds
 use Rattle.session_report.specs.declared.reporter.Outcome.TheVariants as reached
 use Rattle.client.specs.declared.outcome.ClientOut.TheVariants as out
-
--- sinks of this type hold nothing back: what is put to one is written
-module _ {K : Type 0} (seen : K → Output) where
-  abbrev pub HoldNothing : Type 0
-  HoldNothing = (sink : K) → (seen sink).held ≡ []
 
 -- the line of what was sent, which comes behind the report where there was memory to read on
 abbrev pub line_after : ClientIn → (line : List ℕ) → List ℕ
@@ -54,18 +50,18 @@ WritesDump dump line held inbound report w w' = GrowsByPrefix w w' (held ++ (dum
 -- of all that the peer sends, where the source tells that, how it is judged, what is written to the
 -- peer and what is reported; what was read, and what is written and reported of its events; and
 -- what the calls that failed by the outside left of the counts of source, sink and output.
-pub record CallsPeer (x : Sending) (holds_nothing : Type 0) (via line : List ℕ) (i i' : Input)
-    (k k' o o' : Output) (called : CallOutcome) : Type 0 where
+pub record CallsPeer (x : Sending) (via line : List ℕ) (i i' : Input) (k k' o o' : SinkView)
+    (called : CallOutcome) : Type 0 where
   pub judged : (bytes : List ℕ) → i.left ≡ Some bytes → Judges x bytes called.inbound
   pub sent : (bytes w : List ℕ) → i.left ≡ Some bytes → k.written ≡ Some w
       → (w' : List ℕ) × (k'.written ≡ Some w') × (ack : Ack)
       × IsAckOf x bytes called.inbound ack
-      × WritesCall x holds_nothing via k.held w w' ack called.outbound called.sent
+      × WritesCall x via k w w' ack called.outbound called.sent
   pub reported : (bytes w : List ℕ) → i.left ≡ Some bytes → o.written ≡ Some w
       → (w' : List ℕ) × (o'.written ≡ Some w')
       × WritesDump (dumped x bytes) line o.held called.inbound called.report w w'
   pub follows : Follows (stream (answers_to x)) (λ events.
-      Told k.written k'.written (λ w w'. WritesCall x holds_nothing via k.held w w'
+      Told k.written k'.written (λ w w'. WritesCall x via k w w'
       (ack_along Awaited (map event_for events)) called.outbound called.sent)
       × Told o.written o'.written
       (WritesReport line o.held events called.inbound called.report)) i i'

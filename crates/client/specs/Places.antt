@@ -1,26 +1,18 @@
 -- What is left of a wire and of an output where a place was called.
-use Rattle.std.specs.Prelude.{◌≡◌, ℕ, List, [], ◌∷◌, ◌++◌, Some, Option, ⊤}
+use Rattle.std.specs.Prelude.{◌≡◌, ℕ, List, [], ◌∷◌, ◌++◌, Some, ⊤}
 use Rattle.io_edges.specs.{Faults.CountsFaults, Flow.Told}
-use Rattle.io_edges.specs.Wires.{added_up, Fresh, Network}
-use Rattle.stream_loop.specs.Edges.{Input, Output}
+use Rattle.io_edges.specs.Wires.{added_up, Network}
+use Rattle.stream_loop.specs.Edges.{AreNew, Input}
 use Rattle.session_ends.specs.Sent.{MayBeSent}
 use Rattle.client.specs.declared.called.Called.{Called, TheVariants.WrongCount}
 use Rattle.client.specs.declared.called.Called.TheVariants.{Closed, Starved, Unconnected}
 use Rattle.client.specs.{declared.outcome.CallOutcome.CallOutcome, Sent.Sending}
-use Rattle.client.specs.Peers.{CallsPeer, HoldNothing}
-
--- ends through which nothing has moved, and which have met no fault; they tell what moves where the
--- wire tells what the ended connections left
-pub record AreNew (told : Option (List (List ℕ × List ℕ))) (i : Input) (k : Output) : Type 0 where
-  pub unread : i.faults ≡ 0
-  pub nothing_taken : Fresh told i.taken
-  pub unwritten : k.faults ≡ 0
-  pub nothing_written : Fresh told k.written
-  pub nothing_held : k.held ≡ []
+use Rattle.client.specs.Peers.{CallsPeer}
+use Rattle.io_edges.specs.Views.{SinkView}
 
 -- what is seen of the ends of connections
-module _ {R K : Type 0} (input_of : R → Input) (output_of : K → Output) (x : Sending)
-    (via : List ℕ) (line : ℕ → List ℕ) (n n' : Network R K) (o o' : Output) where
+module _ {R K : Type 0} (input_of : R → Input) (output_of : K → SinkView) (x : Sending)
+    (via : List ℕ) (line : ℕ → List ℕ) (n n' : Network R K) (o o' : SinkView) where
   -- The documents may be sent in one session. One connection was handed out, its peer was called
   -- over it, and it is closed.
   pub record CallsOne (outcome : CallOutcome) : Type 0 where
@@ -29,7 +21,7 @@ module _ {R K : Type 0} (input_of : R → Input) (output_of : K → Output) (x :
     pub left : R × K
     pub handed : Told n.waiting n'.waiting (λ before after. before ≡ ends ∷ after)
     pub begins : AreNew n.closed (input_of ends.0) (output_of ends.1)
-    pub calls : CallsPeer x (HoldNothing output_of) via (line outcome.sent) (input_of ends.0)
+    pub calls : CallsPeer x via (line outcome.sent) (input_of ends.0)
         (input_of left.0) (output_of ends.1) (output_of left.1) o o' outcome
     pub closed : Told n.closed n'.closed (λ before after. (pair : List ℕ × List ℕ)
         × (after ≡ before ++ pair ∷ []) × ((input_of left.0).taken ≡ Some pair.0)

@@ -1,7 +1,8 @@
 -- What a client sends: an opening, an envelope for each document, and an End record (MC-NMF). What
 -- became of a sink that it was put to, however the writing ended.
-use Rattle.std.specs.Prelude.{◌≡◌, ℕ, Bool, List, [], ◌∷◌, ◌++◌, length, take, Ok, Err, Option}
-use Rattle.{std.specs.Prelude.Result, nbfx_values.specs.Limits.Limits}
+use Rattle.std.specs.Prelude.{◌≡◌, ℕ, List, [], ◌∷◌, ◌++◌, length, take, Ok, Err}
+use Rattle.std.specs.Prelude.{Result}
+use Rattle.nbfx_values.specs.{Limits.Limits, QuotasOf.limits_of}
 use Rattle.io_edges.specs.{Faults.CountsFaults, Flow.GrowsByPrefix, Flow.Told}
 use Rattle.string_tables.specs.{StaticStrings.Entry, StringTable.StringTable}
 use Rattle.nbfx_values.specs.declared.{content.Item.Item, session.Kind.Kind, session.Mode.Mode}
@@ -10,9 +11,11 @@ use Rattle.nbfx_encoder.specs.{declared.faults.EncodeFault.EncodeFault, Refusals
 use Rattle.nbfx_encoder.specs.Envelopes.{envelope, envelopes_from, UnfitAt}
 use Rattle.nbfx_encoder.specs.{Placing.Placed, Spelling.encoded, Spelling.Unfit}
 use Rattle.stream_loop.specs.declared.outbound.Outbound.{Outbound}
-use Rattle.stream_loop.specs.Writing.{HoldNothing, PutsTo}
 use Rattle.{initiator_machine.specs.Opening.opening_bytes, session_ends.specs.Sent.first_table}
 use Rattle.client.specs.declared.outcome.ClientOut.{ClientOut, TheVariants.Done, TheVariants.Memory}
+use Rattle.client.specs.declared.settings.CallSettings.{CallSettings}
+use Rattle.io_edges.specs.Views.{HoldsNothing, SinkView}
+use Rattle.io_edges.specs.Puts.{Puts}
 use Rattle.client.specs.declared.outcome.ClientOut.TheVariants.{Unfit as UnfitDocument, WriteFault}
 use Rattle.stream_loop.specs.declared.outbound.Outbound.TheVariants as outbounds
 
@@ -44,6 +47,10 @@ abbrev pub due_of : Mode → Result (Placed (List ℕ)) Unfit → List ℕ
 due_of mode (Ok payload) = envelope mode payload.0
 due_of mode (Err why) = []
 
+-- documents that are sent by these settings
+abbrev pub sending_by : CallSettings → List (List Item) → Sending
+sending_by s documents = sending (limits_of s.quotas) s.statics.now s.mode s.kind documents
+
 module _ (x : Sending) where
   -- the envelopes of documents, one behind the other; or the first that doesn't fit, and why
   abbrev pub envelopes : List (List Item) → Result (Placed (List ℕ)) UnfitAt
@@ -68,66 +75,62 @@ module _ (x : Sending) where
   due_next table [] = frame_bytes_of End []
   due_next table (document ∷ rest) = due_of x.mode (encoded x.limits x.kind table document)
 
-  -- of sinks, by what they tell
-  module _ {K : Type 0} (written : K → Option (List ℕ)) (held : K → List ℕ) (faults : K → ℕ)
-      (may_want : K → Bool) where
-    -- Of what was put to a sink that was like the first: these bytes, and then envelopes.
-    module _ (before : List ℕ) (first : K) where
-      -- the envelopes of these documents were put, and leave the table
-      pub record HasSent (done : List (List Item)) (table : StringTable) (now : K) : Type 0 where
-        pub bytes : List ℕ
-        pub spelled : envelopes done ≡ Ok (bytes, table)
-        pub puts : PutsTo written held faults may_want first now (before ++ bytes) (Ok tt)
+  -- Of what was put to a sink that was like the first: these bytes, and then envelopes.
+  module _ (before : List ℕ) (first : SinkView) where
+    -- the envelopes of these documents were put, and leave the table
+    pub record HasSent (done : List (List Item)) (table : StringTable)
+        (now : SinkView) : Type 0 where
+      pub bytes : List ℕ
+      pub spelled : envelopes done ≡ Ok (bytes, table)
+      pub puts : Puts first now (before ++ bytes) (Ok tt)
 
-      -- all that is due was put, and is written
-      pub record HasSentAll (sent : ℕ) (now : K) : Type 0 where
-        pub bytes : List ℕ
-        pub table : StringTable
-        pub spelled : envelopes x.documents ≡ Ok (bytes, table)
-        pub counted : sent ≡ length x.documents
-        pub puts : PutsTo written held faults may_want first now
-            (before ++ (bytes ++ frame_bytes_of End [])) (Ok tt)
-        pub emptied : held now ≡ []
+    -- all that is due was put, and is written
+    pub record HasSentAll (sent : ℕ) (now : SinkView) : Type 0 where
+      pub bytes : List ℕ
+      pub table : StringTable
+      pub spelled : envelopes x.documents ≡ Ok (bytes, table)
+      pub counted : sent ≡ length x.documents
+      pub puts : Puts first now (before ++ (bytes ++ frame_bytes_of End [])) (Ok tt)
+      pub emptied : now.held ≡ []
 
-      -- the envelopes before a document that doesn't fit were put, and are written
-      pub record HasSentFitting (number : ℕ) (fault : EncodeFault) (sent : ℕ) (now : K) : Type 0
-        where
-          pub done : List (List Item)
-          pub document : List Item
-          pub rest : List (List Item)
-          pub joined : x.documents ≡ done ++ document ∷ rest
-          pub counted : sent ≡ length done
-          pub number_is : number ≡ length done
-          pub table : StringTable
-          pub why : Unfit
-          pub unfit : encoded x.limits x.kind table document ≡ Err why
-          pub fault_is : fault ≡ told why
-          pub puts : HasSent done table now
-          pub emptied : held now ≡ []
-
-      -- The writing ended so at what was due behind the envelopes of the first documents, as many
-      -- as were sent. First bytes are written of what was put before, of these envelopes and of
-      -- what was due next. Where sinks hold nothing back, these envelopes are written whole.
-      pub record HasBroken (outbound : Outbound) (sent : ℕ) (now : K) : Type 0 where
+    -- the envelopes before a document that doesn't fit were put, and are written
+    pub record HasSentFitting (number : ℕ) (fault : EncodeFault) (sent : ℕ)
+        (now : SinkView) : Type 0
+      where
         pub done : List (List Item)
+        pub document : List Item
         pub rest : List (List Item)
-        pub joined : x.documents ≡ done ++ rest
+        pub joined : x.documents ≡ done ++ document ∷ rest
         pub counted : sent ≡ length done
-        pub bytes : List ℕ
+        pub number_is : number ≡ length done
         pub table : StringTable
-        pub spelled : envelopes done ≡ Ok (bytes, table)
-        pub grown : Told (written first) (written now) (λ w w'. GrowsByPrefix w w'
-            (held first ++ (before ++ (bytes ++ due_next table rest))))
-        pub whole : HoldNothing written held faults may_want
-            → Told (written first) (written now) (λ w w'.
-            GrowsByPrefix (w ++ held first ++ (before ++ bytes)) w' (due_next table rest))
-        pub emptied : held now ≡ []
-        pub faults_counted : CountsFaults (faults first) (faults now)
-            (outbound ≡ outbounds.WriteFault)
+        pub why : Unfit
+        pub unfit : encoded x.limits x.kind table document ≡ Err why
+        pub fault_is : fault ≡ told why
+        pub puts : HasSent done table now
+        pub emptied : now.held ≡ []
 
-      -- what was put of the documents, by how the writing ended, and how many envelopes that is
-      abbrev pub SendsAll : ClientOut → (sent : ℕ) → K → Type 0
-      SendsAll Done sent now = HasSentAll sent now
-      SendsAll (UnfitDocument number fault) sent now = HasSentFitting number fault sent now
-      SendsAll WriteFault sent now = HasBroken outbounds.WriteFault sent now
-      SendsAll Memory sent now = HasBroken outbounds.Memory sent now
+    -- The writing ended so at what was due behind the envelopes of the first documents, as many
+    -- as were sent. First bytes are written of what was put before, of these envelopes and of
+    -- what was due next. Where the sink holds nothing back, these envelopes are written whole.
+    pub record HasBroken (outbound : Outbound) (sent : ℕ) (now : SinkView) : Type 0 where
+      pub done : List (List Item)
+      pub rest : List (List Item)
+      pub joined : x.documents ≡ done ++ rest
+      pub counted : sent ≡ length done
+      pub bytes : List ℕ
+      pub table : StringTable
+      pub spelled : envelopes done ≡ Ok (bytes, table)
+      pub grown : Told first.written now.written (λ w w'. GrowsByPrefix w w'
+          (first.held ++ (before ++ (bytes ++ due_next table rest))))
+      pub whole : HoldsNothing first → Told first.written now.written (λ w w'.
+          GrowsByPrefix (w ++ first.held ++ (before ++ bytes)) w' (due_next table rest))
+      pub emptied : now.held ≡ []
+      pub faults_counted : CountsFaults first.faults now.faults (outbound ≡ outbounds.WriteFault)
+
+    -- what was put of the documents, by how the writing ended, and how many envelopes that is
+    abbrev pub SendsAll : ClientOut → (sent : ℕ) → SinkView → Type 0
+    SendsAll Done sent now = HasSentAll sent now
+    SendsAll (UnfitDocument number fault) sent now = HasSentFitting number fault sent now
+    SendsAll WriteFault sent now = HasBroken outbounds.WriteFault sent now
+    SendsAll Memory sent now = HasBroken outbounds.Memory sent now

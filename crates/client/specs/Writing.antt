@@ -1,8 +1,10 @@
 -- How the opening of a call is put to a sink, and how its writing ends.
-use Rattle.std.specs.Prelude.{◌≡◌, ℕ, Bool, List, [], Ok, Option}
-use Rattle.stream_loop.specs.{declared.outbound.Outbound.Outbound, Writing.IsCut, Writing.PutsTo}
+use Rattle.std.specs.Prelude.{◌≡◌, ℕ, List, [], Ok}
+use Rattle.stream_loop.specs.{declared.outbound.Outbound.Outbound, Writing.IsCut}
 use Rattle.client.specs.declared.outcome.ClientOut.{ClientOut}
 use Rattle.client.specs.declared.outcome.ClientOut.TheVariants.{Done, Memory, WriteFault}
+use Rattle.io_edges.specs.Views.{SinkView}
+use Rattle.io_edges.specs.Puts.{Puts}
 use Rattle.stream_loop.specs.declared.outbound.Outbound.TheVariants as outbounds
 
 abbrev pub out_of : Outbound → ClientOut
@@ -10,14 +12,8 @@ out_of outbounds.Done = Done
 out_of outbounds.WriteFault = WriteFault
 out_of outbounds.Memory = Memory
 
--- of sinks, by what they tell
-module _ {K : Type 0} (written : K → Option (List ℕ)) (held : K → List ℕ) (faults : K → ℕ)
-    (may_want : K → Bool) where
-  -- bytes were put and are written, or the writing ended so at them
-  abbrev pub WritesOut : Outbound → List ℕ → K → K → Type 0
-  WritesOut outbounds.Done bytes old new =
-      PutsTo written held faults may_want old new bytes (Ok tt) × (held new ≡ [])
-  WritesOut outbounds.WriteFault bytes old new =
-      IsCut written held faults may_want outbounds.WriteFault bytes old new
-  WritesOut outbounds.Memory bytes old new =
-      IsCut written held faults may_want outbounds.Memory bytes old new
+-- bytes were put and are written, or the writing ended so at them
+abbrev pub WritesOut : Outbound → List ℕ → SinkView → SinkView → Type 0
+WritesOut outbounds.Done bytes old new = Puts old new bytes (Ok tt) × (new.held ≡ [])
+WritesOut outbounds.WriteFault bytes old new = IsCut outbounds.WriteFault bytes old new
+WritesOut outbounds.Memory bytes old new = IsCut outbounds.Memory bytes old new

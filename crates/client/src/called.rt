@@ -9,7 +9,7 @@ use line_notation::LineKind;
 use nbfx_values::Reason;
 use stream_loop::Outbound as Reported;
 
-/// What became of a call.
+/// What became of a call of a place, with its connection or without one.
 #[derive(Clone, Copy, Debug, PartialEq, Eq)]
 pub enum Called {
     /// In singleton mode there isn't exactly one document. No connection was asked for.

@@ -1,168 +1,149 @@
-//! A connection called on one thread.
+//! A call of one list of documents, and what it shares with one of two.
 
-ghost use Rattle.std.specs.Prelude.{◌≡◌, ◌≤◌, ℕ, List, Some, length, map, []};
-ghost use Rattle.io_edges.specs.Faults.{CountsFaults};
+ghost use Rattle.std.specs.Prelude.{◌≡◌, ◌≤◌, ◌⊎◌, ℕ, List, [], Some, Ok, true, length, ⊤};
+ghost use Rattle.io_edges.specs.Puts.{Puts};
+ghost use Rattle.io_edges.specs.Views.{SinkView};
 ghost use Rattle.nbfx_values.specs.QuotasOf.{limits_of};
 ghost use Rattle.session_ends.specs.Sent.{MayBeSent};
-ghost use Rattle.stream_loop.specs.Edges.{input_at};
-ghost use Rattle.stream_reader.specs.StreamReaderState.{StandsFor, settings_of};
-ghost use Rattle.stream_reader.specs.Stream.{stream};
-ghost use Rattle.stream_loop.specs.Followed.{Follows};
-ghost use Rattle.stream_loop.specs.Writing.{HoldNothing};
-ghost use Rattle.session_report.specs.Saying.{event_for};
-ghost use Rattle.client.specs.Called.{Calls, IsAckOf, Judges, KnownCall, ReportsOf, WritesCall};
-ghost use Rattle.client.specs.Called.{dumped, inbound_by};
-ghost use Rattle.client.specs.Calling.{HasFollowed, HasHeard, IsFresh};
-ghost use Rattle.client.specs.Sent.{sending};
-ghost use Rattle.client.specs.Cuts.{sending_by};
-ghost use Rattle.client.specs.Outgoing.{Carries};
-ghost use Rattle.nbfx_values.specs.declared.content.Item.{Item as Part};
-ghost use Rattle.client.specs.declared.caller.Ack.{Ack as Acknowledged};
+ghost use Rattle.io_edges.specs.Faults.{CountsFaults};
+ghost use Rattle.stream_loop.specs.Edges.{Input, input_at};
+ghost use Rattle.stream_reader.specs.Stream.{Settings as Reads};
+ghost use Rattle.stream_loop.specs.Writing.{Writes, Wrote};
+ghost use Rattle.command_words.specs.declared.task.Detail.{Detail as Shown};
+ghost use Rattle.session_report.specs.declared.reading.Event.{Event as Heard};
+ghost use Rattle.session_report.specs.Saying.{said_by};
+ghost use Rattle.client.specs.Called.{Ack, Calls, IsAckOf, Judges, ReportsOf, WritesCall, closing_of, dumped, inbound_by};
+ghost use Rattle.client.specs.Answering.{HasComeSo, IsFollowed};
+ghost use Rattle.client.specs.Lanes.{stage_after};
+ghost use Rattle.client.specs.Sent.{SendsAll, sending, sending_by};
+ghost use Rattle.client.specs.Writing.{out_of};
 
-use crate::caller::{Caller, Outputs};
-use crate::outcome::{CallOutcome, ClientIn};
-use crate::outgoing::{CallSettings, Envelopes, Outgoing};
+use crate::answers::{AnswerHandler, AnswerReader, Stage};
+use crate::lane_writer::LaneWriter;
+use crate::outcome::{CallOutcome, ClientIn, ClientOut, client_out};
 use crate::sending::send_opening;
+use crate::settings::CallSettings;
 use io_edges::{Sink, Source};
 use nbfx_values::{Docs, Kind, Mode, Offence, Quotas};
-use session_report::{Outcome, StreamEnd};
+use session_report::Outcome;
 use static_dictionary::StaticTable;
 use std::alloc::Global;
-use stream_loop::{FollowEnding as Ending, follow_stream};
-use stream_reader::Side;
+use stream_loop::{FollowEnding, Outbound};
+use two_lanes::Lane;
 
-fn inbound_by(ending: Ending<Offence>, reached: Outcome) -> ClientIn
+fn inbound_by(ending: FollowEnding<Offence>, reached: Outcome) -> ClientIn
     ensures { result ≡ inbound_by ending reached }
 {
     match ending {
-        Ending::Judged(Some(offence)) => ClientIn::Offended(offence),
-        Ending::Judged(None) => match reached {
+        FollowEnding::Judged(Some(offence)) => ClientIn::Offended(offence),
+        FollowEnding::Judged(None) => match reached {
             Outcome::Faulted => ClientIn::PeerFault,
             Outcome::Open | Outcome::Ended => ClientIn::Ended,
         },
-        Ending::ReadFault => ClientIn::ReadFault,
-        Ending::Memory => ClientIn::Memory,
+        FollowEnding::ReadFault => ClientIn::ReadFault,
+        FollowEnding::Memory => ClientIn::Memory,
     }
 }
 
-// Reads the peer's stream by an end that has read nothing of it.
-fn follow_end<S: Source, K: Sink, O: Sink>(
-    alloc: Global,
-    end: &mut StreamEnd<'_>,
-    caller: &mut Caller<'_>,
-    source: &mut S,
-    outputs: &mut Outputs<'_, '_, K, O>,
-) -> Ending<Offence>
-    requires unread { StandsFor end.old.reader [] }
-    requires fresh { IsFresh caller.old }
-    ensures follows { Follows (stream (settings_of end.old.reader))
-        (λ events. HasHeard K.written K.held K.faults K.may_want O.written O.held O.faults
-        O.may_want outputs.old.sink.now outputs.old.report.now (map event_for events) caller.new
-        outputs.new.sink.now outputs.new.report.now)
-        (input_at S.left S.taken S.faults S.empty_takes source.old)
-        (input_at S.left S.taken S.faults S.empty_takes source.new) result }
-    ensures same_sink { outputs.new.sink.ghost_name ≡ outputs.old.sink.ghost_name }
-    ensures same_output { outputs.new.report.ghost_name ≡ outputs.old.report.ghost_name }
-    ensures counted { CountsFaults (S.faults source.old) (S.faults source.new)
-        (result ≡ Ending.ReadFault) }
-    ensures outgoing { caller.new.outgoing ≡ caller.old.outgoing }
-    ensures opened { caller.new.opened ≡ caller.old.opened }
+/// The stage of a call whose opening was written so. Where it wasn't, the direction is ended.
+pub(crate) fn stage_after<K: Sink>(opened: Outbound, sink: &mut K) -> Stage
+    ensures stage { result ≡ stage_after opened }
+    ensures ended { (opened ≡ Outbound.Done → ⊥) → K.ended sink.new ≡ true }
+    ensures unput { K.view sink.new ≡ K.view sink.old }
 {
-    follow_stream(alloc, end, caller, source, outputs)
+    if opened.is_going() {
+        return Stage::Opened;
+    }
+    sink.end();
+    Stage::Unopened
 }
 
-// Reads the peer's stream, and has it answered and reported.
-fn follow_answers<S: Source, K: Sink, O: Sink>(
-    alloc: Global,
-    caller: &mut Caller<'_>,
-    source: &mut S,
-    sink: &mut K,
+/// Ends the report of a call, and says what became of it.
+pub(crate) fn close_call<O: Sink>(
+    handler: AnswerHandler,
+    ending: FollowEnding<Offence>,
+    sent: u64,
+    outbound: ClientOut,
     output: &mut O,
-) -> Ending<Offence>
-    requires { IsFresh caller.old }
-    ensures follows { HasFollowed K.written K.held K.faults K.may_want O.written O.held O.faults
-        O.may_want caller.old.outgoing
-        (input_at S.left S.taken S.faults S.empty_takes source.old)
-        (input_at S.left S.taken S.faults S.empty_takes source.new) sink.old sink.new output.old
-        output.new caller.new result }
-    ensures counted { CountsFaults (S.faults source.old) (S.faults source.new)
-        (result ≡ Ending.ReadFault) }
-    ensures outgoing { caller.new.outgoing ≡ caller.old.outgoing }
-    ensures opened { caller.new.opened ≡ caller.old.opened }
-{
-    let CallSettings {
-        statics,
-        quotas,
-        mode,
-        kind,
-    } = caller.outgoing.settings;
-    let side = Side::Receiver { mode, kind };
-    let Ok(mut end) = StreamEnd::new(alloc, statics, quotas, side) else {
-        return Ending::Memory;
-    };
-    let mut outputs = Outputs {
-        sink,
-        report: output,
-    };
-    follow_end(alloc, &mut end, caller, source, &mut outputs)
-}
-
-/// Calls the peer whose bytes the source gives and the sink takes, as [`call_one`] does, with
-/// documents whose envelopes were made before. These are put together, a part at a time.
-pub fn call_prepared<S: Source, K: Sink, O: Sink>(
-    alloc: Global,
-    source: &mut S,
-    sink: &mut K,
-    output: &mut O,
-    outgoing: Outgoing<'_>,
-    via: &str,
 ) -> CallOutcome
-    requires via { length via.now ≤ 2048 }
-    requires carried { (documents : List (List Part)) × Carries documents outgoing }
-    ensures { (documents : List (List Part)) → Carries documents outgoing.entry
-        → KnownCall K.written K.held K.faults K.may_want O.written O.held O.faults O.may_want
-        (sending_by outgoing.entry.settings documents) via.now
-        (input_at S.left S.taken S.faults S.empty_takes source.old)
-        (input_at S.left S.taken S.faults S.empty_takes source.new) sink.old sink.new output.old
-        output.new result }
+    ensures closed { (first : SinkView) (events : List Heard)
+        → Writes (said_by Shown.Whole) handler.report first events handler.reached
+        (λ s. ⊤) (O.view output.old)
+        → Wrote (said_by Shown.Whole) result.report (closing_of ending handler.reached) first
+        events (λ s. ⊤) (O.view output.new) }
+    ensures sent { result.sent ≡ sent }
+    ensures inbound { result.inbound ≡ inbound_by ending handler.reached }
+    ensures outbound { result.outbound ≡ outbound }
 {
-    let CallSettings { mode, kind, .. } = outgoing.settings;
-    let opened = send_opening(alloc, mode, kind, via, sink);
-    let mut caller = Caller::new(outgoing, opened);
-    let ending = follow_answers(alloc, &mut caller, source, sink, output);
-    caller.close(ending, output);
+    let mut handler = handler;
+    handler.close(ending, output);
     CallOutcome {
-        sent: caller.sent,
-        inbound: inbound_by(ending, caller.reached),
-        outbound: caller.outbound,
-        report: caller.report,
+        sent,
+        inbound: inbound_by(ending, handler.reached),
+        outbound,
+        report: handler.report,
     }
 }
 
-// What is to be sent of these documents. Those for whose envelopes there is no memory aren't sent,
-// and the outcome of the call says so.
-fn outgoing_of<'s>(alloc: Global, settings: CallSettings<'s>, docs: &Docs) -> Outgoing<'s>
+// Sends the documents of a list. Answers how many envelopes were put whole, and how that ended.
+fn send_list<K: Sink>(
+    alloc: Global,
+    settings: CallSettings<'_>,
+    docs: &Docs,
+    sink: &mut K,
+) -> (u64, ClientOut)
     requires { MayBeSent settings.mode docs.now }
-    ensures carries { Carries docs.now result }
-    ensures settings { result.settings ≡ settings.entry }
+    ensures sends { (start : SinkView) (before : List ℕ)
+        → Puts start (K.view sink.old) before (Ok tt) → (K.view sink.old).held ≡ []
+        → SendsAll (sending_by settings.entry docs.now) before start result.1 result.0
+        (K.view sink.new) }
+    ensures ended { K.ended sink.new ≡ true }
 {
-    let mut envelopes = Envelopes::new(alloc, settings);
+    let mut writer = LaneWriter::new(alloc, settings);
     for doc in docs.as_slice() {
-        let _ = envelopes.add(doc);
+        writer.send(Lane::A, doc, sink);
     }
-    envelopes.finish()
+    writer.finish(sink);
+    let (tags, outbound) = writer.into_outcome();
+    (tags.len() as u64, outbound)
+}
+
+// Reads the peer's stream behind the Ack, to its end. The direction of this sink was ended, so that a
+// peer that waits for more has been told.
+fn read_behind<'s, S: Source, K: Sink, O: Sink>(
+    reader: AnswerReader<'s>,
+    source: &mut S,
+    _sink: &K,
+    output: &mut O,
+) -> (AnswerReader<'s>, FollowEnding<Offence>)
+    requires acked { reader.handler.stage ≡ Stage.Acked }
+    requires come { (y : Reads) × (i : Input) × (first : O) × (p : List ℕ)
+        × HasComeSo y i (O.view first) p reader
+        (input_at S.left S.taken S.faults S.empty_takes source.old) (O.view output.old) }
+    requires ended { K.ended _sink.now ≡ true }
+    ensures followed { (y : Reads) (i : Input) (first : O) (p : List ℕ)
+        → HasComeSo y i (O.view first) p reader.entry
+        (input_at S.left S.taken S.faults S.empty_takes source.old) (O.view output.old)
+        → IsFollowed y i (O.view first) Stage.Acked result.0
+        (input_at S.left S.taken S.faults S.empty_takes source.new) (O.view output.new)
+        result.1 }
+    ensures counted { CountsFaults (S.faults source.old) (S.faults source.new)
+        (result.1 ≡ FollowEnding.ReadFault) }
+{
+    reader.read_rest(source, output)
 }
 
 /// Calls the peer whose bytes the source gives and the sink takes (MC-NMF): writes the opening of a
 /// session to this Via, reads to the peer's Preamble Ack, writes an envelope for each document and
 /// an End record, and reads to the end. The report of what is read goes to the output, with its
-/// documents; the lines of what came are written before more is read. The envelopes of all
-/// documents are made before the opening is written, and are in memory until the call ends.
+/// documents; the lines of what came are written before more is read. Nothing is read while the
+/// envelopes are written: where the peer answers meanwhile, its answers have to fit the buffers
+/// between both ends. [`call_lanes`](crate::call_lanes) reads on.
 ///
 /// If no Ack is read, nothing is written after the opening. After a failed write to the peer, at a
 /// document that doesn't fit, or when out of memory while writing, nothing more is put to the sink,
 /// and reading goes on. After a failed write to the output nothing more is put to the output, and
-/// all else goes on.
+/// all else goes on. Once nothing more is put to the sink, its direction is ended.
 pub fn call_one<S: Source, K: Sink, O: Sink>(
     alloc: Global,
     source: &mut S,
@@ -181,25 +162,25 @@ pub fn call_one<S: Source, K: Sink, O: Sink>(
         → Judges (sending (limits_of quotas.now) statics.now mode kind docs.now) bytes
         result.inbound }
     ensures reported { (bytes w : List ℕ) → S.left source.old ≡ Some bytes
-        → O.written output.old ≡ Some w → (w' : List ℕ) × (O.written output.new ≡ Some w')
+        → (O.view output.old).written ≡ Some w → (w' : List ℕ)
+        × ((O.view output.new).written ≡ Some w')
         × ReportsOf (dumped (sending (limits_of quotas.now) statics.now mode kind docs.now) bytes)
-        (O.held output.old) w w' result.inbound result.report }
+        (O.view output.old).held w w' result.inbound result.report }
     ensures written { (bytes w : List ℕ) → S.left source.old ≡ Some bytes
-        → K.written sink.old ≡ Some w → (w' : List ℕ) × (K.written sink.new ≡ Some w')
-        × (ack : Acknowledged)
+        → (K.view sink.old).written ≡ Some w → (w' : List ℕ) × ((K.view sink.new).written ≡ Some w')
+        × (ack : Ack)
         × IsAckOf (sending (limits_of quotas.now) statics.now mode kind docs.now) bytes
         result.inbound ack
-        × WritesCall (sending (limits_of quotas.now) statics.now mode kind docs.now)
-        (HoldNothing K.written K.held K.faults K.may_want) via.now (K.held sink.old) w w' ack
-        result.outbound result.sent }
+        × WritesCall (sending (limits_of quotas.now) statics.now mode kind docs.now) via.now
+        (K.view sink.old) w w' ack result.outbound result.sent }
 
     // Which bytes were read, which of their events were reported, and which envelopes were put,
     // however that ends.
-    ensures called { Calls K.written K.held K.faults K.may_want O.written O.held O.faults O.may_want
-        (sending (limits_of quotas.now) statics.now mode kind docs.now) via.now
+    ensures called { Calls (sending (limits_of quotas.now) statics.now mode kind docs.now) via.now
         (input_at S.left S.taken S.faults S.empty_takes source.old)
-        (input_at S.left S.taken S.faults S.empty_takes source.new) sink.old sink.new output.old
-        output.new result }
+        (input_at S.left S.taken S.faults S.empty_takes source.new) (K.view sink.old)
+        (K.view sink.new) (O.view output.old) (O.view output.new) result }
+    ensures ended { (result.outbound ≡ ClientOut.Done → ⊥) → K.ended sink.new ≡ true }
 {
     let settings = CallSettings {
         statics,
@@ -207,6 +188,17 @@ pub fn call_one<S: Source, K: Sink, O: Sink>(
         mode,
         kind,
     };
-    let outgoing = outgoing_of(alloc, settings, docs);
-    call_prepared(alloc, source, sink, output, outgoing, via)
+    let opened = send_opening(alloc, mode, kind, via, sink);
+    let stage = stage_after(opened, sink);
+    let Ok(reader) = AnswerReader::new(alloc, settings, stage) else {
+        let handler = AnswerHandler::new(stage);
+        return close_call(handler, FollowEnding::Memory, 0, client_out(opened), output);
+    };
+    let (reader, first) = reader.read(source, output);
+    if let Some(ending) = first {
+        return close_call(reader.handler, ending, 0, client_out(opened), output);
+    }
+    let (sent, outbound) = send_list(alloc, settings, docs, sink);
+    let (reader, ending) = read_behind(reader, source, sink, output);
+    close_call(reader.handler, ending, sent, outbound, output)
 }

@@ -47,7 +47,7 @@ pub(crate) fn client_out(outbound: Outbound) -> ClientOut
     }
 }
 
-/// What became of a call.
+/// What became of a call over a connection: of each of its ends, and of the report.
 #[derive(Clone, Copy, Debug, PartialEq, Eq)]
 pub struct CallOutcome {
     /// How many envelopes were written, each whole. After a failed write first bytes of the next

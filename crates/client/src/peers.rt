@@ -1,143 +1,130 @@
 //! A call of a peer over a connection.
 
-ghost use Rattle.std.specs.Prelude.{◌≡◌, ◌≤◌, List, [], OnOk, length};
+ghost use Rattle.std.specs.Prelude.{◌≡◌, ◌≤◌, ◌++◌, List, [], OnOk, length};
 ghost use Rattle.io_edges.specs.Puts.{Puts};
-ghost use Rattle.nbfx_values.specs.declared.content.Item.{Item as Part};
-ghost use Rattle.stream_loop.specs.Edges.{input_at, output_at};
+ghost use Rattle.session_ends.specs.Sent.{MayBeSent};
+ghost use Rattle.stream_loop.specs.Edges.{input_at};
 ghost use Rattle.stream_loop.specs.Writing.{outbound_by};
-ghost use Rattle.client.specs.Peers.{CallsPeer, HoldNothing, line_after};
-ghost use Rattle.client.specs.Cuts.{sending_by};
-ghost use Rattle.client.specs.Outgoing.{Carries};
-ghost use Rattle.client.specs.Sending.{Finishes, line_of};
+ghost use Rattle.client.specs.Lanes.{CallsMerged};
+ghost use Rattle.client.specs.Peers.{CallsPeer, line_after};
+ghost use Rattle.client.specs.Sent.{sending_by};
+ghost use Rattle.client.specs.Sending.{Finishes};
 ghost use Rattle.client.specs.Tags.{sent_line};
 
-use crate::calling::call_prepared;
+use crate::lanes::{LanesOutcome, call_lanes};
 use crate::outcome::{CallOutcome, ClientIn};
-use crate::outgoing::Outgoing;
-use crate::tags::{Counts, put_sent};
+use crate::settings::CallSettings;
+use crate::tags::put_sent;
 use io_edges::{GatheringSink, Sink, SinkFault, Source};
+use nbfx_values::Docs;
 use std::alloc::Global;
+use std::sync::Wait;
+use std::thread::Threads;
 use stream_loop::Outbound as Reported;
+use two_lanes::Lane;
 
 /// What a peer is called with.
-#[derive(Drop)]
+#[derive(Clone, Copy)]
 pub struct Call<'c> {
     /// The Via of the session.
     pub via: &'c str,
-    /// What is sent after the opening.
-    pub outgoing: Outgoing<'c>,
-    /// How many documents each of two lists has, of which these are the envelopes.
-    pub counts: Counts,
+    /// How documents are sent, and how the peer's stream is read.
+    pub settings: CallSettings<'c>,
+    /// The documents of the first list.
+    pub a: &'c Docs,
+    /// The documents of the second list.
+    pub b: &'c Docs,
 }
 
 // Puts the line of what was sent, unless memory ran out.
-fn put_due<O: Sink>(
-    inbound: ClientIn,
-    counts: Counts,
-    sent: u64,
-    output: &mut O,
-) -> Result<(), SinkFault>
-    ensures { Puts O.written O.held O.faults O.may_want output.old output.new
-        (line_after inbound (sent_line counts.first counts.second sent)) result }
+fn put_due<O: Sink>(inbound: ClientIn, tags: &[Lane], output: &mut O) -> Result<(), SinkFault>
+    ensures { Puts (O.view output.old) (O.view output.new)
+        (line_after inbound (sent_line tags.now)) result }
 {
     match inbound {
         ClientIn::Memory => Ok(()),
         ClientIn::Ended | ClientIn::Offended(_) | ClientIn::PeerFault | ClientIn::ReadFault =>
-            put_sent(counts, sent, output),
+            put_sent(tags, output),
     }
 }
 
 // Puts that line after the report, and writes what the output holds.
-fn put_line<O: Sink>(
-    inbound: ClientIn,
-    counts: Counts,
-    sent: u64,
-    output: &mut O,
-) -> Result<(), SinkFault>
-    ensures puts { Puts O.written O.held O.faults O.may_want output.old output.new
-        (line_after inbound (sent_line counts.first counts.second sent)) result }
-    ensures emptied { OnOk result (O.held output.new ≡ []) }
+fn put_line<O: Sink>(inbound: ClientIn, tags: &[Lane], output: &mut O) -> Result<(), SinkFault>
+    ensures puts { Puts (O.view output.old) (O.view output.new)
+        (line_after inbound (sent_line tags.now)) result }
+    ensures emptied { OnOk result ((O.view output.new).held ≡ []) }
 {
-    put_due(inbound, counts, sent, output)?;
+    put_due(inbound, tags, output)?;
     output.flush()
 }
 
 // Ends the report of a call, unless its writing has ended.
-fn finish_report<O: Sink>(outcome: &CallOutcome, counts: Counts, output: &mut O) -> Reported
-    ensures { Finishes O.written O.held O.faults O.may_want
-        (line_after outcome.now.inbound (sent_line counts.first counts.second outcome.now.sent))
-        outcome.now.report result output.old output.new }
+fn finish_report<O: Sink>(outcome: &LanesOutcome, output: &mut O) -> Reported
+    ensures { Finishes
+        (line_after outcome.now.inbound (sent_line outcome.now.tags.items)) outcome.now.report result
+        (O.view output.old) (O.view output.new) }
 {
     if !outcome.report.is_going() {
         return outcome.report;
     }
-    match put_line(outcome.inbound, counts, outcome.sent, output) {
+    match put_line(outcome.inbound, &outcome.tags, output) {
         Ok(()) => Reported::Done,
         Err(SinkFault::Failed) => Reported::WriteFault,
         Err(SinkFault::Memory) => Reported::Memory,
     }
 }
 
-// Calls the peer whose bytes the source gives and the sink takes, and writes the report of that.
-fn call_peer<S: Source, K: Sink, O: Sink>(
-    alloc: Global,
-    call: Call<'_>,
-    source: &mut S,
-    sink: &mut K,
-    output: &mut O,
-) -> CallOutcome
-    requires via { length call.via.now ≤ 2048 }
-    requires carried { (documents : List (List Part)) × Carries documents call.outgoing }
-    ensures { (documents : List (List Part)) → Carries documents call.entry.outgoing
-        → CallsPeer (sending_by call.entry.outgoing.settings documents)
-        (HoldNothing (output_at K.written K.held K.faults)) call.entry.via.now
-        (line_of call.entry result.sent)
-        (input_at S.left S.taken S.faults S.empty_takes source.old)
-        (input_at S.left S.taken S.faults S.empty_takes source.new)
-        (output_at K.written K.held K.faults sink.old)
-        (output_at K.written K.held K.faults sink.new)
-        (output_at O.written O.held O.faults output.old)
-        (output_at O.written O.held O.faults output.new) result }
-{
-    let Call {
-        via,
-        outgoing,
-        counts,
-    } = call;
-    let outcome = call_prepared(alloc, source, sink, output, outgoing, via);
-    let report = finish_report(&outcome, counts, output);
-    CallOutcome {
-        sent: outcome.sent,
-        inbound: outcome.inbound,
-        outbound: outcome.outbound,
-        report,
-    }
-}
-
 /// Calls the peer whose bytes the source gives and the sink takes, and writes the report of what it
-/// sends, which is gathered in a buffer. Answers what became of it, with the output.
-pub fn call_gathered<S: Source, K: Sink, O: Sink>(
+/// sends, which is gathered in a buffer. Answers what became of it, and gives the source, the sink
+/// and the output back.
+pub fn call_gathered<
+    R: Threads + Wait + Sync,
+    S: Source + Drop,
+    K: Sink + Send + Drop,
+    O: Sink + Drop,
+>(
+    rt: &R,
     alloc: Global,
     call: Call<'_>,
     room: Vec<u8>,
-    source: &mut S,
-    sink: &mut K,
+    source: S,
+    sink: K,
     output: O,
-) -> (CallOutcome, O)
+) -> (CallOutcome, S, K, O)
     requires via { length call.via.now ≤ 2048 }
-    requires carried { (documents : List (List Part)) × Carries documents call.outgoing }
-    ensures { (documents : List (List Part)) → Carries documents call.entry.outgoing
-        → CallsPeer (sending_by call.entry.outgoing.settings documents)
-        (HoldNothing (output_at K.written K.held K.faults)) call.entry.via.now
-        (line_of call.entry result.0.sent)
-        (input_at S.left S.taken S.faults S.empty_takes source.old)
-        (input_at S.left S.taken S.faults S.empty_takes source.new)
-        (output_at K.written K.held K.faults sink.old)
-        (output_at K.written K.held K.faults sink.new)
-        (output_at O.written O.held O.faults output)
-        (output_at O.written O.held O.faults result.1) result.0 }
+    requires admitted { MayBeSent call.settings.mode (call.a.now ++ call.b.now) }
+    ensures { CallsMerged (λ documents line. CallsPeer (sending_by call.entry.settings documents)
+        call.entry.via.now (line result.0.sent)
+        (input_at S.left S.taken S.faults S.empty_takes source)
+        (input_at S.left S.taken S.faults S.empty_takes result.1)
+        (K.view sink)
+        (K.view result.2)
+        (O.view output)
+        (O.view result.3) result.0) call.entry.a.now
+        call.entry.b.now }
 {
-    let mut report = GatheringSink::new(room, output);
-    let outcome = call_peer(alloc, call, source, sink, &mut report);
-    (outcome, report.into_sink())
+    let Call {
+        via,
+        settings,
+        a,
+        b,
+    } = call;
+    let CallSettings {
+        statics,
+        quotas,
+        mode,
+        kind,
+    } = settings;
+    let report = GatheringSink::new(room, output);
+    let (outcome, source, sink, mut report) = call_lanes(
+        rt, alloc, source, sink, report, statics, &quotas, mode, kind, via, a, b,
+    );
+    let finished = finish_report(&outcome, &mut report);
+    let outcome = CallOutcome {
+        sent: outcome.sent,
+        inbound: outcome.inbound,
+        outbound: outcome.outbound,
+        report: finished,
+    };
+    (outcome, source, sink, report.into_sink())
 }

@@ -3,5 +3,5 @@ use Rattle.client.proofs.sending.send_opening.Goals as goal
 
 pub returns : goal.returns
 returns g c =
-    starved_out g.K.Sink.written g.K.Sink.held g.K.Sink.faults g.K.Sink.may_want c.starve.result _
-    c.args.sink.now c.starve.new.sink (c.starve.ensures.cut _)
+    starved_out c.run_out.result _
+    (g.K.Sink.view c.args.sink.now) (g.K.Sink.view c.run_out.new.sink) (c.run_out.ensures.cut _)

@@ -5,6 +5,7 @@ pub returns : goal.returns
 returns g c =
     let f = c.flush.ensures.flushed in
     let done = c.if-not-is_going.ensures.going refl in
-    rw f.2 (flushes_out g.K.Sink.written g.K.Sink.held g.K.Sink.faults g.K.Sink.may_want f.0
-    c.args.bytes.now c.args.sink.now c.put_bytes-put.new.sink c.flush.new.sink
+    rw f.2 (flushes_out f.0
+    c.args.bytes.now (g.K.Sink.view c.args.sink.now) (g.K.Sink.view c.put_bytes-put.new.sink)
+    (g.K.Sink.view c.flush.new.sink)
     (rw done at c.put_bytes-put.ensures.goes) f.1 c.flush.ensures.emptied)

@@ -1,7 +1,7 @@
-use Rattle.std.proofs.Common.{◌≡◌, ℕ, List, [], ◌∷◌, ◌++◌, codes, decimal, ap, ◌∙◌, append_assoc}
+use Rattle.std.proofs.Common.{◌≡◌, ℕ, List, [], ◌∷◌, ◌++◌, codes, decimal, length, ap, ◌∙◌, append_assoc}
 use Rattle.std.proofs.{Common.append-nil, lemmas.Result.err_from_is_err_and}
-use Rattle.io_edges.proofs.Putting.{PutsAll-cut, PutsAll-then}
-use Rattle.{session_report.specs.Report.line, client.specs.Tags.tags, client.specs.Tags.tags_word}
+use Rattle.io_edges.proofs.Putting.{Puts-cut, Puts-then}
+use Rattle.{session_report.specs.Report.line, client.specs.Tags.letters, client.specs.Tags.tags_word}
 use Rattle.client.proofs.tags.put_sent.Goals as goal
 
 -- the line, by what is put of it
@@ -13,31 +13,31 @@ parts number word =
 
 pub returns-in_err-put_labelled : goal.returns-in_err-put_labelled
 returns-in_err-put_labelled g c =
-    let n = c.args.counts in
+    let t = c.args.tags.now in
     let r = err_from_is_err_and c.from_residual.result c.from_residual.ensures.1 in
-    rw (r.1, r.2, parts (decimal c.args.sent) (tags_word (tags n.first n.second c.args.sent)))
-    (PutsAll-cut _ c.in_err-put_labelled.ensures)
+    rw (r.1, r.2, parts (decimal (length t)) (tags_word (letters t)))
+    (Puts-cut _ c.in_err-put_labelled.ensures)
 
 pub returns-in_err-put_plain : goal.returns-in_err-put_plain
 returns-in_err-put_plain g c =
-    let n = c.args.counts in
+    let t = c.args.tags.now in
     let r = err_from_is_err_and c.from_residual-in_err-put_plain.result
     c.from_residual-in_err-put_plain.ensures.1 in
-    rw (r.1, r.2, parts (decimal c.args.sent) (tags_word (tags n.first n.second c.args.sent)))
-    (PutsAll-then _ c.in_ok-put_labelled.ensures (PutsAll-cut _ c.in_err-put_plain.ensures))
+    rw (r.1, r.2, parts (decimal (length t)) (tags_word (letters t)))
+    (Puts-then _ c.in_ok-put_labelled.ensures (Puts-cut _ c.in_err-put_plain.ensures))
 
 pub returns-in_err-put_tags : goal.returns-in_err-put_tags
 returns-in_err-put_tags g c =
-    let n = c.args.counts in
+    let t = c.args.tags.now in
     let r = err_from_is_err_and c.from_residual-in_err-put_tags.result
     c.from_residual-in_err-put_tags.ensures.1 in
-    rw (r.1, r.2, parts (decimal c.args.sent) (tags_word (tags n.first n.second c.args.sent)))
-    (PutsAll-then _ c.in_ok-put_labelled.ensures (PutsAll-then _ c.in_ok-put_plain.ensures
-    (PutsAll-cut _ c.in_err-put_tags.ensures)))
+    rw (r.1, r.2, parts (decimal (length t)) (tags_word (letters t)))
+    (Puts-then _ c.in_ok-put_labelled.ensures (Puts-then _ c.in_ok-put_plain.ensures
+    (Puts-cut _ c.in_err-put_tags.ensures)))
 
 pub returns : goal.returns
 returns g c =
-    let n = c.args.counts in
-    rw (parts (decimal c.args.sent) (tags_word (tags n.first n.second c.args.sent)))
-    (PutsAll-then _ c.in_ok-put_labelled.ensures (PutsAll-then _ c.in_ok-put_plain.ensures
-    (PutsAll-then _ c.in_ok-put_tags.ensures c.put_plain-2.ensures)))
+    let t = c.args.tags.now in
+    rw (parts (decimal (length t)) (tags_word (letters t)))
+    (Puts-then _ c.in_ok-put_labelled.ensures (Puts-then _ c.in_ok-put_plain.ensures
+    (Puts-then _ c.in_ok-put_tags.ensures c.put_plain-2.ensures)))
