@@ -5,12 +5,13 @@ use Rattle.{string_tables.specs.StaticStrings.Entry, command_words.specs.Tasks.O
 use Rattle.multibyte_ints.specs.{Integer.shortest, Integer.shortest_within, Text.string_bytes_of}
 use Rattle.nbfx_values.specs.{Limits.IsGood, Limits.Limits, Session.kind_number}
 use Rattle.nmf_records.specs.declared.record_types.TheConstants.{KNOWN_ENCODING, PREAMBLE_END}
-use Rattle.stream_loop.specs.{Answers.EndsWithin, Edges.Input, Edges.Output}
+use Rattle.stream_loop.specs.{Answers.EndsWithin, Edges.Input}
 use Rattle.document_lines.proofs.Lines.{begins, bounded, closes}
 use Rattle.document_lines.specs.Input.{envelopes_and_end, lines_of_documents, Settings}
-use Rattle.dump_replay.specs.Building.{Builds, preamble_of, settings_for_building, with_preamble}
-use Rattle.dump_replay.proofs.Beginnings.{ends_so, not_begun}
-use Rattle.stream_loop.specs.declared.reporting.Ending.TheVariants as endings
+use Rattle.dump_replay.specs.Building.{Builds, preamble_of, settings_for_building}
+use Rattle.dump_replay.proofs.Beginnings.{not_begun}
+use Rattle.io_edges.specs.Views.{SinkView}
+use Rattle.stream_loop.specs.declared.reporting.ReportEnding.TheVariants as endings
 
 -- the loop may read lines of documents
 pub lines_end_within : (x : Settings) → IsGood x.limits
@@ -54,13 +55,12 @@ preamble_short opening short =
 -- ---- there was no memory to begin with
 
 module _ (statics : List Entry) (limits : Limits) (opening : Opening) (good : IsGood limits)
-    (i : Input) (o : Output)
+    (i : Input) (o : SinkView)
   where
     abbrev x : Settings
     x = settings_for_building opening statics limits
 
     pub unbegun : Builds opening statics limits i i o o endings.Memory
-    unbegun = ends_so (lines_of_documents x) envelopes_and_end i i o.written o.written o.faults
-        o.faults (o.held ++ preamble_of opening) (o.held ++ preamble_of opening) o.held tt
-        endings.Memory (not_begun (lines_of_documents x) envelopes_and_end i
-        (with_preamble opening o) (λ envelope. false) limits.session (lines_end_within x good) tt)
+    unbegun = not_begun (lines_of_documents x) envelopes_and_end i o
+        (o.held ++ preamble_of opening) (λ envelope. false) limits.session
+        (lines_end_within x good) tt

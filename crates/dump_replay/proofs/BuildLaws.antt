@@ -9,7 +9,7 @@ use Rattle.nbfx_values.specs.declared.session.Mode.TheVariants.{Duplex, Simplex,
 use Rattle.nbfx_values.specs.Limits.{IsGood, Limits}
 use Rattle.stream_reader.specs.Sessions.{Carried, conversation, IsPreamble, IsSession}
 use Rattle.stream_reader.specs.{Sessions.session_events, Stream.Settings}
-use Rattle.stream_loop.specs.{declared.reporting.Ending.Ending, Edges.Input, Edges.Output}
+use Rattle.stream_loop.specs.{declared.reporting.ReportEnding.ReportEnding, Edges.Input}
 use Rattle.initiator_machine.proofs.Openings.{openings_are_preambles}
 use Rattle.{session_report.proofs.Sessions.reports_sessions, command_words.specs.Tasks.Opening}
 use Rattle.session_report.specs.Report.{report, told_of}
@@ -25,7 +25,8 @@ use Rattle.dump_replay.specs.Building.{status_of_building}
 use Rattle.dump_replay.specs.Laws.{BuildsAreComplete, BuiltAreSessions, input_offence, IsBuiltOf}
 use Rattle.dump_replay.specs.Laws.{IsBuiltWell, IsSessionOf, ReadsAsMuch, session_of}
 use Rattle.dump_replay.specs.Laws.{status_of_input, UnfitHasACause}
-use Rattle.stream_loop.specs.declared.reporting.Ending.TheVariants as endings
+use Rattle.io_edges.specs.Views.{SinkView}
+use Rattle.stream_loop.specs.declared.reporting.ReportEnding.TheVariants as endings
 use Rattle.nbfx_encoder.specs.declared.faults.EncodeFault.TheVariants as encode
 
 -- ---- sessions
@@ -126,7 +127,7 @@ built_are_sessions opening statics limits x bytes good static_map utf8 reads non
 -- ---- completeness
 
 module _ (opening : Opening) (statics : List Entry) (limits : Limits) (i i' : Input)
-    (o o' : Output) (bytes : List ℕ) (left : i.left ≡ Some bytes)
+    (o o' : SinkView) (bytes : List ℕ) (left : i.left ≡ Some bytes)
     (read_well : Rose i.faults i'.faults → ⊥) (written_well : Rose o.faults o'.faults → ⊥)
   where
     abbrev Well : ℕ → Type 0
@@ -158,7 +159,7 @@ module _ (opening : Opening) (statics : List Entry) (limits : Limits) (i i' : In
           r.1 ∙ ap Some (r.2 ∙ rejoined w);
     }
 
-    ends_well : (e : Ending InputFault) → Builds opening statics limits i i' o o' e
+    ends_well : (e : ReportEnding InputFault) → Builds opening statics limits i i' o o' e
         → Well (status_of_building e)
     ends_well (endings.Judged judged) b = inl (judged_well judged b)
     ends_well endings.ReadFault b = absurd (read_well (b.reads_counted.rose refl))

@@ -3,8 +3,9 @@ use Rattle.std.proofs.Common.{◌≡◌, ℕ, ◌≤◌, Bool, true, false, ◌|
 use Rattle.std.proofs.Common.{refl, ap, subst, inl, inr, arith}
 use Rattle.io_edges.specs.{Faults.Rose, Wires.Network}
 use Rattle.nbfx_values.specs.declared.refusals.Reason.{Reason, TheVariants.SessionTooLong}
-use Rattle.stream_loop.specs.{declared.outbound.Outbound.Outbound, Edges.Input, Edges.Output}
-use Rattle.document_lines.specs.declared.{fetching.FileFault.FileFault, reading.ListFault.ListFault}
+use Rattle.stream_loop.specs.{declared.outbound.Outbound.Outbound, Edges.Input}
+use Rattle.document_lines.specs.declared.{fetching.DocumentsFault.DocumentsFault}
+use Rattle.document_lines.specs.declared.{reading.ListFault.ListFault}
 use Rattle.duplex_server.proofs.Meeting.{rose_by_reads, rose_by_writes}
 use Rattle.client.specs.declared.called.Called.{Called, TheVariants.WrongCount}
 use Rattle.client.specs.declared.called.Called.TheVariants.{Closed, Starved, Unconnected}
@@ -17,9 +18,10 @@ use Rattle.dump_replay.specs.{Building.status_of_building, Running.CountsWire, R
 use Rattle.dump_replay.specs.Calling.{ending_of_list, status_of_documents}
 use Rattle.dump_replay.proofs.Causes.{Cause, judged, refused, starved, unfit, unread, unwired}
 use Rattle.dump_replay.proofs.Causes.{unwritten, wires_by}
+use Rattle.io_edges.specs.Views.{SinkView}
 use Rattle.stream_loop.specs.declared.outbound.Outbound.TheVariants as outbounds
 use Rattle.document_lines.specs.declared.InputFault.TheVariants as faults
-use Rattle.document_lines.specs.declared.fetching.FileFault.TheVariants as files
+use Rattle.document_lines.specs.declared.fetching.DocumentsFault.TheVariants as files
 use Rattle.document_lines.specs.declared.reading.ListFault.TheVariants as lists
 use Rattle.client.specs.declared.outcome.ClientIn.TheVariants as heard
 use Rattle.client.specs.declared.outcome.ClientOut.TheVariants as out
@@ -92,8 +94,8 @@ either : (a b : Bool) → (a || b) ≡ true → (a ≡ true) ⊎ (b ≡ true)
 either true b e = inl refl
 either false b e = inr e
 
-module _ {R K : Type 0} (input_of : R → Input) (output_of : K → Output) (x : Sending)
-    (via : List ℕ) (line : ℕ → List ℕ) (n n' : Network R K) (o o' : Output) where
+module _ {R K : Type 0} (input_of : R → Input) (output_of : K → SinkView) (x : Sending)
+    (via : List ℕ) (line : ℕ → List ℕ) (n n' : Network R K) (o o' : SinkView) where
   -- an end of the connection failed, which its ended ends count
   pub one_rose : (outcome : CallOutcome)
       → CallsOne input_of output_of x via line n n' o o' outcome → fails outcome ≡ true
@@ -126,10 +128,10 @@ module _ {R K : Type 0} (input_of : R → Input) (output_of : K → Output) (x :
 
   pub called_writes : (called : Called) → Left called → o.faults ≤ o'.faults
   called_writes WrongCount h =
-      let e = ap (λ (v : Output). v.faults) h.2 in omega (arith, e)
-  called_writes Starved h = let e = ap (λ (v : Output). v.faults) h.1 in omega (arith, e)
+      let e = ap (λ (v : SinkView). v.faults) h.2 in omega (arith, e)
+  called_writes Starved h = let e = ap (λ (v : SinkView). v.faults) h.1 in omega (arith, e)
   called_writes Unconnected h =
-      let e = ap (λ (v : Output). v.faults) h.unwritten in omega (arith, e)
+      let e = ap (λ (v : SinkView). v.faults) h.unwritten in omega (arith, e)
   called_writes (Closed outcome) h = h.calls.reports_counted.grows
 
   wire_rose : (called : Called) → Left called → FailsWire called
@@ -178,7 +180,7 @@ list_cause (lists.Refused faults.TooLong) = judged (inr (inr (inr refl)))
 list_cause lists.ReadFault = unread refl refl
 list_cause lists.Memory = starved refl
 
-pub second_cause : (fault : FileFault)
+pub second_cause : (fault : DocumentsFault)
     → Cause (fault ≡ files.Failed) ⊥ ⊥ (status_of_documents fault)
 second_cause files.Missing = refused refl
 second_cause (files.Refused v) = refused refl

@@ -84,7 +84,7 @@ pub leaves_by : {R K : Type 0} (old new : Outside R K) {reads writes wires : Typ
 leaves_by old new n cause rose_in rose_out once reads writes = record {
   is_status = status_by n cause;
   not_two = never_two n cause;
-  asked_once = once;
+  one_empty_take = once;
   read_fault = λ three. rose_in (reads_by n cause three);
   write_fault = λ four. rose_out (writes_by n cause four);
   reads = reads;

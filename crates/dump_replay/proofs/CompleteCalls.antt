@@ -6,18 +6,18 @@ use Rattle.io_edges.specs.{Faults.Rose, Flow.Told, Wires.Fresh, Wires.Network}
 use Rattle.nbfx_values.specs.declared.{content.Item.Item, session.Mode.Mode}
 use Rattle.nbfx_values.specs.declared.refusals.Reason.{Reason, TheVariants.SessionTooLong}
 use Rattle.nbfx_values.specs.declared.session.Mode.TheVariants.{Duplex, Simplex, Singleton}
-use Rattle.stream_loop.specs.{declared.outbound.Outbound.Outbound, Edges.Input, Edges.Output}
+use Rattle.stream_loop.specs.{declared.outbound.Outbound.Outbound, Edges.Input}
 use Rattle.session_report.specs.{declared.reporter.Outcome.Outcome, Report.outcome}
 use Rattle.session_report.specs.declared.reporter.Outcome.TheVariants.{Ended, Faulted, Open}
 use Rattle.command_words.specs.declared.task.Detail.TheVariants.{Whole}
 use Rattle.session_ends.specs.Sent.{MayBeSent}
 use Rattle.client.specs.declared.called.Called.{Called, TheVariants.WrongCount}
 use Rattle.client.specs.declared.called.Called.TheVariants.{Closed, Starved, Unconnected}
-use Rattle.client.specs.declared.caller.Ack.{Ack, TheVariants.Awaited, TheVariants.Read}
+use Rattle.client.specs.Called.{Ack, Awaited, Read}
 use Rattle.client.specs.declared.outcome.{CallOutcome.CallOutcome, ClientIn.ClientIn}
 use Rattle.client.specs.{declared.outcome.ClientOut.ClientOut, Called.WritesCall}
-use Rattle.client.specs.Called.{ack_along, answers_to, heard_of, IsAckOf, Judges as JudgesPeer}
-use Rattle.client.specs.{Peers.HoldNothing, Sent.envelopes, Sent.Sending, Statuses.wants_memory}
+use Rattle.client.specs.Called.{ack_along, answers_to, handled_of, IsAckOf, Judges as JudgesPeer}
+use Rattle.client.specs.{Sent.envelopes, Sent.Sending, Statuses.wants_memory}
 use Rattle.client.specs.Places.{CallsOne, CallsPlace}
 use Rattle.client.specs.Statuses.{fails, fails_in, fails_out, fails_report, inbound_status}
 use Rattle.client.specs.Statuses.{is_starved_in, is_starved_out, is_starved_report, is_unfit}
@@ -25,6 +25,7 @@ use Rattle.client.specs.Statuses.{outcome_status, reason_status, status_of as st
 use Rattle.dump_replay.specs.Complete.{AnswersCall, status_of_call, status_of_report, unless_unfit}
 use Rattle.dump_replay.specs.{Complete.with_count, Running.is_session_too_long, Running.status_of}
 use Rattle.dump_replay.proofs.{CallEnds.one_rose, CompleteFiles.as_other, CompleteFiles.IsOr}
+use Rattle.io_edges.specs.Views.{SinkView}
 use Rattle.stream_loop.specs.declared.outbound.Outbound.TheVariants as outbounds
 use Rattle.client.specs.declared.outcome.ClientIn.TheVariants as heard
 use Rattle.client.specs.declared.outcome.ClientOut.TheVariants as out
@@ -99,7 +100,7 @@ module _ (x : Sending) (peer : List ℕ) where
   heard_status heard.Memory fed well judges = cc
 
   heard_ack : (v : ClientIn) → is_starved_in v ≡ false → (v ≡ heard.ReadFault → ⊥)
-      → (ack : Ack) → IsAckOf x peer v ack → ack ≡ ack_along Awaited (heard_of x peer)
+      → (ack : Ack) → IsAckOf x peer v ack → ack ≡ ack_along Awaited (handled_of x peer)
   heard_ack heard.Ended fed well ack is = is
   heard_ack (heard.Offended o) fed well ack is = is
   heard_ack heard.PeerFault fed well ack is = is
@@ -108,42 +109,42 @@ module _ (x : Sending) (peer : List ℕ) where
 
   -- by what is sent
   sent_status : (ack : Ack) (v : ClientOut) → is_starved_out v ≡ false → (v ≡ out.WriteFault → ⊥)
-      → (plain : Type 0) (via held w w' : List ℕ) (sent : ℕ)
-      → WritesCall x plain via held w w' ack v sent → (n : ℕ)
+      → (via : List ℕ) (first : SinkView) (w w' : List ℕ) (sent : ℕ)
+      → WritesCall x via first w w' ack v sent → (n : ℕ)
       → (if is_unfit v then 7 else n) ≡ unless_unfit ack (envelopes x x.documents) n
-  sent_status Awaited out.Done fed well plain via held w w' sent writes n = refl
-  sent_status Awaited (out.Unfit number fault) fed well plain via held w w' sent writes n =
+  sent_status Awaited out.Done fed well via first w w' sent writes n = refl
+  sent_status Awaited (out.Unfit number fault) fed well via first w w' sent writes n =
       absurd writes
-  sent_status Awaited out.WriteFault fed well plain via held w w' sent writes n =
+  sent_status Awaited out.WriteFault fed well via first w w' sent writes n =
       absurd (well refl)
-  sent_status Awaited out.Memory fed well plain via held w w' sent writes n = cc
-  sent_status Read out.Done fed well plain via held w w' sent writes n =
+  sent_status Awaited out.Memory fed well via first w w' sent writes n = cc
+  sent_status Read out.Done fed well via first w w' sent writes n =
       sym (ap (λ v. unless_unfit Read v n) writes.1.1)
-  sent_status Read (out.Unfit number fault) fed well plain via held w w' sent writes n =
+  sent_status Read (out.Unfit number fault) fed well via first w w' sent writes n =
       sym (ap (λ v. unless_unfit Read v n) writes.1.1)
-  sent_status Read out.WriteFault fed well plain via held w w' sent writes n = absurd (well refl)
-  sent_status Read out.Memory fed well plain via held w w' sent writes n = cc
+  sent_status Read out.WriteFault fed well via first w w' sent writes n = absurd (well refl)
+  sent_status Read out.Memory fed well via first w w' sent writes n = cc
 
   called_status : (o : CallOutcome) → (o.inbound ≡ heard.ReadFault → ⊥)
       → (o.outbound ≡ out.WriteFault → ⊥) → (o.report ≡ outbounds.WriteFault → ⊥)
       → JudgesPeer x peer o.inbound → (ack : Ack) → IsAckOf x peer o.inbound ack
-      → (plain : Type 0) (via held w w' : List ℕ)
-      → WritesCall x plain via held w w' ack o.outbound o.sent
-      → IsOr (unless_unfit (ack_along Awaited (heard_of x peer)) (envelopes x x.documents)
+      → (via : List ℕ) (first : SinkView) (w w' : List ℕ)
+      → WritesCall x via first w w' ack o.outbound o.sent
+      → IsOr (unless_unfit (ack_along Awaited (handled_of x peer)) (envelopes x x.documents)
       (status_of_report Whole (answers_to x) peer)) (outcome_status o)
-  called_status o read written reported judges ack is plain via held w w' writes =
+  called_status o read written reported judges ack is via first w w' writes =
       elim (first_status (wants_memory o) (fails o) (is_unfit o.outbound) (fails_report o.report)
       (inbound_status o.inbound)
       (neither (fails_in o.inbound) (fails_out o.outbound) (in_well o.inbound read)
       (out_well o.outbound written)) (report_well o.report reported)) [
-        | inl first ↦
+        | inl status ↦
             let both = both_false (is_starved_in o.inbound || is_starved_out o.outbound)
-            (is_starved_report o.report) first.0 in
+            (is_starved_report o.report) status.0 in
             let fed = both_false (is_starved_in o.inbound) (is_starved_out o.outbound) both.0 in
-            inl (first.1
+            inl (status.1
             ∙ ap (λ (n : ℕ). if is_unfit o.outbound then 7 else n)
             (heard_status o.inbound fed.0 read judges)
-            ∙ sent_status ack o.outbound fed.1 written plain via held w w' o.sent writes
+            ∙ sent_status ack o.outbound fed.1 written via first w w' o.sent writes
             (status_of_report Whole (answers_to x) peer)
             ∙ ap (λ (a : Ack). unless_unfit a (envelopes x x.documents)
             (status_of_report Whole (answers_to x) peer))
@@ -182,8 +183,8 @@ written_told : (closed : Option (List (List ℕ × List ℕ))) (told : List (Lis
 written_told None told written is fresh = cc
 written_told (Some l) told written is fresh = fresh
 
-module _ {R K : Type 0} (reader : R → Input) (to : K → Output) (x : Sending)
-    (via : List ℕ) (line : ℕ → List ℕ) (n n' : Network R K) (o o' : Output) (peer : List ℕ)
+module _ {R K : Type 0} (reader : R → Input) (to : K → SinkView) (x : Sending)
+    (via : List ℕ) (line : ℕ → List ℕ) (n n' : Network R K) (o o' : SinkView) (peer : List ℕ)
     (written : Rose o.faults o'.faults → ⊥) (connected : Rose n.faults n'.faults → ⊥)
     (well : AnswersCall reader n n' peer) where
   -- no end of the connection failed
@@ -208,7 +209,7 @@ module _ {R K : Type 0} (reader : R → Input) (to : K → Output) (x : Sending)
       (λ fault. ends_well outcome h (ap (λ v. fails_in outcome.inbound || fails_out v) fault
       ∙ or_true (fails_in outcome.inbound)))
       (λ fault. written (h.calls.reports_counted.rose fault))
-      (h.calls.judged peer left) s.2 s.3 (HoldNothing to) via (to h.ends.1).held [] s.0 s.4)
+      (h.calls.judged peer left) s.2 s.3 via (to h.ends.1) [] s.0 s.4)
 
   pub call_placed : (called : Called) → CallsPlace reader to x via line n n' o o' called
       → IsOr (status_of_call x peer) (status_of_called called)

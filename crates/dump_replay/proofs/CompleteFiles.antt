@@ -6,7 +6,7 @@ use Rattle.io_edges.specs.{declared.fault.FileFault.FileFault, Faults.Rose, Stor
 use Rattle.io_edges.specs.Files.{file_in, Reading, Tells, whole}
 use Rattle.nbfx_values.specs.declared.content.Item.{Item}
 use Rattle.document_lines.specs.declared.{InputFault.InputFault, reading.ListFault.ListFault}
-use Rattle.document_lines.specs.declared.fetching.FileFault.{FileFault as DocumentsFault}
+use Rattle.document_lines.specs.declared.fetching.DocumentsFault.{DocumentsFault}
 use Rattle.document_lines.specs.{Files.Answers, Taking.Says}
 use Rattle.duplex_server.specs.declared.responding.Responder.{Responder}
 use Rattle.duplex_server.specs.declared.responding.Responder.TheVariants.{Echo, Texts}
@@ -17,7 +17,7 @@ use Rattle.dump_replay.specs.Calling.{ending_of_list, IsSecond, status_of_docume
 use Rattle.dump_replay.specs.Complete.{with_actions, with_documents, with_file, with_lines}
 use Rattle.dump_replay.specs.{Complete.with_second, Running.status_of_file}
 use Rattle.io_edges.specs.declared.fault.FileFault.TheVariants as faults
-use Rattle.document_lines.specs.declared.fetching.FileFault.TheVariants as lists
+use Rattle.document_lines.specs.declared.fetching.DocumentsFault.TheVariants as lists
 use Rattle.document_lines.specs.declared.reading.ListFault.TheVariants as reads
 
 -- a status is this one, or 5

@@ -20,5 +20,8 @@ pub mod Seen
 -- the status where nothing of the outside fails (specs/Complete, Order)
 pub mod CompleteFiles
 pub mod CompleteCalls
+pub mod Orders
+pub mod Rehearsals
+pub mod Played
 pub mod Complete
 pub mod Order

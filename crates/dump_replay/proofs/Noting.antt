@@ -1,89 +1,78 @@
 -- What a put of a note leaves.
-use Rattle.std.proofs.Common.{◌≡◌, ℕ, Bool, true, false, ◌⊎◌, List, [], ◌∷◌, ◌++◌, OnOk, OnErr}
-use Rattle.std.proofs.Common.{Some, None, Ok, Err, codes, Option, Result, IsErrOf, sym, refl, ap}
+use Rattle.std.proofs.Common.{◌≡◌, ℕ, false, ◌⊎◌, List, [], ◌∷◌, ◌++◌}
+use Rattle.std.proofs.Common.{Some, None, Ok, Err, codes, Option, Result, sym, refl, ap}
 use Rattle.std.proofs.Common.{◌∙◌, inl, inr, append_assoc, append-nil, arith}
 use Rattle.{std.specs.Prelude.⊤, nbfx_values.specs.declared.refusals.Offence.Offence}
 use Rattle.io_edges.specs.declared.{SinkFault.SinkFault, fault.FileFault.FileFault}
-use Rattle.io_edges.specs.{Faults.CountsFaults, Faults.Rose, Puts.PutsAll}
-use Rattle.io_edges.specs.Flow.{GrowsByPrefix, Passes, Told}
-use Rattle.stream_loop.proofs.Writing.{after_flush, put_either, told_as}
+use Rattle.io_edges.specs.{Faults.Rose, Puts.Puts, Views.SinkView}
+use Rattle.io_edges.specs.Flow.{GrowsByPrefix, Told}
+use Rattle.stream_loop.proofs.{Grown.all_written, Writing.after_flush, Writing.known_told}
+use Rattle.stream_loop.proofs.Writing.{put_either, told_as}
 use Rattle.session_report.specs.Report.{offence_line}
-use Rattle.document_lines.specs.declared.fetching.FileFault.{FileFault as DocumentsFault}
-use Rattle.dump_replay.specs.{Calling.note_of_documents, Noting.NotesText, Running.note_of_file}
+use Rattle.document_lines.specs.declared.fetching.DocumentsFault.{DocumentsFault}
+use Rattle.dump_replay.specs.{Calling.note_of_documents, Noting.Notes, Running.note_of_file}
 use Rattle.io_edges.specs.declared.SinkFault.TheVariants as faults
 use Rattle.io_edges.specs.declared.fault.FileFault.TheVariants as files
 use Rattle.nbfx_encoder.specs.declared.faults.EncodeFault.TheVariants as unfit
 use Rattle.document_lines.specs.declared.InputFault.TheVariants as inputs
-use Rattle.document_lines.specs.declared.fetching.FileFault.TheVariants as lists
+use Rattle.document_lines.specs.declared.fetching.DocumentsFault.TheVariants as lists
 
 -- a put that failed
-pub note_cut : {text : List ℕ} (fault : SinkFault) {w w' : Option (List ℕ)} {h h' : List ℕ}
-    {f f' : ℕ} {m m' : Bool} → PutsAll text (Err fault) w w' h h' f f' m m'
-    → NotesText text w w' h f f' m
-note_cut {text = text} fault {w = w} {w' = w'} {h = h} {f = f} {f' = f'} {m = m} p = record {
+pub note_cut : {text : List ℕ} (fault : SinkFault) {k k' : SinkView} → Puts k k' text (Err fault)
+    → Notes k k' text
+note_cut {text = text} fault {k = k} {k' = k'} p = record {
   grows = p.refused;
   whole = λ sure well. absurd (never fault refl sure well);
   faults = p.counted.grows;
 }
   where
-    never : (v : SinkFault) → fault ≡ v → m ≡ false → (Rose f f' → ⊥) → ⊥
+    never : (v : SinkFault) → fault ≡ v → k.may_run_out ≡ false → (Rose k.faults k'.faults → ⊥) → ⊥
     never faults.Failed is sure well = well (p.counted.rose (ap Err is))
-    never faults.Memory is sure well = let wants = p.wanted (ap Err is) in cc
+    never faults.Memory is sure well = let may = p.memory (ap Err is) in cc
 
-module _ (h text : List ℕ) where
+module _ (text : List ℕ) (k k' : SinkView) where
   -- the text was written behind what was held
   abbrev IsWhole : List ℕ → List ℕ → Type 0
-  IsWhole w w' = w' ≡ w ++ h ++ text
+  IsWhole w w' = w' ≡ w ++ k.held ++ text
 
-  -- all of it is written
-  note_whole : (w w' : Option (List ℕ)) (h' : List ℕ)
-      → Told w w' (λ w w'. Passes w w' h h' text) → h' ≡ [] → Told w w' IsWhole
-  note_whole w w' h' told none =
-      told_as (λ l l'. Passes l l' h h' text) IsWhole w w' told (λ l l' p.
-      let put : p.put ≡ h ++ text = sym (append-nil p.put) ∙ ap (λ k. p.put ++ k) (sym none)
-      ∙ sym p.split in
-      p.grown ∙ ap (λ k. l ++ k) put ∙ sym (append_assoc l h text))
+  as_whole : Told k.written k'.written IsWhole
+      → Told k.written k'.written (λ w w'. (w' ≡ w ++ k.held ++ text) ⊎ (text ≡ []))
+  as_whole whole = told_as IsWhole (λ l l'. (l' ≡ l ++ k.held ++ text) ⊎ (text ≡ [])) k.written
+      k'.written whole (λ l l' e. inl e)
 
-  as_whole : (w w' : Option (List ℕ)) → Told w w' IsWhole
-      → Told w w' (λ w w'. (w' ≡ w ++ h ++ text) ⊎ (text ≡ []))
-  as_whole w w' whole =
-      told_as IsWhole (λ l l'. (l' ≡ l ++ h ++ text) ⊎ (text ≡ [])) w w' whole
-      (λ l l' e. inl e)
-
-  as_one : (w w' : Option (List ℕ)) → Told w w' IsWhole → Told w w' (λ w w'. w' ≡ w ++ (h ++ text))
-  as_one w w' whole =
-      told_as IsWhole (λ l l'. l' ≡ l ++ (h ++ text)) w w' whole
-      (λ l l' e. e ∙ append_assoc l h text)
+  as_one : Told k.written k'.written IsWhole
+      → Told k.written k'.written (λ w w'. w' ≡ w ++ (k.held ++ text))
+  as_one whole = told_as IsWhole (λ l l'. l' ≡ l ++ (k.held ++ text)) k.written k'.written whole
+      (λ l l' e. e ∙ append_assoc l k.held text)
 
 -- a put, and a flush behind it
-pub note_put : {text : List ℕ} (r : Result ⊤ SinkFault) {w w1 w2 : Option (List ℕ)}
-    {h h1 h2 : List ℕ} {f f1 f2 : ℕ} {m m1 m2 : Bool}
-    → PutsAll text (Ok tt) w w1 h h1 f f1 m m1
-    → OnOk r (Told w1 w2 (λ w w'. w' ≡ w ++ h1))
-    → OnErr r (Told w1 w2 (λ w w'. GrowsByPrefix w w' h1)) → h2 ≡ []
-    → CountsFaults f1 f2 (IsErrOf r faults.Failed) → (IsErrOf r faults.Memory → m1 ≡ true)
-    → m2 ≡ m1 → NotesText text w w2 h f f2 m
-note_put {text = text} (Ok u) {w = w} {w1 = w1} {w2 = w2} {h = h} {h1 = h1} {h2 = h2} p written
-    refused emptied counted wanted settled =
-    let all = after_flush (Ok u) p written refused emptied counted wanted settled in
-    let whole = note_whole h text w w2 h2 all.written emptied in
+pub note_put : {text : List ℕ} (r : Result ⊤ SinkFault) {k k1 k2 : SinkView}
+    → Puts k k1 text (Ok tt) → Puts k1 k2 [] r → k2.held ≡ [] → Notes k k2 text
+note_put {text = text} (Ok u) {k = k} {k2 = k2} p flushed emptied =
+    let all = after_flush (Ok u) p flushed in
+    let whole = known_told (IsWhole text k k2) k.written k2.written
+    (all_written k k2 text all emptied) in
     record {
-      grows = put_either (Ok u) w w2 (h ++ text) (as_one h text w w2 whole) tt;
-      whole = λ sure well. as_whole h text w w2 whole;
+      grows = put_either (Ok u) k.written k2.written (k.held ++ text) (as_one text k k2 whole) tt;
+      whole = λ sure well. as_whole text k k2 whole;
       faults = all.counted.grows;
     }
-note_put (Err fault) p written refused emptied counted wanted settled =
-    note_cut fault (after_flush (Err fault) p written refused emptied counted wanted settled)
+note_put (Err fault) p flushed emptied = note_cut fault (after_flush (Err fault) p flushed)
 
 -- no note
-pub note_none : (w : Option (List ℕ)) (h : List ℕ) (f : ℕ) (m : Bool) → NotesText [] w w h f f m
-note_none w h f m = record { grows = nothing w; whole = λ sure well. none w; faults = omega arith }
+pub note_none : (k : SinkView) → Notes k k []
+note_none k = record {
+  grows = nothing k.written;
+  whole = λ sure well. none k.written;
+  faults = omega arith;
+}
   where
-    nothing : (w : Option (List ℕ)) → Told w w (λ w w'. GrowsByPrefix w w' (h ++ []))
+    nothing : (w : Option (List ℕ)) → Told w w (λ w w'. GrowsByPrefix w w' (k.held ++ []))
     nothing None = tt
     nothing (Some l) = record { kept = 0; grown = sym (append-nil l) }
 
-    none : (w : Option (List ℕ)) → Told w w (λ w w'. (w' ≡ w ++ h ++ []) ⊎ (◌≡◌ {A = List ℕ} [] []))
+    none : (w : Option (List ℕ))
+        → Told w w (λ w w'. (w' ≡ w ++ k.held ++ []) ⊎ (◌≡◌ {A = List ℕ} [] []))
     none None = tt
     none (Some l) = inr refl
 

@@ -32,11 +32,12 @@ use Rattle.command_words.specs.Tasks.{build, call, generate, Opening, replay, re
 use Rattle.session_generator.specs.{Documents.documents, Generated.session_of}
 use Rattle.session_generator.specs.Summary.{IsWithinQuota}
 use Rattle.duplex_server.specs.Responding.{reading_actions}
-use Rattle.client.specs.declared.caller.Ack.{Ack, TheVariants.Awaited, TheVariants.Read}
-use Rattle.client.specs.Called.{ack_after, ack_along, answers_to, heard_of}
+use Rattle.two_lanes.specs.declared.jobs.Lane.{Lane}
+use Rattle.client.specs.Called.{Ack, Awaited, Read}
+use Rattle.client.specs.Called.{ack_after, ack_along, answers_to, handled_of}
 use Rattle.client.specs.Sent.{envelopes, Sending}
 use Rattle.dump_replay.specs.{Building.settings_for_building, Calling.IsSecond, Running.status_of}
-use Rattle.dump_replay.specs.Complete.{sending_with, settings_to_answer, status_of_call}
+use Rattle.dump_replay.specs.Complete.{in_order, sending_with, settings_to_answer, status_of_call}
 use Rattle.dump_replay.specs.Complete.{status_of_made, status_of_report, status_of_stream}
 use Rattle.dump_replay.specs.Complete.{status_of_task, unless_unfit, with_actions, with_count}
 use Rattle.dump_replay.specs.Complete.{with_documents, with_file, with_lines, with_second}
@@ -237,11 +238,11 @@ module _ (x : Sending) (good : IsGood x.limits) (peer : List ℕ) where
   abbrev g : Settings
   g = answers_to x
 
-  ended_is_heard : IsEnded g peer → ack_along Awaited (heard_of x peer) ≡ Read
+  ended_is_heard : IsEnded g peer → ack_along Awaited (handled_of x peer) ≡ Read
   unfolding events
   ended_is_heard h =
       let c = h.0 in
-      ap (λ (all : List ℕ). ack_along Awaited (heard_of x all)) c.joined
+      ap (λ (all : List ℕ). ack_along Awaited (handled_of x all)) c.joined
       ∙ ap (λ (v : History StreamEvent Offence). ack_along Awaited (map event_for v.events))
       (sessions_are_told g good c.parts c.session c.rest c.is_session c.may_follow)
       ∙ begins_by_ack g x.mode x.kind c.parts c.session c.is_session.0 h.1
@@ -249,7 +250,7 @@ module _ (x : Sending) (good : IsGood x.limits) (peer : List ℕ) where
   abbrev judged : ℕ
   judged = status_of_report Whole g peer
 
-  zero_sent : (ack : Ack) → ack_along Awaited (heard_of x peer) ≡ ack
+  zero_sent : (ack : Ack) → ack_along Awaited (handled_of x peer) ≡ ack
       → (sent : Result (Placed (List ℕ)) UnfitAt) → unless_unfit ack sent judged ≡ 0
       → ((all : Placed (List ℕ)) × (sent ≡ Ok all)) × IsEnded g peer
   zero_sent Awaited ack_is sent is =
@@ -278,11 +279,11 @@ count_zero Duplex sent next may is = is
 count_zero Simplex sent next may is = is
 count_zero Singleton sent next may is = ap (λ (n : ℕ). if n == 1 then next else 6) may ∙ is
 
-module _ (store : Store) (input peer : List ℕ) (statics : List Entry) (limits : Limits)
+module _ (store : Store) (input peer : List ℕ) (order : List Lane) (statics : List Entry) (limits : Limits)
     (good : IsGood limits) where
   module _ (opening : Opening) (named : Option (List ℕ)) where
     abbrev sends : (first second : List (List Item)) → Sending
-    sends first second = sending_with opening statics limits first second
+    sends first second = sending_with opening statics limits first second order
 
     abbrev after : (second first : List (List Item)) → ℕ
     after second first = status_of_call (sends first second) peer
@@ -291,14 +292,14 @@ module _ (store : Store) (input peer : List ℕ) (statics : List Entry) (limits 
     lines second = with_lines (documents_within limits.session input) (after second)
 
     zero_call : with_second store named lines ≡ 0
-        → IsCallInOrder store input peer opening named statics limits
+        → IsCallInOrder store input peer order opening named statics limits
     zero_call is =
         let two = zero_second lines store named is in
         let one = zero_lines (after two.0) (documents_within limits.session input) two.2 in
         let x = sends one.0 two.0 in
-        let count = zero_count opening.mode (one.0 ++ two.0) _ one.2 in
-        let fits = zero_sent x good peer (ack_along Awaited (heard_of x peer)) refl
-        (envelopes x (one.0 ++ two.0)) count.1 in record {
+        let count = zero_count opening.mode (in_order one.0 two.0 order) _ one.2 in
+        let fits = zero_sent x good peer (ack_along Awaited (handled_of x peer)) refl
+        (envelopes x (in_order one.0 two.0 order)) count.1 in record {
           first = one.0;
           second = two.0;
           first_is = one.1;
@@ -309,19 +310,19 @@ module _ (store : Store) (input peer : List ℕ) (statics : List Entry) (limits 
           ended = fits.1;
         }
 
-    call_zero : IsCallInOrder store input peer opening named statics limits
+    call_zero : IsCallInOrder store input peer order opening named statics limits
         → with_second store named lines ≡ 0
     call_zero h =
         let x = sends h.first h.second in
         second_zero lines store named h.second h.second_is
         (ap (λ read. with_lines read (after h.second)) h.first_is
-        ∙ count_zero opening.mode (h.first ++ h.second) _ h.admitted
-        (sent_zero x good peer (ack_along Awaited (heard_of x peer))
-        (envelopes x (h.first ++ h.second)) h.sent h.all_fit
+        ∙ count_zero opening.mode (in_order h.first h.second order) _ h.admitted
+        (sent_zero x good peer (ack_along Awaited (handled_of x peer))
+        (envelopes x (in_order h.first h.second order)) h.sent h.all_fit
         (report_zero Whole (answers_to x) good peer h.ended)))
 
-  zero_task : (task : Task) → status_of_task store input peer task statics limits ≡ 0
-      → IsTaskInOrder store input peer task statics limits
+  zero_task : (task : Task) → status_of_task store input peer order task statics limits ≡ 0
+      → IsTaskInOrder store input peer order task statics limits
   zero_task (report detail origin) is =
       zero_report detail (settings_for origin statics limits) good input is
   zero_task (build opening) is = may_be_built (settings_for_building opening statics limits) input
@@ -335,8 +336,8 @@ module _ (store : Store) (input peer : List ℕ) (statics : List Entry) (limits 
   zero_task (generate seed count) is = zero_made limits statics good (documents seed count) is
 
   task_zero : FittingIsAccepted → (task : Task)
-      → IsTaskInOrder store input peer task statics limits
-      → status_of_task store input peer task statics limits ≡ 0
+      → IsTaskInOrder store input peer order task statics limits
+      → status_of_task store input peer order task statics limits ≡ 0
   task_zero fitting (report detail origin) h =
       report_zero detail (settings_for origin statics limits) good input h
   task_zero fitting (build opening) h =
@@ -350,12 +351,12 @@ module _ (store : Store) (input peer : List ℕ) (statics : List Entry) (limits 
       made_zero limits statics good (documents seed count) h
 
 pub zero_in_order : FittingIsAccepted → ZeroInOrder
-zero_in_order fitting store input peer asked good = (
+zero_in_order fitting store input peer order asked good = (
   (λ is.
-      let h = zero_file (λ statics. status_of_task store input peer asked.task statics asked.limits)
+      let h = zero_file (λ statics. status_of_task store input peer order asked.task statics asked.limits)
       (file_in reading_statics store asked.statics) is in
-      (h.0, h.1, zero_task store input peer h.0 asked.limits good asked.task h.2)),
-  (λ h. file_zero (λ statics. status_of_task store input peer asked.task statics asked.limits)
+      (h.0, h.1, zero_task store input peer order h.0 asked.limits good asked.task h.2)),
+  (λ h. file_zero (λ statics. status_of_task store input peer order asked.task statics asked.limits)
       (file_in reading_statics store asked.statics) h.0 h.1
-      (task_zero store input peer h.0 asked.limits good fitting asked.task h.2)),
+      (task_zero store input peer order h.0 asked.limits good fitting asked.task h.2)),
 )

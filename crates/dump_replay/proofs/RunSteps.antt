@@ -1,19 +1,26 @@
 -- The words of a run, the files that it fetches, the shelf, and a file that isn't read.
-use Rattle.std.proofs.Common.{◌≡◌, ℕ, ◌⊎◌, List, [], ◌∷◌, Option, sym, refl, ap, ◌∙◌, subst, inl}
+use Rattle.std.proofs.Common.{◌≡◌, ℕ, ◌<◌, ◌≤◌, false, ◌⊎◌, List, [], ◌∷◌, Option, sym, refl, ap, ◌∙◌, subst, inl, arith}
+use Rattle.command_words.specs.Values.{is_blank}
 use Rattle.{std.proofs.Common.inr, string_tables.specs.StaticStrings.Entry}
 use Rattle.io_edges.specs.{Faults.one_more, Store.Store}
 use Rattle.nbfx_values.specs.Limits.{Limits}
-use Rattle.stream_loop.specs.Edges.{Input, Output}
+use Rattle.stream_loop.specs.Edges.{Input}
 use Rattle.command_words.specs.declared.{action.Action.Action, words.WordsFault.WordsFault}
 use Rattle.command_words.specs.declared.action.Action.TheVariants.{Build, Call, Check, Dump, Gen}
-use Rattle.command_words.specs.declared.action.Action.TheVariants.{Replay, Serve}
-use Rattle.command_words.specs.{Options.given_for, Tasks.serve, Tasks.Serving, Tasks.Task}
-use Rattle.command_words.specs.Requests.{Asked, AskForTask, IsRequest, Values}
+use Rattle.command_words.specs.declared.action.Action.TheVariants.{Rehearse, Replay, Serve}
+use Rattle.command_words.specs.{Options.given_for, Tasks.Rehearsal, Tasks.serve, Tasks.Serving, Tasks.Task}
+use Rattle.command_words.specs.Requests.{AskedOfSessions, AskForTask, AskToRehearse, IsRequest}
+use Rattle.command_words.specs.Requests.{of_sessions, rehearsal, Values}
+use Rattle.command_words.specs.Asking.{asked_of, rehearsal_of, session_of}
+use Rattle.command_words.specs.declared.request.{Request.Request, SessionRequest.SessionRequest}
+use Rattle.command_words.specs.declared.task.Rehearsal.{Rehearsal as RehearsalTaken}
 use Rattle.dump_replay.specs.Outside.{Outside, SeenShelf, shelf_at}
 use Rattle.dump_replay.specs.Running.{HasFetched, WhereAsked}
 use Rattle.dump_replay.specs.{Serving.AnsweredAll, Statuses.status_of_words}
 use Rattle.dump_replay.specs.Working.{AreNotRead, HasNoActions, IsPossible, Works}
+use Rattle.io_edges.specs.Views.{SinkView}
 use Rattle.command_words.specs.declared.words.WordsFault.TheVariants as words
+use Rattle.command_words.specs.declared.request.Request.TheVariants as requests
 
 -- what words ask for can be done
 possible_so : (a : Action) (value : Values) (t : Task) → AskForTask a value t → IsPossible t
@@ -24,10 +31,29 @@ possible_so Replay value t h = subst IsPossible (sym h) tt
 possible_so Serve value t h = subst IsPossible (sym h.is) tt
 possible_so Call value t h = subst IsPossible (sym h.is) h.opens.short
 possible_so Gen value t h = subst IsPossible (sym h.is) tt
+possible_so Rehearse value t h = absurd h
 
-pub possible : (words : List (List ℕ)) (asked : Asked) → IsRequest words asked
-    → IsPossible asked.task
+pub possible : (words : List (List ℕ)) (asked : AskedOfSessions)
+    → IsRequest words (of_sessions asked) → IsPossible asked.task
 possible words asked h = possible_so h.action (given_for h.given) asked.task h.meant.task
+
+-- a sequence that is asked for has an identifier and a window that may be
+pub playable : (words : List (List ℕ)) (asked : Rehearsal) → IsRequest words (rehearsal asked)
+    → (0 < asked.window) × (asked.window ≤ 1024) × (is_blank asked.id ≡ false)
+playable words asked h =
+    let asks = h.meant.1 in
+    let least = asks.least in
+    (omega (arith, least), asks.most, asks.named)
+
+-- what is asked for, by the request that was read
+module _ (words : List (List ℕ)) (request : Request) (is : IsRequest words (asked_of request)) where
+  pub asked-sessions : (on : SessionRequest) → request ≡ requests.Sessions on
+      → IsRequest words (of_sessions (session_of on))
+  asked-sessions on e = subst (λ (r : Request). IsRequest words (asked_of r)) e is
+
+  pub asked-history : (taken : RehearsalTaken) → request ≡ requests.Rehearse taken
+      → IsRequest words (rehearsal (rehearsal_of taken))
+  asked-history taken e = subst (λ (r : Request). IsRequest words (asked_of r)) e is
 
 -- words that aren't read
 pub not_read : (fault : WordsFault) (names : List (List ℕ)) (n : ℕ) → n ≡ status_of_words fault
@@ -84,7 +110,7 @@ no_actions Says Less More more serving s s' n h = (
 
 -- connections were answered, or no file of actions is read
 pub serve_works : (Says : List ℕ → Type 0) (Less More : Type 0) → (Less → More)
-    → {R K : Type 0} (reader : R → Input) (writer : K → Output) (listen : List ℕ)
+    → {R K : Type 0} (reader : R → Input) (writer : K → SinkView) (listen : List ℕ)
     (connections : ℕ) (serving : Serving) (statics : List Entry) (limits : Limits)
     (old new : Outside R K) (n : ℕ)
     → AnsweredAll Says reader writer connections serving statics limits old new n

@@ -8,8 +8,8 @@ use Rattle.stream_reader.specs.{Judging.offence, Stream.Settings, Stream.stream}
 use Rattle.stream_reader.specs.Sessions.{answer, broken_off, conversation, IsClosed, lone_ack}
 use Rattle.stream_reader.specs.Sessions.{Parts, turned_down}
 use Rattle.{stream_loop.proofs.Writing.counted_with, dump_replay.specs.Statuses.status_at}
-use Rattle.stream_loop.specs.{declared.reporting.Ending.Ending, Edges.Input, Edges.Output}
-use Rattle.stream_loop.specs.Reported.{AsksOnce, EndsAs, Judges, Reports as WritesReport}
+use Rattle.stream_loop.specs.{declared.reporting.ReportEnding.ReportEnding, Edges.Input}
+use Rattle.stream_loop.specs.Reported.{OneEmptyTake, EndsAs, Judges, Reports as WritesReport}
 use Rattle.session_report.proofs.Sessions.{closed_outcome, outcome_of, unoffended}
 use Rattle.session_report.specs.declared.reporter.Outcome.{Outcome}
 use Rattle.session_report.specs.declared.reporter.Outcome.TheVariants.{Ended, Faulted, Open}
@@ -18,7 +18,8 @@ use Rattle.command_words.specs.declared.task.Detail.{Detail}
 use Rattle.dump_replay.specs.Reporting.{closing_status, ends_by_fault, IsEnded, IsFaulted}
 use Rattle.dump_replay.specs.Reporting.{IsOffended, IsReportStatus, Reports}
 use Rattle.dump_replay.specs.Running.{is_session_too_long, IsJudged, status_of}
-use Rattle.stream_loop.specs.declared.reporting.Ending.TheVariants as endings
+use Rattle.io_edges.specs.Views.{SinkView}
+use Rattle.stream_loop.specs.declared.reporting.ReportEnding.TheVariants as endings
 
 -- how a session has ended gives the status
 pub status_closing : (parts : Parts) → status_of None (outcome_of parts) ≡ closing_status parts
@@ -75,7 +76,7 @@ other_status None end n e zero nine ten one = closing_one end n e zero nine
 other_status (Some o) end n e zero nine ten one = no_offence o end n e ten one
 
 -- the status of a take that failed, and of a put
-pub status_three : (e : Ending Offence) (end : Outcome) → status_at e end ≡ 3
+pub status_three : (e : ReportEnding Offence) (end : Outcome) → status_at e end ≡ 3
     → e ≡ endings.ReadFault
 status_three (endings.Judged j) end s =
     absurd (other_status j end 3 s (λ e. cc) (λ e. cc) (λ e. cc) (λ e. cc))
@@ -83,7 +84,8 @@ status_three endings.ReadFault end s = refl
 status_three endings.WriteFault end s = cc
 status_three endings.Memory end s = cc
 
-status_four : (e : Ending Offence) (end : Outcome) → status_at e end ≡ 4 → e ≡ endings.WriteFault
+status_four : (e : ReportEnding Offence) (end : Outcome) → status_at e end ≡ 4 → e
+    ≡ endings.WriteFault
 status_four (endings.Judged j) end s =
     absurd (other_status j end 4 s (λ e. cc) (λ e. cc) (λ e. cc) (λ e. cc))
 status_four endings.ReadFault end s = cc
@@ -102,7 +104,7 @@ closing_judged Open = inl refl
 closing_judged Ended = inl refl
 closing_judged Faulted = inr (inr (inl refl))
 
-status_is : (e : Ending Offence) (end : Outcome) → IsReportStatus (status_at e end)
+status_is : (e : ReportEnding Offence) (end : Outcome) → IsReportStatus (status_at e end)
 status_is (endings.Judged None) end = inl (closing_judged end)
 status_is (endings.Judged (Some o)) end = inl (offence_judged o end)
 status_is endings.ReadFault end = inr (inl refl)
@@ -115,7 +117,7 @@ not_judged n zero one nine ten (inr (inl h)) = one h
 not_judged n zero one nine ten (inr (inr (inl h))) = nine h
 not_judged n zero one nine ten (inr (inr (inr h))) = ten h
 
-judged_is : (e : Ending Offence) (end : Outcome) → IsJudged (status_at e end)
+judged_is : (e : ReportEnding Offence) (end : Outcome) → IsJudged (status_at e end)
     → (j : Option Offence) × (e ≡ endings.Judged j)
 judged_is (endings.Judged j) end h = (j, refl)
 judged_is endings.ReadFault end h =
@@ -125,12 +127,12 @@ judged_is endings.WriteFault end h =
 judged_is endings.Memory end h =
     absurd (not_judged 5 (λ e. cc) (λ e. cc) (λ e. cc) (λ e. cc) h)
 
-module _ (d : Detail) (x : Settings) (good : IsGood x.limits) (i i' : Input) (o o' : Output) where
+module _ (d : Detail) (x : Settings) (good : IsGood x.limits) (i i' : Input) (o o' : SinkView) where
   module _ (end : Outcome) (bytes : List ℕ) where
-    abbrev JudgesIt : Ending Offence → Type 0
+    abbrev JudgesIt : ReportEnding Offence → Type 0
     JudgesIt e = Judges (stream x) (lines_of d) i i' o o' bytes end e
 
-    zero_is : (e : Ending Offence) → status_at e end ≡ 0 → JudgesIt e → IsEnded x bytes
+    zero_is : (e : ReportEnding Offence) → status_at e end ≡ 0 → JudgesIt e → IsEnded x bytes
     zero_is (endings.Judged None) s h =
         let c = unoffended d x good bytes end h in
         (c.0, zero_parts c.0.parts (subst (λ v. status_of None v ≡ 0) c.1 s))
@@ -139,7 +141,7 @@ module _ (d : Detail) (x : Settings) (good : IsGood x.limits) (i i' : Input) (o 
     zero_is endings.WriteFault s h = cc
     zero_is endings.Memory s h = cc
 
-    nine_is : (e : Ending Offence) → status_at e end ≡ 9 → JudgesIt e → IsFaulted x bytes
+    nine_is : (e : ReportEnding Offence) → status_at e end ≡ 9 → JudgesIt e → IsFaulted x bytes
     nine_is (endings.Judged None) s h =
         let c = unoffended d x good bytes end h in
         (c.0, nine_parts c.0.parts (subst (λ v. status_of None v ≡ 9) c.1 s))
@@ -148,7 +150,8 @@ module _ (d : Detail) (x : Settings) (good : IsGood x.limits) (i i' : Input) (o 
     nine_is endings.WriteFault s h = cc
     nine_is endings.Memory s h = cc
 
-    one_is : (e : Ending Offence) → status_at e end ≡ 1 → JudgesIt e → IsOffended x bytes false
+    one_is : (e : ReportEnding Offence) → status_at e end ≡ 1 → JudgesIt e
+        → IsOffended x bytes false
     one_is (endings.Judged None) s h = absurd (closing_one end 1 s (λ e. cc) (λ e. cc))
     one_is (endings.Judged (Some r)) s h =
         elim (offence_status_is r end 1 s) [
@@ -159,7 +162,8 @@ module _ (d : Detail) (x : Settings) (good : IsGood x.limits) (i i' : Input) (o 
     one_is endings.WriteFault s h = cc
     one_is endings.Memory s h = cc
 
-    ten_is : (e : Ending Offence) → status_at e end ≡ 10 → JudgesIt e → IsOffended x bytes true
+    ten_is : (e : ReportEnding Offence) → status_at e end ≡ 10 → JudgesIt e
+        → IsOffended x bytes true
     ten_is (endings.Judged None) s h = absurd (closing_one end 10 s (λ e. cc) (λ e. cc))
     ten_is (endings.Judged (Some r)) s h =
         elim (offence_status_is r end 10 s) [
@@ -170,7 +174,7 @@ module _ (d : Detail) (x : Settings) (good : IsGood x.limits) (i i' : Input) (o 
     ten_is endings.WriteFault s h = cc
     ten_is endings.Memory s h = cc
 
-    complete_is : (e : Ending Offence) → JudgesIt e
+    complete_is : (e : ReportEnding Offence) → JudgesIt e
         → (status_at e end ≡ status_of (offence x bytes) (outcome d x bytes))
         ⊎ (status_at e end ≡ 3) ⊎ (status_at e end ≡ 4) ⊎ (status_at e end ≡ 5)
     complete_is (endings.Judged j) h =
@@ -179,7 +183,7 @@ module _ (d : Detail) (x : Settings) (good : IsGood x.limits) (i i' : Input) (o 
     complete_is endings.WriteFault h = inr (inr (inl refl))
     complete_is endings.Memory h = inr (inr (inr refl))
 
-    closed_is : (c : IsClosed x bytes) (e : Ending Offence) → JudgesIt e
+    closed_is : (c : IsClosed x bytes) (e : ReportEnding Offence) → JudgesIt e
         → (e ≡ endings.ReadFault → ⊥) → (e ≡ endings.WriteFault → ⊥)
         → (status_at e end ≡ closing_status c.parts) ⊎ (status_at e end ≡ 5)
     closed_is c (endings.Judged j) h read written =
@@ -190,14 +194,15 @@ module _ (d : Detail) (x : Settings) (good : IsGood x.limits) (i i' : Input) (o 
     closed_is c endings.Memory h read written = inr refl
 
     module _ (w w' : List ℕ) where
-      abbrev WritesIt : Ending Offence → Type 0
+      abbrev WritesIt : ReportEnding Offence → Type 0
       WritesIt e = WritesReport (stream x) (lines_of d) i i' o o' bytes w w' e
 
-      reported_is : (e : Ending Offence) → IsJudged (status_at e end) → WritesIt e
+      reported_is : (e : ReportEnding Offence) → IsJudged (status_at e end) → WritesIt e
           → w' ≡ w ++ o.held ++ report d x bytes
       reported_is e s h = let j = judged_is e end s in subst WritesIt j.1 h
 
-      cut_is : (e : Ending Offence) → WritesIt e → GrowsByPrefix w w' (o.held ++ report d x bytes)
+      cut_is : (e : ReportEnding Offence) → WritesIt e
+          → GrowsByPrefix w w' (o.held ++ report d x bytes)
       cut_is (endings.Judged j) h =
           let all = o.held ++ report d x bytes in record {
             kept = length all;
@@ -208,9 +213,9 @@ module _ (d : Detail) (x : Settings) (good : IsGood x.limits) (i i' : Input) (o 
       cut_is endings.WriteFault h = h
       cut_is endings.Memory h = h
 
-  module _ (end : Outcome) (e : Ending Offence)
+  module _ (end : Outcome) (e : ReportEnding Offence)
       (h : EndsAs (stream x) (lines_of d) i i' o o' end e) where
-    asked_is : AsksOnce (stream x) (lines_of d) i i' o o' e
+    asked_is : OneEmptyTake (stream x) (lines_of d) i i' o o' e
         → (i'.empty_takes ≡ i.empty_takes)
         ⊎ ((i'.empty_takes ≡ one_more i.empty_takes) × (status_at e end ≡ 3 → ⊥))
     asked_is (inl none) = inl none
@@ -237,7 +242,7 @@ module _ (d : Detail) (x : Settings) (good : IsGood x.limits) (i i' : Input) (o 
       cut = λ bytes w left before.
           let k = h.reports bytes w left before in (k.0, k.1, cut_is end bytes w k.0 e k.2);
       reaches = h.reaches;
-      asked_once = asked_is h.asks_once;
+      one_empty_take = asked_is h.one_empty_take;
       reads_counted = counted_with _ _ _ _ _ refl h.reads_counted (status_three e end)
           (λ is. ap (λ v. status_at v end) is);
       writes_counted = counted_with _ _ _ _ _ refl h.writes_counted (status_four e end)

@@ -6,15 +6,16 @@ use Rattle.io_edges.specs.Faults.{CountsFaults, one_more, Rose}
 use Rattle.{string_tables.specs.StaticStrings.Entry, nbfx_values.specs.Limits.Limits}
 use Rattle.nbfx_values.specs.declared.{content.Item.Item, refusals.Offence.Offence}
 use Rattle.stream_reader.specs.Stream.{Settings}
-use Rattle.stream_loop.specs.declared.{outbound.Outbound.Outbound, reporting.Ending.Ending}
-use Rattle.stream_loop.specs.Edges.{Input, Output}
+use Rattle.stream_loop.specs.declared.{outbound.Outbound.Outbound}
+use Rattle.stream_loop.specs.declared.{reporting.ReportEnding.ReportEnding}
+use Rattle.stream_loop.specs.Edges.{Input}
 use Rattle.document_lines.specs.declared.InputFault.{InputFault}
 use Rattle.document_lines.specs.declared.InputFault.TheVariants.{Line, TooLong, Unfit}
 use Rattle.command_words.specs.{declared.task.Detail.Detail, Tasks.Opening, Tasks.Serving}
 use Rattle.session_generator.specs.declared.summary.Summary.{Summary}
 use Rattle.session_generator.specs.Summary.{status_of, Summarizes}
 use Rattle.duplex_server.specs.declared.{outcome.Inbound.Inbound, stopping.ServeFault.ServeFault}
-use Rattle.duplex_server.specs.{Owed.Answering, Replaying.Replays}
+use Rattle.duplex_server.specs.{ServerStream.Answering, Replaying.Replays}
 use Rattle.dump_replay.specs.{Answering.status_of_replay, Working.Leaves}
 use Rattle.dump_replay.specs.Building.{Builds, status_of_building}
 use Rattle.dump_replay.specs.Outside.{Outside, seen, SeenShelf}
@@ -23,8 +24,9 @@ use Rattle.dump_replay.specs.Running.{is_session_too_long, IsJudged, offence_sta
 use Rattle.dump_replay.specs.Serving.{AnsweredAll, status_of_stop}
 use Rattle.dump_replay.proofs.Causes.{Cause, judged, leaves_by, refused, starved, unfit, unread}
 use Rattle.dump_replay.proofs.Causes.{unwired, unwritten}
+use Rattle.io_edges.specs.Views.{SinkView}
 use Rattle.io_edges.specs.declared.fault.FileFault.TheVariants as faults
-use Rattle.stream_loop.specs.declared.reporting.Ending.TheVariants as endings
+use Rattle.stream_loop.specs.declared.reporting.ReportEnding.TheVariants as endings
 use Rattle.stream_loop.specs.declared.outbound.Outbound.TheVariants as outbounds
 use Rattle.duplex_server.specs.declared.outcome.Inbound.TheVariants as inbounds
 use Rattle.session_generator.specs.declared.summary.Summary.TheVariants as summaries
@@ -48,7 +50,7 @@ file_cause faults.Failed = unread refl refl
 file_cause faults.Memory = starved refl
 
 -- of a session that is written
-build_cause : (e : Ending InputFault)
+build_cause : (e : ReportEnding InputFault)
     → Cause (e ≡ endings.ReadFault) (e ≡ endings.WriteFault) ⊥ (status_of_building e)
 build_cause (endings.Judged None) = judged (inl refl)
 build_cause (endings.Judged (Some (Line n kind))) = refused refl
@@ -96,14 +98,14 @@ summary_cause summaries.Memory = starved refl
 -- ---- what is left
 
 -- an input that was asked at its end once at most, and not before a failed read
-asked_once : (asks asks' : ℕ) (failed : Type 0)
+one_empty_take : (asks asks' : ℕ) (failed : Type 0)
     → (asks' ≡ asks) ⊎ ((asks' ≡ one_more asks) × (failed → ⊥))
     → (asks' ≡ asks) ⊎ (asks' ≡ one_more asks)
-asked_once asks asks' failed (inl none) = inl none
-asked_once asks asks' failed (inr one) = inr one.0
+one_empty_take asks asks' failed (inl none) = inl none
+one_empty_take asks asks' failed (inr one) = inr one.0
 
 -- a file that isn't read leaves input and output
-pub file_leaves : {X : Type 0} (fault : FileFault X) (s s' : SeenShelf) (i : Input) (o : Output)
+pub file_leaves : {X : Type 0} (fault : FileFault X) (s s' : SeenShelf) (i : Input) (o : SinkView)
     {R K : Type 0} (w w' : Network R K) (n : ℕ) → n ≡ status_of_file fault
     → (fault ≡ faults.Failed → Rose s.faults s'.faults)
     → Leaves (seen s i o w) (seen s' i o w') n
@@ -112,7 +114,7 @@ file_leaves fault s s' i o w w' n is rose =
     (leaves_by (seen s i o w) (seen s' i o w') (status_of_file fault) (file_cause fault)
     (λ failed. inr (rose failed)) (λ none. absurd none) (inl refl) (omega arith) (omega arith))
 
-module _ (s s' : SeenShelf) (i i' : Input) (o o' : Output) {R K : Type 0} (w w' : Network R K)
+module _ (s s' : SeenShelf) (i i' : Input) (o o' : SinkView) {R K : Type 0} (w w' : Network R K)
   where
     abbrev old : Outside R K
     old = seen s i o w
@@ -125,16 +127,17 @@ module _ (s s' : SeenShelf) (i i' : Input) (o o' : Output) {R K : Type 0} (w w' 
     report_leaves d x n r =
         leaves_by old new n (report_cause n r.is_status) (λ three. inl (r.reads_counted.rose three))
         r.writes_counted.rose
-        (asked_once i.empty_takes i'.empty_takes (n ≡ 3) r.asked_once) r.reads_counted.grows
+        (one_empty_take i.empty_takes i'.empty_takes (n ≡ 3) r.one_empty_take) r.reads_counted.grows
         r.writes_counted.grows
 
-    module _ (opening : Opening) (statics : List Entry) (limits : Limits) (e : Ending InputFault)
+    module _ (opening : Opening) (statics : List Entry) (limits : Limits)
+        (e : ReportEnding InputFault)
         (h : Builds opening statics limits i i' o o' e) where
       pub build_leaves : (n : ℕ) → n ≡ status_of_building e → Leaves old new n
       build_leaves n is = subst (Leaves old new) (sym is)
           (leaves_by old new (status_of_building e) (build_cause e)
           (λ failed. inl (h.reads_counted.rose failed)) h.writes_counted.rose
-          (asked_once i.empty_takes i'.empty_takes (e ≡ endings.ReadFault) h.asks_once)
+          (one_empty_take i.empty_takes i'.empty_takes (e ≡ endings.ReadFault) h.one_empty_take)
           h.reads_counted.grows h.writes_counted.grows)
 
     module _ (x : Answering) (endpoint : Option (List ℕ)) (outbound : Outbound) where
@@ -148,8 +151,8 @@ module _ (s s' : SeenShelf) (i i' : Input) (o o' : Output) {R K : Type 0} (w w' 
         | inl one ↦ inr one.1
         | inr none ↦ inl none.1
       ]
-      replay_once inbounds.ReadFault h = inl h.follows.unasked
-      replay_once inbounds.Memory h = inl h.follows.unasked
+      replay_once inbounds.ReadFault h = inl h.follows.no_empty_take
+      replay_once inbounds.Memory h = inl h.follows.no_empty_take
 
       pub replay_leaves : (n : ℕ) (inbound : Inbound) → n ≡ status_of_replay inbound outbound
           → Replays x endpoint i i' o o' inbound outbound → Leaves old new n
@@ -168,7 +171,7 @@ module _ (s s' : SeenShelf) (i i' : Input) (o o' : Output) {R K : Type 0} (w w' 
         counted.rose (inl (ap (λ (v : Input). v.empty_takes) same)) (omega (arith, read))
         counted.grows)
 
-    module _ (Says : List ℕ → Type 0) (reader : R → Input) (writer : K → Output)
+    module _ (Says : List ℕ → Type 0) (reader : R → Input) (writer : K → SinkView)
         (connections : ℕ) (serving : Serving) (statics : List Entry) (limits : Limits) (n : ℕ)
         (h : AnsweredAll Says reader writer connections serving statics limits old new n) where
       pub serve_leaves : Leaves old new n

@@ -2,14 +2,16 @@
 use Rattle.std.specs.Prelude.{◌≡◌, ℕ, List, [], Some, None, codes, Option}
 use Rattle.{io_edges.specs.Store.Store, string_tables.specs.StaticStrings.Entry}
 use Rattle.{nbfx_values.specs.Limits.Limits, session_report.specs.Report.offence_line}
-use Rattle.stream_loop.specs.{declared.outbound.Outbound.Outbound, Edges.Input, Edges.Output}
+use Rattle.stream_loop.specs.{declared.outbound.Outbound.Outbound, Edges.Input}
 use Rattle.command_words.specs.Tasks.{Serving}
 use Rattle.action_dispatch.specs.declared.fault.ActionKind.{ActionKind, TheVariants.Repeated}
 use Rattle.action_dispatch.specs.declared.fault.ActionKind.TheVariants.{Fields, Header, NotUtf8}
-use Rattle.duplex_server.specs.{declared.outcome.Inbound.Inbound, Owed.answering, Replaying.Replays}
+use Rattle.duplex_server.specs.{declared.outcome.Inbound.Inbound, ServerStream.answering}
+use Rattle.duplex_server.specs.{Replaying.Replays}
 use Rattle.duplex_server.specs.declared.responding.Responder.{Responder, TheVariants.Echo}
 use Rattle.duplex_server.specs.Responding.{GivesTexts, served_by}
 use Rattle.dump_replay.specs.Running.{note_of, offence_status}
+use Rattle.io_edges.specs.Views.{SinkView}
 use Rattle.stream_loop.specs.declared.outbound.Outbound.TheVariants as outbounds
 use Rattle.duplex_server.specs.declared.outcome.Inbound.TheVariants as inbounds
 
@@ -62,7 +64,7 @@ IsAskedFor files (Some name) responder = GivesTexts files name responder
 -- An initiator's stream was answered so, by the service that is asked for, with the status and the
 -- note of how that ended; Says is what is known of the note with a text.
 pub record Answered (Says : List ℕ → Type 0) (files : Option Store) (serving : Serving)
-    (statics : List Entry) (limits : Limits) (i i' : Input) (o o' : Output) (status : ℕ)
+    (statics : List Entry) (limits : Limits) (i i' : Input) (o o' : SinkView) (status : ℕ)
     : Type 0 where
   pub responder : Responder
   pub asked_for : IsAskedFor files serving.actions responder

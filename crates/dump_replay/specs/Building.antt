@@ -2,9 +2,9 @@
 use Rattle.std.specs.Prelude.{ℕ, List, [], ◌∷◌, ◌++◌, Some, None, codes, decimal, flat_map}
 use Rattle.{string_tables.specs.StaticStrings.Entry, nbfx_values.specs.Limits.Limits}
 use Rattle.nbfx_encoder.specs.declared.faults.EncodeFault.{EncodeFault}
-use Rattle.stream_loop.specs.declared.reporting.Ending.{Ending, TheVariants.WriteFault}
-use Rattle.stream_loop.specs.declared.reporting.Ending.TheVariants.{Judged, Memory, ReadFault}
-use Rattle.stream_loop.specs.{Edges.Input, Edges.Output, Reported.EndsAs}
+use Rattle.stream_loop.specs.declared.reporting.ReportEnding.{ReportEnding, TheVariants.WriteFault}
+use Rattle.stream_loop.specs.declared.reporting.ReportEnding.TheVariants.{Judged, Memory, ReadFault}
+use Rattle.stream_loop.specs.{Edges.Input, Reported.EndsAs}
 use Rattle.{initiator_machine.specs.Opening.opening_bytes, command_words.specs.Tasks.Opening}
 use Rattle.line_notation.specs.declared.reader.LineKind.{LineKind, TheVariants.WrongCount}
 use Rattle.line_notation.specs.declared.reader.LineKind.TheVariants.{BadText, Cut, NotALine}
@@ -12,6 +12,7 @@ use Rattle.line_notation.specs.declared.reader.LineKind.TheVariants.{OutOfPlace,
 use Rattle.{document_lines.specs.declared.InputFault.InputFault, dump_replay.specs.Running.note_of}
 use Rattle.document_lines.specs.declared.InputFault.TheVariants.{Line, TooLong, Unfit}
 use Rattle.document_lines.specs.Input.{envelopes_and_end, lines_of_documents, Settings}
+use Rattle.io_edges.specs.Views.{SinkView}
 use Rattle.nbfx_encoder.specs.declared.faults.EncodeFault.TheVariants as unfit
 
 -- how documents are written, with these static strings and within these quotas
@@ -24,7 +25,7 @@ abbrev pub preamble_of : Opening → List ℕ
 preamble_of opening = opening_bytes opening.mode opening.kind opening.via
 
 -- the output, as if it held the preamble too, which is written first
-abbrev pub with_preamble : Opening → Output → Output
+abbrev pub with_preamble : Opening → SinkView → SinkView
 with_preamble opening o = record o { held = o.held ++ preamble_of opening }
 
 -- ---- statuses and notes
@@ -35,7 +36,7 @@ status_of_input_fault (Unfit number why) = 7
 status_of_input_fault TooLong = 10
 
 -- the status of a run that ends so
-abbrev pub status_of_building : Ending InputFault → ℕ
+abbrev pub status_of_building : ReportEnding InputFault → ℕ
 status_of_building (Judged None) = 0
 status_of_building (Judged (Some fault)) = status_of_input_fault fault
 status_of_building ReadFault = 3
@@ -76,7 +77,7 @@ input_note (Unfit number why) = joined (codes "document " ∷ decimal number
 input_note TooLong = codes "input too long\n"
 
 -- the note of a run that ends so
-abbrev pub note_of_building : Ending InputFault → List ℕ
+abbrev pub note_of_building : ReportEnding InputFault → List ℕ
 note_of_building (Judged None) = []
 note_of_building (Judged (Some fault)) = input_note fault
 note_of_building ReadFault = note_of 3
@@ -85,9 +86,9 @@ note_of_building Memory = note_of 5
 
 -- what is known of documents that are written so, where that ends so: of all that the input gives,
 -- where it tells that; what was read, and that the preamble and the envelopes are written; how
--- often the input was asked at its end; and what failed calls left of the counts
-abbrev pub Builds : Opening → List Entry → Limits → (i i' : Input) (o o' : Output)
-    → Ending InputFault → Type 0
+-- many takes of the input gave nothing; and what failed calls left of the counts
+abbrev pub Builds : Opening → List Entry → Limits → (i i' : Input) (o o' : SinkView)
+    → ReportEnding InputFault → Type 0
 Builds opening statics limits i i' o o' ending =
     EndsAs (lines_of_documents (settings_for_building opening statics limits)) envelopes_and_end
     i i' (with_preamble opening o) o' tt ending

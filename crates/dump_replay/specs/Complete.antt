@@ -1,7 +1,8 @@
 -- The status of a run in which no I/O error occurs and memory suffices: it is determined by what
--- the words ask for, the files on the shelf, the input, and what the peer of a call sends.
-use Rattle.std.specs.Prelude.{◌≡◌, ℕ, ◌⊎◌, List, [], ◌∷◌, ◌++◌, length, if◌then◌else◌, ◌==◌, Some}
-use Rattle.std.specs.Prelude.{None, Ok, Err, Option, Result, ⊤}
+-- the words ask for, the files on the shelf, the input, what the peer of a call sends, and the order
+-- in which the documents of a call's two lists are sent.
+use Rattle.std.specs.Prelude.{◌≡◌, ℕ, ◌⊎◌, List, [], ◌∷◌, ◌++◌, drop, length, if◌then◌else◌, ◌==◌}
+use Rattle.std.specs.Prelude.{Some, None, Ok, Err, Option, Result, ⊤}
 use Rattle.io_edges.specs.{Faults.Rose, Store.Store, Wires.Network}
 use Rattle.io_edges.specs.Files.{bad, file_in, missing, ShelfFile, whole}
 use Rattle.{string_tables.specs.StaticStrings.Entry, stream_loop.specs.Edges.Input}
@@ -13,15 +14,19 @@ use Rattle.stream_reader.specs.Stream.{any_initiators, initiators, Settings}
 use Rattle.session_report.specs.{declared.reporter.Outcome.TheVariants.Ended, Report.outcome}
 use Rattle.document_lines.specs.{declared.InputFault.InputFault, Files.read_of}
 use Rattle.command_words.specs.declared.task.Detail.{Detail, TheVariants.Whole}
-use Rattle.command_words.specs.{Requests.Asked, Requests.IsRequest, Tasks.Serving, Tasks.Task}
+use Rattle.command_words.specs.Requests.{AskedOfSessions, IsRequest, of_sessions, rehearsal}
+use Rattle.command_words.specs.Tasks.{Rehearsal, Serving, Task}
 use Rattle.command_words.specs.Tasks.{build, call, generate, Opening, replay, report, serve}
 use Rattle.session_generator.specs.{Documents.documents, Generated.session_of}
 use Rattle.duplex_server.specs.Responding.{reading_actions}
-use Rattle.client.specs.declared.caller.Ack.{Ack, TheVariants.Awaited, TheVariants.Read}
-use Rattle.client.specs.Called.{ack_along, answers_to, heard_of}
+use Rattle.two_lanes.specs.declared.jobs.Lane.{Lane, TheVariants.A, TheVariants.B}
+use Rattle.two_lanes.specs.Merges.{merge, times}
+use Rattle.client.specs.Called.{Ack, Awaited, Read}
+use Rattle.client.specs.Called.{ack_along, answers_to, handled_of}
 use Rattle.client.specs.Sent.{envelopes, Sending, sending}
 use Rattle.dump_replay.specs.{Building.status_of_input_fault, Outside.Outside}
 use Rattle.dump_replay.specs.Laws.{input_offence, status_of_input}
+use Rattle.dump_replay.specs.Rehearsing.{history_offence, status_of_history}
 use Rattle.dump_replay.specs.Running.{status_of, WhereAsked}
 use Rattle.dump_replay.specs.Statics.{reading_statics, settings_for}
 use Rattle.std.specs.FinMap as finite
@@ -94,18 +99,23 @@ with_count mode sent next = next
 -- of a call with documents, by what the peer sends
 abbrev pub status_of_call : Sending → (peer : List ℕ) → ℕ
 status_of_call x peer = with_count x.mode x.documents
-    (unless_unfit (ack_along Awaited (heard_of x peer)) (envelopes x x.documents)
+    (unless_unfit (ack_along Awaited (handled_of x peer)) (envelopes x x.documents)
     (status_of_report Whole (answers_to x) peer))
+
+-- the documents of both lists in the order of these letters, and those that have none behind them
+abbrev pub in_order : (first second : List (List Item)) → List Lane → List (List Item)
+in_order first second order = merge first second order
+    ++ drop (times A order) first ++ drop (times B order) second
 
 -- what is sent in a call
 abbrev pub sending_with : Opening → List Entry → Limits → (first second : List (List Item))
-    → Sending
-sending_with opening statics limits first second =
-    sending limits statics opening.mode opening.kind (first ++ second)
+    → (order : List Lane) → Sending
+sending_with opening statics limits first second order =
+    sending limits statics opening.mode opening.kind (in_order first second order)
 
 -- ---- all tasks
 
-module _ (store : Store) (input peer : List ℕ) where
+module _ (store : Store) (input peer : List ℕ) (order : List Lane) where
   abbrev pub status_of_task : Task → List Entry → Limits → ℕ
   status_of_task (report detail origin) statics limits =
       status_of_report detail (settings_for origin statics limits) input
@@ -117,15 +127,27 @@ module _ (store : Store) (input peer : List ℕ) where
       with_actions store serving.actions 0
   status_of_task (call connect opening second) statics limits =
       with_second store second (λ behind. with_lines (documents_within limits.session input)
-      (λ first. status_of_call (sending_with opening statics limits first behind) peer))
+      (λ first. status_of_call (sending_with opening statics limits first behind order) peer))
   status_of_task (generate seed count) statics limits =
       status_of_made (any_initiators statics limits)
       (session_of limits statics (documents seed count))
 
-  -- the status of a run that is asked for this
-  abbrev pub status_for : Asked → ℕ
+  -- the status of a run that is asked for this on sessions
+  abbrev pub status_for : AskedOfSessions → ℕ
   status_for asked = with_file (file_in reading_statics store asked.statics)
       (λ statics. status_of_task asked.task statics asked.limits)
+
+-- no second list of documents is asked for, so that there is one order
+abbrev pub HasOneOrder : Task → Type 0
+HasOneOrder (call connect opening (Some name)) = ⊥
+HasOneOrder task = ⊤
+
+-- the status is the one that an order of the documents gives; or 5, out of memory
+pub record IsDetermined (store : Store) (input peer : List ℕ) (asked : AskedOfSessions)
+    (status : ℕ) : Type 0 where
+  pub order : List Lane
+  pub one_order : HasOneOrder asked.task → order ≡ []
+  pub status_is : (status ≡ status_for store input peer order asked) ⊎ (status ≡ 5)
 
 -- ---- where nothing of the outside fails
 
@@ -165,11 +187,20 @@ pub record GoesWell {R K : Type 0} (reader : R → Input) (old new : Outside R K
   pub connected : Rose old.wire.faults new.wire.faults → ⊥
   pub called : WherePeer task reader old.wire new.wire peer
 
+-- The input gives these bytes, and the counts of I/O errors of input and output didn't rise.
+pub record PlaysWell {R K : Type 0} (old new : Outside R K) (input : List ℕ) : Type 0 where
+  pub given : old.input.left ≡ Some input
+  pub read : Rose old.input.faults new.input.faults → ⊥
+  pub written : Rose old.output.faults new.output.faults → ⊥
+
 -- A run whose words are no request ends with 2, and one in which nothing of the outside fails with
 -- the status of what its words ask for; or with 5, out of memory.
 pub record IsComplete {R K : Type 0} (reader : R → Input) (words : List (List ℕ))
     (old new : Outside R K) (status : ℕ) : Type 0 where
   pub refused : WhereAsked words (λ asked. ⊥) → (status ≡ 2) ⊎ (status ≡ 5)
-  pub determined : (asked : Asked) (store : Store) (input peer : List ℕ) → IsRequest words asked
-      → GoesWell reader old new asked.task store input peer
-      → (status ≡ status_for store input peer asked) ⊎ (status ≡ 5)
+  pub determined : (asked : AskedOfSessions) (store : Store) (input peer : List ℕ)
+      → IsRequest words (of_sessions asked) → GoesWell reader old new asked.task store input peer
+      → IsDetermined store input peer asked status
+  pub played : (asked : Rehearsal) (input : List ℕ) → IsRequest words (rehearsal asked)
+      → PlaysWell old new input
+      → (status ≡ status_of_history (history_offence asked input)) ⊎ (status ≡ 5)

@@ -7,8 +7,8 @@ use Rattle.string_tables.specs.StaticStrings.{Entry, IsStaticMap}
 use Rattle.nbfx_values.specs.{declared.content.Item.Item, Limits.IsGood, Limits.Limits}
 use Rattle.stream_reader.specs.Sessions.{Carried, conversation, IsSession, session_events}
 use Rattle.stream_reader.specs.Stream.{initiators, serves, Settings}
-use Rattle.stream_loop.specs.declared.reporting.Ending.{Ending, TheVariants.Judged}
-use Rattle.stream_loop.specs.Edges.{Input, Output}
+use Rattle.stream_loop.specs.declared.reporting.ReportEnding.{ReportEnding, TheVariants.Judged}
+use Rattle.stream_loop.specs.Edges.{Input}
 use Rattle.session_report.specs.Report.{report, told_of}
 use Rattle.line_notation.specs.Lines.{AreLinesOf, cut}
 use Rattle.document_lines.specs.declared.InputFault.{InputFault, TheVariants.Unfit}
@@ -16,6 +16,7 @@ use Rattle.document_lines.specs.Input.{envelopes_and_end, lines_of_documents}
 use Rattle.command_words.specs.{declared.task.Detail.Detail, Tasks.Opening}
 use Rattle.dump_replay.specs.Building.{Builds, preamble_of, settings_for_building}
 use Rattle.dump_replay.specs.Building.{status_of_building, status_of_input_fault}
+use Rattle.io_edges.specs.Views.{SinkView}
 use Rattle.nbfx_encoder.specs.declared.faults.EncodeFault.TheVariants as encode
 
 module _ (opening : Opening) (statics : List Entry) (limits : Limits) where
@@ -76,7 +77,7 @@ status_of_input (Some fault) = status_of_input_fault fault
 
 -- a session was written of all of this input, and nothing of the outside failed or wanted memory
 pub record IsBuiltWell (opening : Opening) (statics : List Entry) (limits : Limits)
-    (bytes : List ℕ) (o o' : Output) (status : ℕ) : Type 0 where
+    (bytes : List ℕ) (o o' : SinkView) (status : ℕ) : Type 0 where
   pub status_is : status ≡ status_of_input (input_offence opening statics limits bytes)
   pub written : (w : List ℕ) → o.written ≡ Some w
       → o'.written ≡ Some (w ++ o.held ++ session_of opening statics limits bytes)
@@ -85,7 +86,7 @@ pub record IsBuiltWell (opening : Opening) (statics : List Entry) (limits : Limi
 -- written; or it is 5, for want of memory.
 abbrev pub BuildsAreComplete : Type 0
 BuildsAreComplete = (opening : Opening) (statics : List Entry) (limits : Limits) (i i' : Input)
-    (o o' : Output) (ending : Ending InputFault)
+    (o o' : SinkView) (ending : ReportEnding InputFault)
     → Builds opening statics limits i i' o o' ending
     → (bytes : List ℕ) → i.left ≡ Some bytes
     → (Rose i.faults i'.faults → ⊥) → (Rose o.faults o'.faults → ⊥)
@@ -96,5 +97,5 @@ BuildsAreComplete = (opening : Opening) (statics : List Entry) (limits : Limits)
 -- document is above a quota, or a QName of it gets no identifier.
 abbrev pub UnfitHasACause : Type 0
 UnfitHasACause = (opening : Opening) (statics : List Entry) (limits : Limits) (i i' : Input)
-    (o o' : Output) (number : ℕ)
+    (o o' : SinkView) (number : ℕ)
     → Builds opening statics limits i i' o o' (Judged (Some (Unfit number encode.Memory))) → ⊥

@@ -2,6 +2,7 @@
 pub mod Outside
 pub mod Statics
 pub mod Running
+pub mod Rehearsing
 pub mod Reporting
 pub mod Building
 pub mod Answering

@@ -1,18 +1,19 @@
 -- What has to be in order for a run to end with 0: the files on the shelf, the input, and what the
 -- peer of a call sends.
-use Rattle.std.specs.Prelude.{◌≡◌, ℕ, ◌↔◌, List, ◌++◌, Some, None, Ok, Option, ⊤}
+use Rattle.std.specs.Prelude.{◌≡◌, ℕ, ◌↔◌, List, Some, None, Ok, Option, ⊤}
 use Rattle.io_edges.specs.{Files.file_in, Files.whole, Store.Store}
 use Rattle.{string_tables.specs.StaticStrings.Entry, nbfx_encoder.specs.Placing.Placed}
 use Rattle.nbfx_values.specs.{declared.content.Item.Item, Limits.IsGood, Limits.Limits}
 use Rattle.{stream_reader.specs.Sessions.IsClosed, session_ends.specs.Sent.MayBeSent}
 use Rattle.document_lines.specs.{Documents.documents_within, Laws.MayBeBuilt}
-use Rattle.{command_words.specs.Requests.Asked, action_dispatch.specs.Actions.Texts}
+use Rattle.{command_words.specs.Requests.AskedOfSessions, action_dispatch.specs.Actions.Texts}
 use Rattle.command_words.specs.Tasks.{build, call, generate, Opening, replay, report, serve, Task}
 use Rattle.session_generator.specs.{Documents.documents, Summary.IsWithinQuota}
 use Rattle.duplex_server.specs.Responding.{reading_actions}
+use Rattle.two_lanes.specs.declared.jobs.Lane.{Lane}
 use Rattle.client.specs.{Called.answers_to, Sent.envelopes}
 use Rattle.dump_replay.specs.{Building.settings_for_building, Calling.IsSecond, Reporting.IsEnded}
-use Rattle.dump_replay.specs.Complete.{sending_with, settings_to_answer, status_for}
+use Rattle.dump_replay.specs.Complete.{in_order, sending_with, settings_to_answer, status_for}
 use Rattle.dump_replay.specs.Statics.{reading_statics, settings_for}
 
 module _ (store : Store) where
@@ -21,20 +22,20 @@ module _ (store : Store) where
   HasActions None = ⊤
   HasActions (Some name) = (texts : Texts) × (file_in reading_actions store name ≡ whole texts)
 
-  module _ (input peer : List ℕ) where
-    -- the documents of both lists are read, may be sent in one session and fit, and the peer ends
-    -- its session without a Fault
+  module _ (input peer : List ℕ) (order : List Lane) where
+    -- the documents of both lists are read, may be sent in one session and fit in this order, and
+    -- the peer ends its session without a Fault
     pub record IsCallInOrder (opening : Opening) (named : Option (List ℕ)) (statics : List Entry)
         (limits : Limits) : Type 0 where
       pub first : List (List Item)
       pub second : List (List Item)
       pub first_is : documents_within limits.session input ≡ Ok first
       pub second_is : IsSecond (Some store) named second
-      pub admitted : MayBeSent opening.mode (first ++ second)
+      pub admitted : MayBeSent opening.mode (in_order first second order)
       pub sent : Placed (List ℕ)
-      pub all_fit : envelopes (sending_with opening statics limits first second) (first ++ second)
-          ≡ Ok sent
-      pub ended : IsEnded (answers_to (sending_with opening statics limits first second)) peer
+      pub all_fit : envelopes (sending_with opening statics limits first second order)
+          (in_order first second order) ≡ Ok sent
+      pub ended : IsEnded (answers_to (sending_with opening statics limits first second order)) peer
 
     -- by the task, with these static strings: a session closes a stream that is reported, without a
     -- Fault; lines that are written are those of documents that fit, fewer bytes than the session
@@ -53,12 +54,14 @@ module _ (store : Store) where
         IsWithinQuota limits statics (documents seed count)
 
     -- the file of static strings is read too
-    abbrev pub IsInOrder : Asked → Type 0
+    abbrev pub IsInOrder : AskedOfSessions → Type 0
     IsInOrder asked = (statics : List Entry)
         × (file_in reading_statics store asked.statics ≡ whole statics)
         × IsTaskInOrder asked.task statics asked.limits
 
--- The status that is determined is 0 exactly where all is in order.
+-- The status that is determined is 0 exactly where all is in order, the documents of a call's two
+-- lists in the order in which they are sent.
 abbrev pub ZeroInOrder : Type 0
-ZeroInOrder = (store : Store) (input peer : List ℕ) (asked : Asked) → IsGood asked.limits
-    → (status_for store input peer asked ≡ 0) ↔ IsInOrder store input peer asked
+ZeroInOrder = (store : Store) (input peer : List ℕ) (order : List Lane) (asked : AskedOfSessions)
+    → IsGood asked.limits
+    → (status_for store input peer order asked ≡ 0) ↔ IsInOrder store input peer order asked

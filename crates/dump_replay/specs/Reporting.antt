@@ -5,12 +5,13 @@ use Rattle.{std.specs.Prelude.Option, nbfx_values.specs.declared.refusals.Offenc
 use Rattle.io_edges.specs.{Faults.CountsFaults, Faults.one_more, Faults.Rose, Flow.GrowsByPrefix}
 use Rattle.stream_reader.specs.{Judging.offence, Stream.Settings, Stream.stream}
 use Rattle.stream_reader.specs.Sessions.{broken_off, IsClosed, Parts, turned_down}
-use Rattle.stream_loop.specs.Edges.{Input, Output}
+use Rattle.stream_loop.specs.Edges.{Input}
 use Rattle.stream_loop.specs.Reported.{Breaks, Decides, Reaches}
 use Rattle.session_report.specs.declared.reporter.Outcome.{Outcome}
 use Rattle.session_report.specs.Report.{lines_of, outcome, report}
 use Rattle.command_words.specs.declared.task.Detail.{Detail}
 use Rattle.dump_replay.specs.Running.{is_session_too_long, IsJudged, status_of}
+use Rattle.io_edges.specs.Views.{SinkView}
 
 -- a session of these parts ends with a receiver's Fault
 abbrev pub ends_by_fault : Parts → Bool
@@ -41,9 +42,9 @@ IsReportStatus n = IsJudged n ⊎ (n ≡ 3) ⊎ (n ≡ 4) ⊎ (n ≡ 5)
 
 -- what is known of a stream that is reported in this detail, and read so, where the run ends with
 -- this status: of all that the input gives, where it tells that; what was read and written; how
--- often the input was asked at its end; and what the calls that failed by the outside left of the
+-- many takes of the input gave nothing; and what the calls that failed by the outside left of the
 -- counts
-pub record Reports (d : Detail) (x : Settings) (i i' : Input) (o o' : Output) (status : ℕ)
+pub record Reports (d : Detail) (x : Settings) (i i' : Input) (o o' : SinkView) (status : ℕ)
     : Type 0 where
   pub is_status : IsReportStatus status
   pub ended : status ≡ 0 → (stream : List ℕ) → i.left ≡ Some stream → IsEnded x stream
@@ -67,7 +68,7 @@ pub record Reports (d : Detail) (x : Settings) (i i' : Input) (o o' : Output) (s
   pub cut : (stream w : List ℕ) → i.left ≡ Some stream → o.written ≡ Some w
       → (w' : List ℕ) × (o'.written ≡ Some w') × GrowsByPrefix w w' (o.held ++ report d x stream)
   pub reaches : Reaches (stream x) (lines_of d) i i' o o'
-  pub asked_once : (i'.empty_takes ≡ i.empty_takes)
+  pub one_empty_take : (i'.empty_takes ≡ i.empty_takes)
       ⊎ ((i'.empty_takes ≡ one_more i.empty_takes) × (status ≡ 3 → ⊥))
   pub reads_counted : CountsFaults i.faults i'.faults (status ≡ 3)
   pub writes_counted : CountsFaults o.faults o'.faults (status ≡ 4)

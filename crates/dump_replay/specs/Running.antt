@@ -5,7 +5,7 @@ use Rattle.io_edges.specs.{declared.fault.FileFault.FileFault, Faults.one_more, 
 use Rattle.nbfx_values.specs.declared.refusals.Offence.{Offence}
 use Rattle.nbfx_values.specs.declared.refusals.Reason.{Reason, TheVariants.SessionTooLong}
 use Rattle.session_report.specs.declared.reporter.Outcome.{Outcome, TheVariants.Faulted}
-use Rattle.command_words.specs.Requests.{Asked, IsRequest}
+use Rattle.command_words.specs.Requests.{Asked, AskedOfSessions, IsRequest, of_sessions}
 use Rattle.command_words.specs.Tasks.{build, call, generate, replay, report, serve, Task}
 use Rattle.io_edges.specs.declared.fault.FileFault.TheVariants as faults
 
@@ -86,7 +86,8 @@ HasFetched [] fetches fetches' = fetches' ≡ fetches
 HasFetched (name ∷ names) fetches fetches' =
     (fetches' ≡ fetches) ⊎ HasFetched names (one_more fetches) fetches'
 
--- no file was fetched, or no more than a request names
+-- no file was fetched, or no more than a request on sessions names
 abbrev pub FetchesNamed : List (List ℕ) → (fetches fetches' : ℕ) → Type 0
-FetchesNamed words fetches fetches' = (fetches' ≡ fetches) ⊎ ((asked : Asked)
-    × IsRequest words asked × HasFetched (asked.statics ∷ files_of asked.task) fetches fetches')
+FetchesNamed words fetches fetches' = (fetches' ≡ fetches) ⊎ ((asked : AskedOfSessions)
+    × IsRequest words (of_sessions asked)
+    × HasFetched (asked.statics ∷ files_of asked.task) fetches fetches')

@@ -1,12 +1,13 @@
 -- What the command that answers connections leaves, by why it stopped.
 use Rattle.std.specs.Prelude.{◌≡◌, ℕ, List, Ok, Err, Result, ⊤}
 use Rattle.{string_tables.specs.StaticStrings.Entry, nbfx_values.specs.Limits.Limits}
-use Rattle.stream_loop.specs.Edges.{Input, Output}
+use Rattle.stream_loop.specs.Edges.{Input}
 use Rattle.{command_words.specs.Tasks.Serving, duplex_server.specs.Responding.served_by}
-use Rattle.duplex_server.specs.{declared.responding.Responder.Responder, Owed.answering}
+use Rattle.duplex_server.specs.{declared.responding.Responder.Responder, ServerStream.answering}
 use Rattle.duplex_server.specs.{declared.stopping.ServeFault.ServeFault, Served.ServesAll}
 use Rattle.dump_replay.specs.{Answering.IsAskedFor, Running.note_of}
 use Rattle.dump_replay.specs.Outside.{ends_seen, Outside}
+use Rattle.io_edges.specs.Views.{SinkView}
 use Rattle.duplex_server.specs.declared.stopping.ServeFault.TheVariants as stops
 
 -- the status of a server that stopped so
@@ -21,7 +22,7 @@ status_of_stop (Err stops.Memory) = 5
 -- known of the note with a text, and `reader` and `writer` are what is seen of the ends of a
 -- connection.
 pub record AnsweredAll (Says : List ℕ → Type 0) {R K : Type 0} (reader : R → Input)
-    (writer : K → Output) (connections : ℕ) (serving : Serving) (statics : List Entry)
+    (writer : K → SinkView) (connections : ℕ) (serving : Serving) (statics : List Entry)
     (limits : Limits) (old new : Outside R K) (status : ℕ) : Type 0 where
   pub responder : Responder
   pub asked_for : IsAskedFor old.shelf.files serving.actions responder

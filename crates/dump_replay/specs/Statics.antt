@@ -6,7 +6,7 @@ use Rattle.{string_tables.specs.StaticStrings.Entry, nbfx_values.specs.Limits.Li
 use Rattle.static_dictionary.specs.declared.fault.{TableFault.TableFault, TableKind.TableKind}
 use Rattle.static_dictionary.specs.Rows.{Fault, fault_of, rows_of, table_of}
 use Rattle.stream_reader.specs.Stream.{initiators, receivers, Settings, Side}
-use Rattle.command_words.specs.{declared.task.Origin.Origin, Requests.Asked}
+use Rattle.command_words.specs.{declared.task.Origin.Origin, Requests.AskedOfSessions}
 use Rattle.command_words.specs.declared.task.Origin.TheVariants.{Initiator, Receiver}
 use Rattle.io_edges.specs.declared.fault.FileFault.TheVariants as faults
 use Rattle.static_dictionary.specs.declared.fault.TableFault.TheVariants as tables
@@ -46,7 +46,7 @@ settings_for origin statics limits =
     record { side = side_for origin; statics = statics; limits = limits }
 
 -- this holds with the static strings of the file that is asked for
-pub record UnderFile (files : Option Store) (asked : Asked) (Holds : List Entry → Type 0)
+pub record UnderFile (files : Option Store) (asked : AskedOfSessions) (Holds : List Entry → Type 0)
     : Type 0 where
   pub entries : List Entry
   pub has : Has reading_statics files asked.statics (whole entries)

@@ -1,22 +1,25 @@
 -- What a run leaves, by what its words ask for. `Says` is what is known of the note with a text,
--- `Untouched` that input, output and wire are as before, `Unasked` that the shelf is, and `Offline`
--- that the wire is. `reader` and `writer` are what is seen of the ends of a connection.
+-- `Untouched` that input, output and wire are as before, `Unfetched` that the shelf is, and
+-- `Offline` that the wire is. `reader` and `writer` are what is seen of the ends of a connection.
 use Rattle.std.specs.Prelude.{◌≡◌, ℕ, ◌≤◌, ◌⊎◌, List, length, Some, ⊤}
 use Rattle.io_edges.specs.declared.fault.FileFault.{FileFault, TheVariants.Failed}
 use Rattle.io_edges.specs.{Faults.one_more, Faults.Rose, Files.Reading, Files.Tells}
 use Rattle.{string_tables.specs.StaticStrings.Entry, nbfx_values.specs.Limits.Limits}
-use Rattle.stream_loop.specs.{declared.reporting.Ending.Ending, Edges.Input, Edges.Output}
+use Rattle.stream_loop.specs.{declared.reporting.ReportEnding.ReportEnding, Edges.Input}
 use Rattle.document_lines.specs.declared.InputFault.{InputFault}
-use Rattle.command_words.specs.{Requests.Asked, Requests.IsRequest, Tasks.Serving, Tasks.Task}
+use Rattle.command_words.specs.Requests.{AskedOfSessions, IsRequest, of_sessions, rehearsal}
+use Rattle.command_words.specs.Tasks.{Rehearsal, Serving, Task}
 use Rattle.command_words.specs.Tasks.{build, call, generate, Opening, replay, report, serve}
 use Rattle.duplex_server.specs.Responding.{reading_actions}
 use Rattle.dump_replay.specs.Answering.{action_kind_name, Answered}
 use Rattle.dump_replay.specs.Building.{Builds, note_of_building, status_of_building}
 use Rattle.dump_replay.specs.Calling.{CalledWith, HasNoSecond}
-use Rattle.dump_replay.specs.{Generating.Generated, Reporting.Reports, Serving.AnsweredAll}
+use Rattle.dump_replay.specs.{Generating.Generated, Rehearsing.Rehearsed, Reporting.Reports}
+use Rattle.dump_replay.specs.Serving.{AnsweredAll}
 use Rattle.dump_replay.specs.Outside.{Outside, SeenShelf}
 use Rattle.dump_replay.specs.Running.{IsStatus, note_of, note_of_file, status_of_file, WhereAsked}
 use Rattle.dump_replay.specs.Statics.{reading_statics, settings_for, table_kind_name, UnderFile}
+use Rattle.io_edges.specs.Views.{SinkView}
 
 -- a Via that a session is opened with is within its quota
 abbrev pub IsPossible : Task → Type 0
@@ -33,12 +36,12 @@ WhereOffline (serve listen connections serving) Offline = ⊤
 WhereOffline (call connect opening second) Offline = ⊤
 WhereOffline task Offline = Offline
 
--- what is known of any task: its status, how often the input was asked at its end, and which counts
+-- what is known of any task: its status, how many takes of the input gave nothing, and which counts
 -- of faults rose
 pub record Leaves {R K : Type 0} (old new : Outside R K) (status : ℕ) : Type 0 where
   pub is_status : IsStatus status
   pub not_two : status ≡ 2 → ⊥
-  pub asked_once : (new.input.empty_takes ≡ old.input.empty_takes)
+  pub one_empty_take : (new.input.empty_takes ≡ old.input.empty_takes)
       ⊎ (new.input.empty_takes ≡ one_more old.input.empty_takes)
   pub read_fault : status ≡ 3 → Rose old.input.faults new.input.faults
       ⊎ Rose old.shelf.faults new.shelf.faults
@@ -53,8 +56,8 @@ AreNotRead words status = ((status ≡ 2) × WhereAsked words (λ asked. ⊥)) �
 module _ (Says : List ℕ → Type 0) where
   -- documents were written so, with the status and the note of how that ended
   pub record Built (opening : Opening) (statics : List Entry) (limits : Limits) (i i' : Input)
-      (o o' : Output) (status : ℕ) : Type 0 where
-    pub ending : Ending InputFault
+      (o o' : SinkView) (status : ℕ) : Type 0 where
+    pub ending : ReportEnding InputFault
     pub status_is : status ≡ status_of_building ending
     pub builds : Builds opening statics limits i i' o o' ending
     pub says : Says (note_of_building ending)
@@ -76,7 +79,7 @@ module _ (Says : List ℕ → Type 0) where
     HasNoActions serving old new status = (name : List ℕ) × (serving.actions ≡ Some name)
         × Unread reading_actions action_kind_name name old new status
 
-  module _ (Untouched : Type 0) {R K : Type 0} (reader : R → Input) (writer : K → Output) where
+  module _ (Untouched : Type 0) {R K : Type 0} (reader : R → Input) (writer : K → SinkView) where
     -- what each task leaves, with these static strings
     abbrev pub Works : Task → List Entry → Limits → (old new : Outside R K) → ℕ → Type 0
     Works (report detail origin) statics limits old new status =
@@ -97,8 +100,9 @@ module _ (Says : List ℕ → Type 0) where
         Generated Says seed count statics limits old.output new.output status
         × (new.input ≡ old.input)
 
-    -- what is left of a request: the file of static strings isn't read, or the task is done
-    abbrev pub Does : (Offline : Type 0) → Asked → (old new : Outside R K) → ℕ → Type 0
+    -- what is left of a request on sessions: the file of static strings isn't read, or the task is
+    -- done
+    abbrev pub Does : (Offline : Type 0) → AskedOfSessions → (old new : Outside R K) → ℕ → Type 0
     Does Offline asked old new status =
         Unread Untouched reading_statics table_kind_name asked.statics old.shelf new.shelf status
         ⊎ UnderFile old.shelf.files asked
@@ -106,8 +110,12 @@ module _ (Says : List ℕ → Type 0) where
         × WhereOffline asked.task Offline)
 
     -- and of any words
-    abbrev pub Runs : (Unasked Offline : Type 0) → List (List ℕ) → (old new : Outside R K) → ℕ
+    abbrev pub Runs : (Unfetched Offline : Type 0) → List (List ℕ) → (old new : Outside R K) → ℕ
         → Type 0
-    Runs Unasked Offline words old new status =
-        (AreNotRead words status × Says (note_of status) × Untouched × Unasked)
-        ⊎ ((asked : Asked) × IsRequest words asked × Does Offline asked old new status)
+    Runs Unfetched Offline words old new status =
+        (AreNotRead words status × Says (note_of status) × Untouched × Unfetched)
+        ⊎ ((asked : AskedOfSessions) × IsRequest words (of_sessions asked)
+        × Does Offline asked old new status)
+        ⊎ ((asked : Rehearsal) × IsRequest words (rehearsal asked)
+        × Rehearsed Says asked old.input new.input old.output new.output status
+        × Unfetched × Offline)

@@ -3,7 +3,7 @@
 ghost use Rattle.std.specs.Prelude.{◌≡◌, ◌≤◌, length, vec_len, IfOk};
 ghost use Rattle.io_edges.specs.Puts.{Puts};
 ghost use Rattle.nbfx_values.specs.QuotasOf.{limits_of};
-ghost use Rattle.stream_loop.specs.Edges.{input_at, output_at};
+ghost use Rattle.stream_loop.specs.Edges.{input_at};
 ghost use Rattle.command_words.specs.Asking.{opening_of};
 ghost use Rattle.dump_replay.specs.Building.{Builds, preamble_of, status_of_building};
 
@@ -15,7 +15,7 @@ use nbfx_values::Quotas;
 use nmf_records::record_types::END;
 use static_dictionary::StaticTable;
 use std::alloc::Global;
-use stream_loop::{Ending, Reporter, report_stream};
+use stream_loop::{ReportEnding, Reporter, report_stream};
 use unit_streams::Memory;
 
 /// Writes envelopes as they are, and an End record at last.
@@ -79,19 +79,18 @@ pub fn build_input<I: Source, O: Sink>(
     quotas: Quotas,
     input: &mut I,
     output: O,
-) -> (Ending<InputFault>, O)
+) -> (ReportEnding<InputFault>, O)
     requires { length wanted.via.now ≤ 2048 }
     ensures { Builds (opening_of wanted.entry) statics.now (limits_of quotas)
         (input_at I.left I.taken I.faults I.empty_takes input.old)
-        (input_at I.left I.taken I.faults I.empty_takes input.new)
-        (output_at O.written O.held O.faults output)
-        (output_at O.written O.held O.faults result.1) result.0 }
+        (input_at I.left I.taken I.faults I.empty_takes input.new) (O.view output) (O.view result.1)
+        result.0 }
 {
     let Ok(bytes) = preamble(alloc, wanted) else {
-        return (Ending::Memory, output);
+        return (ReportEnding::Memory, output);
     };
     let Ok(room) = gathering_room(alloc) else {
-        return (Ending::Memory, output);
+        return (ReportEnding::Memory, output);
     };
     let mut reader = DocumentReader::new(alloc, statics, quotas, wanted.kind, wanted.mode);
     let mut gathered = holding(&bytes, room, output);
@@ -106,16 +105,16 @@ pub fn build_input<I: Source, O: Sink>(
 }
 
 /// The status of a run that ends so.
-pub fn build_status(ending: Ending<InputFault>) -> u8
+pub fn build_status(ending: ReportEnding<InputFault>) -> u8
     ensures { result ≡ status_of_building ending }
 {
     match ending {
-        Ending::Judged(None) => 0,
-        Ending::Judged(Some(InputFault::Line { .. })) => 6,
-        Ending::Judged(Some(InputFault::Unfit { .. })) => 7,
-        Ending::Judged(Some(InputFault::TooLong)) => 10,
-        Ending::ReadFault => 3,
-        Ending::WriteFault => 4,
-        Ending::Memory => 5,
+        ReportEnding::Judged(None) => 0,
+        ReportEnding::Judged(Some(InputFault::Line { .. })) => 6,
+        ReportEnding::Judged(Some(InputFault::Unfit { .. })) => 7,
+        ReportEnding::Judged(Some(InputFault::TooLong)) => 10,
+        ReportEnding::ReadFault => 3,
+        ReportEnding::WriteFault => 4,
+        ReportEnding::Memory => 5,
     }
 }

@@ -3,7 +3,7 @@
 ghost use Rattle.std.specs.Prelude.{◌≡◌, ◌≤◌, ◌<◌, ◌⊎◌, ◌^◌, [], length, IfErr, IfOk, IsErrOf, Err, Some};
 ghost use Rattle.io_edges.specs.Faults.{CountsFaults, Rose};
 ghost use Rattle.nbfx_values.specs.QuotasOf.{limits_of};
-ghost use Rattle.stream_loop.specs.Edges.{input_at, output_at};
+ghost use Rattle.stream_loop.specs.Edges.{input_at};
 ghost use Rattle.document_lines.specs.Files.{Answers};
 ghost use Rattle.io_edges.specs.Wires.{network_at};
 ghost use Rattle.command_words.specs.Asking.{opening_of};
@@ -15,14 +15,16 @@ ghost use Rattle.dump_replay.specs.Running.{CountsWire, HasFetched, if_named};
 
 use crate::building::build_status;
 use crate::notes::{note_building, note_called, note_documents};
-use client::{CallSettings, EnvelopeKeeper, call_place};
+use client::{CallSettings, call_place};
 use command_words::Opening;
-use document_lines::{FileFault, InputFault, ListFault, fetch_documents, take_documents};
+use document_lines::{DocumentsFault, InputFault, ListFault, fetch_documents, take_documents};
 use io_edges::{Shelf, Sink, Source, Wire};
 use nbfx_values::{Docs, Quotas};
 use static_dictionary::StaticTable;
 use std::alloc::Global;
-use stream_loop::Ending;
+use std::sync::Wait;
+use std::thread::Threads;
+use stream_loop::ReportEnding;
 
 /// A file of documents that isn't read, and why.
 #[derive(Clone, Copy, Debug)]
@@ -30,7 +32,7 @@ pub struct UnreadDocuments<'w> {
     /// The name that the arguments give.
     pub name: &'w str,
     /// Why it isn't read.
-    pub fault: FileFault,
+    pub fault: DocumentsFault,
 }
 
 // The documents of the file that is named, or none.
@@ -57,23 +59,24 @@ fn second_in<'w, F: Shelf>(
     }
 }
 
-fn list_ending(fault: ListFault) -> Ending<InputFault>
+fn list_ending(fault: ListFault) -> ReportEnding<InputFault>
     ensures { result ≡ ending_of_list fault }
 {
     match fault {
-        ListFault::Refused(fault) => Ending::Judged(Some(fault)),
-        ListFault::ReadFault => Ending::ReadFault,
-        ListFault::Memory => Ending::Memory,
+        ListFault::Refused(fault) => ReportEnding::Judged(Some(fault)),
+        ListFault::ReadFault => ReportEnding::ReadFault,
+        ListFault::Memory => ReportEnding::Memory,
     }
 }
 
-// Calls the place with the documents that the input gives and then these, and writes the note. If
+// Calls the place with the documents that the input gives and with these, and writes the note. If
 // the input's aren't read, no connection is asked for.
-fn call_with<I: Source, O: Sink, N: Sink, W: Wire>(
+fn call_with<R: Threads + Wait + Sync, I: Source, O: Sink + Drop, N: Sink, W: Wire>(
+    rt: &R,
     alloc: Global,
     place: &str,
     opening: Opening<'_>,
-    second: Docs,
+    second: &Docs,
     statics: &StaticTable,
     quotas: Quotas,
     input: &mut I,
@@ -83,31 +86,20 @@ fn call_with<I: Source, O: Sink, N: Sink, W: Wire>(
 ) -> (u8, O)
     requires room { W.out wire.old < 2 ^ 63 }
     requires via { length opening.via.now ≤ 2048 }
-    ensures calls { CalledOrNot
-        (λ text. Notes N.written N.held N.faults N.may_want notes.old notes.new text
+    ensures calls { CalledOrNot (λ text. Notes (N.view notes.old) (N.view notes.new) text
         × (text ≡ [] → notes.new ≡ notes.old)) (limits_of quotas)
         (input_at I.left I.taken I.faults I.empty_takes input.old)
-        (input_at I.left I.taken I.faults I.empty_takes input.new)
-        (output_at O.written O.held O.faults output)
-        (output_at O.written O.held O.faults result.1) result.0
-        (input_at W.Reader.left W.Reader.taken W.Reader.faults W.Reader.empty_takes)
-        (output_at W.Writer.written W.Writer.held W.Writer.faults)
-        (opening_of opening.entry) statics.now second
+        (input_at I.left I.taken I.faults I.empty_takes input.new) (O.view output) (O.view result.1)
+        result.0 (input_at W.Reader.left W.Reader.taken W.Reader.faults W.Reader.empty_takes)
+        W.Writer.view (opening_of opening.entry) statics.now second.now
         (network_at W.waiting W.closed W.out W.faults W.end_faults wire.old)
         (network_at W.waiting W.closed W.out W.faults W.end_faults wire.new) }
     ensures wire_fault { CountsWire (W.faults wire.old) (W.faults wire.new)
         (W.end_faults wire.old) (W.end_faults wire.new) result.0 }
     ensures out { W.out wire.new ≡ W.out wire.old }
-    ensures notes_faults { N.faults notes.old ≤ N.faults notes.new }
+    ensures notes_faults { (N.view notes.old).faults ≤ (N.view notes.new).faults }
 {
-    let settings = CallSettings {
-        statics,
-        quotas,
-        mode: opening.mode,
-        kind: opening.kind,
-    };
-    let keeper = EnvelopeKeeper::new(alloc, settings);
-    let first = match take_documents(alloc, &quotas, keeper, input) {
+    let first = match take_documents(alloc, &quotas, Docs::new(alloc), input) {
         Ok(first) => first,
         Err(fault) => {
             let ending = list_ending(fault);
@@ -115,16 +107,34 @@ fn call_with<I: Source, O: Sink, N: Sink, W: Wire>(
             return (build_status(ending), output);
         }
     };
-    let (called, output) = call_place(alloc, wire, place, opening.via, first, second, output);
+    let settings = CallSettings {
+        statics,
+        quotas,
+        mode: opening.mode,
+        kind: opening.kind,
+    };
+    let (called, output) = call_place(
+        rt,
+        alloc,
+        wire,
+        place,
+        opening.via,
+        settings,
+        &first,
+        second,
+        output,
+    );
     note_called(called, notes);
     (called.status(), output)
 }
 
-/// Calls the place with the documents that the input gives and those of the second file after them,
-/// and writes the report of what the peer sends to the output, with a line of what was sent. The
-/// note says why that isn't done. Where documents aren't read, no connection is asked for, and
-/// where those of the second file aren't, the input isn't read. Answers the status with the output.
-pub fn call_peer<F: Shelf, I: Source, O: Sink, N: Sink, W: Wire>(
+/// Calls the place with the documents that the input gives and those of the second file, each list
+/// in order, beside each other on one session, and writes the report of what the peer sends to the
+/// output, with a line of what was sent. The note says why that isn't done. Where documents aren't
+/// read, no connection is asked for, and where those of the second file aren't, the input isn't
+/// read. Answers the status with the output.
+pub fn call_peer<R: Threads + Wait + Sync, F: Shelf, I: Source, O: Sink + Drop, N: Sink, W: Wire>(
+    rt: &R,
     alloc: Global,
     place: &str,
     opening: Opening<'_>,
@@ -139,20 +149,15 @@ pub fn call_peer<F: Shelf, I: Source, O: Sink, N: Sink, W: Wire>(
 ) -> (u8, O)
     requires room { W.out wire.old < 2 ^ 63 }
     requires via { length opening.via.now ≤ 2048 }
-    ensures calls { CalledFor
-        (λ text. Notes N.written N.held N.faults N.may_want notes.old notes.new text
+    ensures calls { CalledFor (λ text. Notes (N.view notes.old) (N.view notes.new) text
         × (text ≡ [] → notes.new ≡ notes.old)) (F.files shelf.old) (text_behind named.entry)
-        (limits_of quotas)
-        (input_at I.left I.taken I.faults I.empty_takes input.old)
-        (input_at I.left I.taken I.faults I.empty_takes input.new)
-        (output_at O.written O.held O.faults output)
-        (output_at O.written O.held O.faults result.1) result.0
-        (input_at W.Reader.left W.Reader.taken W.Reader.faults W.Reader.empty_takes)
-        (output_at W.Writer.written W.Writer.held W.Writer.faults)
-        (opening_of opening.entry) statics.now
+        (limits_of quotas) (input_at I.left I.taken I.faults I.empty_takes input.old)
+        (input_at I.left I.taken I.faults I.empty_takes input.new) (O.view output) (O.view result.1)
+        result.0 (input_at W.Reader.left W.Reader.taken W.Reader.faults W.Reader.empty_takes)
+        W.Writer.view (opening_of opening.entry) statics.now
         (network_at W.waiting W.closed W.out W.faults W.end_faults wire.old)
         (network_at W.waiting W.closed W.out W.faults W.end_faults wire.new)
-        ⊎ HasNoSecond (λ text. Notes N.written N.held N.faults N.may_want notes.old notes.new text
+        ⊎ HasNoSecond (λ text. Notes (N.view notes.old) (N.view notes.new) text
         × (text ≡ [] → notes.new ≡ notes.old))
         ((input.new ≡ input.old) × (result.1 ≡ output) × (wire.new ≡ wire.old))
         (text_behind named.entry) (shelf_at F.files F.faults shelf.old)
@@ -165,11 +170,11 @@ pub fn call_peer<F: Shelf, I: Source, O: Sink, N: Sink, W: Wire>(
     ensures wire_fault { CountsWire (W.faults wire.old) (W.faults wire.new)
         (W.end_faults wire.old) (W.end_faults wire.new) result.0 }
     ensures out { W.out wire.new ≡ W.out wire.old }
-    ensures notes_faults { N.faults notes.old ≤ N.faults notes.new }
+    ensures notes_faults { (N.view notes.old).faults ≤ (N.view notes.new).faults }
 {
     match second_in(alloc, named, shelf) {
         Ok(second) => call_with(
-            alloc, place, opening, second, statics, quotas, input, output, notes, wire,
+            rt, alloc, place, opening, &second, statics, quotas, input, output, notes, wire,
         ),
         Err(unread) => (note_documents(unread.name, unread.fault, notes), output),
     }

@@ -2,7 +2,6 @@
 
 ghost use Rattle.std.specs.Prelude.{◌≡◌, []};
 ghost use Rattle.nbfx_values.specs.QuotasOf.{limits_of};
-ghost use Rattle.stream_loop.specs.Edges.{output_at};
 ghost use Rattle.dump_replay.specs.Generating.{Generated};
 ghost use Rattle.dump_replay.specs.Noting.{Notes};
 
@@ -24,10 +23,9 @@ pub fn generate_session<O: Sink, N: Sink>(
     output: O,
     notes: &mut N,
 ) -> (u8, O)
-    ensures { Generated (λ text. Notes N.written N.held N.faults N.may_want notes.old notes.new text
+    ensures { Generated (λ text. Notes (N.view notes.old) (N.view notes.new) text
         × (text ≡ [] → notes.new ≡ notes.old)) seed count statics.now (limits_of quotas)
-        (output_at O.written O.held O.faults output)
-        (output_at O.written O.held O.faults result.1) result.0 }
+        (O.view output) (O.view result.1) result.0 }
 {
     let (summary, output) = summarize(alloc, statics, &quotas, seed, count, output);
     note_summary(summary, notes);

@@ -4,6 +4,7 @@
 
 ghost use Rattle.dump_replay.specs.Laws.{BuildsAreComplete, BuiltAreSessions, UnfitHasACause};
 ghost use Rattle.dump_replay.specs.Order.{ZeroInOrder};
+ghost use Rattle.dump_replay.specs.Rehearsing.{ZeroInForm, ZeroIsPlayedWhole};
 
 /// What is written of lines of documents that aren't refused is a session of just these documents,
 /// for any reader that has the same static strings, serves the Via, and has quotas as great and a
@@ -27,8 +28,17 @@ pub fn unfit_documents()
     ensures { UnfitHasACause }
 {}
 
-/// The status that [`crate::run::run`] ends with, if nothing of the outside fails and memory
-/// suffices, is 0 exactly if all is in order: the files are read, the stream is a valid session
+/// The status of a history, if nothing of the outside fails and memory suffices, is 0 exactly if
+/// the history is in form: each line says an event and ends with a line feed, and there are fewer
+/// than 2^30 bytes. A run that ends with 0 wrote a line for each body that those events deliver, in
+/// their order, and the counts behind all of them.
+pub fn complete_rehearsals()
+    ensures in_form { ZeroInForm }
+    ensures played { ZeroIsPlayedWhole }
+{}
+
+/// The status that [`crate::run::run`] ends with for a command on sessions, if nothing of the
+/// outside fails and memory suffices, is 0 exactly if all is in order: the files are read, the stream is a valid session
 /// without a Fault at its end, and the documents are read and fit, as many as their mode takes.
 pub fn complete_runs()
     ensures { ZeroInOrder }

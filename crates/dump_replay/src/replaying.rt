@@ -3,7 +3,7 @@
 ghost use Rattle.std.specs.Prelude.{◌≡◌, ◌≤◌, ◌⊎◌, [], Option};
 ghost use Rattle.io_edges.specs.Store.{Store};
 ghost use Rattle.nbfx_values.specs.QuotasOf.{limits_of};
-ghost use Rattle.stream_loop.specs.Edges.{input_at, output_at};
+ghost use Rattle.stream_loop.specs.Edges.{input_at};
 ghost use Rattle.command_words.specs.Asking.{serving_of};
 ghost use Rattle.dump_replay.specs.Answering.{Answered, IsAskedFor, status_of_inbound, status_of_replay, status_of_write_fault};
 ghost use Rattle.dump_replay.specs.Noting.{Notes};
@@ -20,6 +20,8 @@ use io_edges::{Shelf, Sink, Source};
 use nbfx_values::Quotas;
 use static_dictionary::StaticTable;
 use std::alloc::Global;
+use std::sync::Wait;
+use std::thread::Threads;
 
 fn inbound_status(inbound: Inbound) -> u8
     ensures { result ≡ status_of_inbound inbound }
@@ -54,59 +56,63 @@ fn replay_status(replayed: Replayed) -> u8
 }
 
 // Answers the initiator's stream that the input gives, by this service, and writes the note.
-fn answer_input<I: Source, O: Sink, N: Sink>(
+fn answer_input<R: Threads + Wait + Sync, I: Source + Drop, O: Sink + Send + Drop, N: Sink>(
+    rt: &R,
     alloc: Global,
     serving: Serving<'_>,
     responder: &Responder,
     statics: &StaticTable,
     quotas: Quotas,
-    input: &mut I,
+    input: I,
     output: O,
     notes: &mut N,
-) -> (u8, O)
+) -> (u8, I, O)
     ensures { (files : Option Store)
         → IsAskedFor files (serving_of serving.entry).actions responder.now
-        → Answered (λ text. Notes N.written N.held N.faults N.may_want notes.old notes.new text
+        → Answered (λ text. Notes (N.view notes.old) (N.view notes.new) text
         × (text ≡ [] → notes.new ≡ notes.old)) files (serving_of serving.entry) statics.now
-        (limits_of quotas)
-        (input_at I.left I.taken I.faults I.empty_takes input.old)
-        (input_at I.left I.taken I.faults I.empty_takes input.new)
-        (output_at O.written O.held O.faults output)
-        (output_at O.written O.held O.faults result.1) result.0 }
+        (limits_of quotas) (input_at I.left I.taken I.faults I.empty_takes input)
+        (input_at I.left I.taken I.faults I.empty_takes result.1) (O.view output) (O.view result.2)
+        result.0 }
 {
     let Ok(endpoint) = endpoint_in(alloc, serving) else {
         note_status(5, notes);
-        return (5, output);
+        return (5, input, output);
     };
-    let (replayed, output) = replay_stream(
-        alloc, &endpoint, responder, statics, &quotas, input, output,
+    let (replayed, input, output) = replay_stream(
+        rt, alloc, &endpoint, responder, statics, &quotas, input, output,
     );
     note_replay(replayed, notes);
-    (replay_status(replayed), output)
+    (replay_status(replayed), input, output)
 }
 
 /// Answers the initiator's stream that the input gives, by the service that is asked for, and
 /// writes the note. If that service's file isn't read, the stream isn't either, and the note says
-/// why. Answers the status, with the output.
-pub fn replay_input<F: Shelf, I: Source, O: Sink, N: Sink>(
+/// why. Answers the status, with the input and the output.
+pub fn replay_input<
+    R: Threads + Wait + Sync,
+    F: Shelf,
+    I: Source + Drop,
+    O: Sink + Send + Drop,
+    N: Sink,
+>(
+    rt: &R,
     alloc: Global,
     serving: Serving<'_>,
     statics: &StaticTable,
     quotas: Quotas,
     shelf: &mut F,
-    input: &mut I,
+    input: I,
     output: O,
     notes: &mut N,
-) -> (u8, O)
-    ensures answers { Answered (λ text. Notes N.written N.held N.faults N.may_want notes.old notes.new text
+) -> (u8, I, O)
+    ensures answers { Answered (λ text. Notes (N.view notes.old) (N.view notes.new) text
         × (text ≡ [] → notes.new ≡ notes.old)) (F.files shelf.old) (serving_of serving.entry)
-        statics.now (limits_of quotas)
-        (input_at I.left I.taken I.faults I.empty_takes input.old)
-        (input_at I.left I.taken I.faults I.empty_takes input.new)
-        (output_at O.written O.held O.faults output)
-        (output_at O.written O.held O.faults result.1) result.0
-        ⊎ HasNoActions (λ text. Notes N.written N.held N.faults N.may_want notes.old notes.new text
-        × (text ≡ [] → notes.new ≡ notes.old)) ((input.new ≡ input.old) × (result.1 ≡ output))
+        statics.now (limits_of quotas) (input_at I.left I.taken I.faults I.empty_takes input)
+        (input_at I.left I.taken I.faults I.empty_takes result.1) (O.view output) (O.view result.2)
+        result.0
+        ⊎ HasNoActions (λ text. Notes (N.view notes.old) (N.view notes.new) text
+        × (text ≡ [] → notes.new ≡ notes.old)) ((result.1 ≡ input) × (result.2 ≡ output))
         (serving_of serving.entry) (shelf_at F.files F.faults shelf.old)
         (shelf_at F.files F.faults shelf.new) result.0 }
     ensures kept { F.files shelf.new ≡ F.files shelf.old }
@@ -117,8 +123,8 @@ pub fn replay_input<F: Shelf, I: Source, O: Sink, N: Sink>(
 {
     match responder_in(alloc, serving, shelf) {
         Ok(responder) => answer_input(
-            alloc, serving, &responder, statics, quotas, input, output, notes,
+            rt, alloc, serving, &responder, statics, quotas, input, output, notes,
         ),
-        Err(unread) => (note_file(unread.name, unread.fault, notes), output),
+        Err(unread) => (note_file(unread.name, unread.fault, notes), input, output),
     }
 }

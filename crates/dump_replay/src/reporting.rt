@@ -2,7 +2,7 @@
 
 ghost use Rattle.std.specs.Prelude.{◌≡◌};
 ghost use Rattle.nbfx_values.specs.QuotasOf.{limits_of};
-ghost use Rattle.stream_loop.specs.Edges.{input_at, output_at};
+ghost use Rattle.stream_loop.specs.Edges.{input_at};
 ghost use Rattle.stream_reader.specs.Sides.{side_of};
 ghost use Rattle.dump_replay.specs.Statuses.{status_at};
 ghost use Rattle.dump_replay.specs.Reporting.{Reports};
@@ -15,7 +15,7 @@ use nbfx_values::{Offence, Quotas, Reason};
 use session_report::{LineReporter, Outcome, StreamEnd};
 use static_dictionary::StaticTable;
 use std::alloc::Global;
-use stream_loop::{Ending, report_stream};
+use stream_loop::{ReportEnding, report_stream};
 use stream_reader::{Endpoint, Side};
 
 // Whose stream is read. Where it is an initiator's, any Via is served.
@@ -38,18 +38,18 @@ pub fn offence_status(offence: Offence) -> u8
     }
 }
 
-fn status(ending: Ending<Offence>, outcome: Outcome) -> u8
+fn status(ending: ReportEnding<Offence>, outcome: Outcome) -> u8
     ensures { result ≡ status_at ending outcome }
 {
     match ending {
-        Ending::Judged(Some(offence)) => offence_status(offence),
-        Ending::Judged(None) => match outcome {
+        ReportEnding::Judged(Some(offence)) => offence_status(offence),
+        ReportEnding::Judged(None) => match outcome {
             Outcome::Faulted => 9,
             Outcome::Open | Outcome::Ended => 0,
         },
-        Ending::ReadFault => 3,
-        Ending::WriteFault => 4,
-        Ending::Memory => 5,
+        ReportEnding::ReadFault => 3,
+        ReportEnding::WriteFault => 4,
+        ReportEnding::Memory => 5,
     }
 }
 
@@ -66,9 +66,8 @@ pub fn report_input<I: Source, O: Sink>(
 ) -> (u8, O)
     ensures { Reports detail (settings_for origin statics.now (limits_of quotas))
         (input_at I.left I.taken I.faults I.empty_takes input.old)
-        (input_at I.left I.taken I.faults I.empty_takes input.new)
-        (output_at O.written O.held O.faults output)
-        (output_at O.written O.held O.faults result.1) result.0 }
+        (input_at I.left I.taken I.faults I.empty_takes input.new) (O.view output) (O.view result.1)
+        result.0 }
 {
     let Ok(mut end) = StreamEnd::new(alloc, statics, quotas, side_of(origin)) else {
         return (5, output);

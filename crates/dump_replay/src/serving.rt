@@ -3,7 +3,7 @@
 ghost use Rattle.std.specs.Prelude.{◌≡◌, ◌≤◌, ◌<◌, ◌⊎◌, ◌^◌, []};
 ghost use Rattle.io_edges.specs.Faults.{CountsFaults, Rose};
 ghost use Rattle.nbfx_values.specs.QuotasOf.{limits_of};
-ghost use Rattle.stream_loop.specs.Edges.{Input, input_at, output_at};
+ghost use Rattle.stream_loop.specs.Edges.{Input, input_at};
 ghost use Rattle.io_edges.specs.Wires.{network_at};
 ghost use Rattle.command_words.specs.Asking.{serving_of};
 ghost use Rattle.dump_replay.specs.Noting.{Notes};
@@ -20,6 +20,8 @@ use io_edges::{Shelf, Sink, Wire};
 use nbfx_values::Quotas;
 use static_dictionary::StaticTable;
 use std::alloc::Global;
+use std::sync::Wait;
+use std::thread::Threads;
 
 // The status of a server that stopped so.
 fn stop_status(stop: Result<(), ServeFault>) -> u8
@@ -37,7 +39,8 @@ fn stop_status(stop: Result<(), ServeFault>) -> u8
 /// service that is asked for, and writes the line of each to the output. If that service's file
 /// isn't read, no connection is asked for. The note says why it stopped early. Answers the status,
 /// with the output.
-pub fn serve_wire<F: Shelf, O: Sink, N: Sink, W: Wire>(
+pub fn serve_wire<R: Threads + Wait + Sync, F: Shelf, O: Sink, N: Sink, W: Wire>(
+    rt: &R,
     alloc: Global,
     listen: &str,
     connections: u32,
@@ -50,19 +53,15 @@ pub fn serve_wire<F: Shelf, O: Sink, N: Sink, W: Wire>(
     wire: &mut W,
 ) -> (u8, O)
     requires { W.out wire.old < 2 ^ 63 }
-    ensures answers { (i : Input) →
-        AnsweredAll (λ text. Notes N.written N.held N.faults N.may_want notes.old notes.new text
-        × (text ≡ [] → notes.new ≡ notes.old))
-        (input_at W.Reader.left W.Reader.taken W.Reader.faults W.Reader.empty_takes)
-        (output_at W.Writer.written W.Writer.held W.Writer.faults) connections
-        (serving_of serving.entry) statics.now (limits_of quotas)
-        (seen (shelf_at F.files F.faults shelf.old) i
-        (output_at O.written O.held O.faults output)
-        (network_at W.waiting W.closed W.out W.faults W.end_faults wire.old))
-        (seen (shelf_at F.files F.faults shelf.new) i
-        (output_at O.written O.held O.faults result.1)
+    ensures answers { (i : Input) → AnsweredAll
+        (λ text. Notes (N.view notes.old) (N.view notes.new) text
+        × (text ≡ [] → notes.new ≡ notes.old)) (input_at W.Reader.left W.Reader.taken
+        W.Reader.faults W.Reader.empty_takes) W.Writer.view connections (serving_of serving.entry)
+        statics.now (limits_of quotas) (seen (shelf_at F.files F.faults shelf.old) i (O.view output)
+        (network_at W.waiting W.closed W.out W.faults W.end_faults wire.old)) (seen
+        (shelf_at F.files F.faults shelf.new) i (O.view result.1)
         (network_at W.waiting W.closed W.out W.faults W.end_faults wire.new)) result.0
-        ⊎ HasNoActions (λ text. Notes N.written N.held N.faults N.may_want notes.old notes.new text
+        ⊎ HasNoActions (λ text. Notes (N.view notes.old) (N.view notes.new) text
         × (text ≡ [] → notes.new ≡ notes.old)) ((result.1 ≡ output) × (wire.new ≡ wire.old))
         (serving_of serving.entry) (shelf_at F.files F.faults shelf.old)
         (shelf_at F.files F.faults shelf.new) result.0 }
@@ -88,7 +87,7 @@ pub fn serve_wire<F: Shelf, O: Sink, N: Sink, W: Wire>(
         endpoint: &endpoint,
         service: &responder,
     };
-    let (stop, output) = serve_connections(alloc, &server, wire, listen, connections, output);
+    let (stop, output) = serve_connections(rt, alloc, &server, wire, listen, connections, output);
     let status = stop_status(stop);
     note_status(status, notes);
     (status, output)

@@ -2,7 +2,7 @@
 
 ghost use Rattle.std.specs.Prelude.{◌≡◌, ◌≤◌, ◌<◌, ◌^◌, []};
 ghost use Rattle.nbfx_values.specs.QuotasOf.{limits_of};
-ghost use Rattle.stream_loop.specs.Edges.{input_at, output_at};
+ghost use Rattle.stream_loop.specs.Edges.{input_at};
 ghost use Rattle.io_edges.specs.Wires.{network_at};
 ghost use Rattle.command_words.specs.Asking.{task_of};
 ghost use Rattle.dump_replay.specs.Noting.{Notes};
@@ -22,37 +22,45 @@ use io_edges::{Shelf, Sink, Source, Wire};
 use nbfx_values::Quotas;
 use static_dictionary::StaticTable;
 use std::alloc::Global;
+use std::sync::Wait;
+use std::thread::Threads;
 
 /// Does a task with these static strings and quotas, and writes the note of how it ended. Answers
-/// the status, with the output.
-pub fn work<F: Shelf, I: Source, O: Sink, N: Sink, W: Wire>(
+/// the status, with the input and the output.
+pub fn work<
+    R: Threads + Wait + Sync,
+    F: Shelf,
+    I: Source + Drop,
+    O: Sink + Send + Drop,
+    N: Sink,
+    W: Wire,
+>(
+    rt: &R,
     alloc: Global,
     task: Task<'_>,
     statics: &StaticTable,
     quotas: Quotas,
     shelf: &mut F,
-    input: &mut I,
+    mut input: I,
     output: O,
     notes: &mut N,
     wire: &mut W,
-) -> (u8, O)
+) -> (u8, I, O)
     requires possible { IsPossible (task_of task) }
     requires room { W.out wire.old < 2 ^ 63 }
     ensures leaves { Across (shelf_at F.files F.faults)
-        (input_at I.left I.taken I.faults I.empty_takes) (output_at O.written O.held O.faults)
-        (network_at W.waiting W.closed W.out W.faults W.end_faults)
-        shelf.old input.old output wire.old shelf.new input.new result.1 wire.new
+        (input_at I.left I.taken I.faults I.empty_takes) O.view
+        (network_at W.waiting W.closed W.out W.faults W.end_faults) shelf.old input output
+        wire.old shelf.new result.1 result.2 wire.new
         (λ before after. Leaves before after result.0) }
     ensures works { Across (shelf_at F.files F.faults)
-        (input_at I.left I.taken I.faults I.empty_takes) (output_at O.written O.held O.faults)
-        (network_at W.waiting W.closed W.out W.faults W.end_faults)
-        shelf.old input.old output wire.old shelf.new input.new result.1 wire.new
-        (λ before after. Works
-        (λ text. Notes N.written N.held N.faults N.may_want notes.old notes.new text
+        (input_at I.left I.taken I.faults I.empty_takes) O.view
+        (network_at W.waiting W.closed W.out W.faults W.end_faults) shelf.old input output
+        wire.old shelf.new result.1 result.2 wire.new (λ before after. Works
+        (λ text. Notes (N.view notes.old) (N.view notes.new) text
         × (text ≡ [] → notes.new ≡ notes.old))
-        ((input.new ≡ input.old) × (result.1 ≡ output) × (wire.new ≡ wire.old))
-        (input_at W.Reader.left W.Reader.taken W.Reader.faults W.Reader.empty_takes)
-        (output_at W.Writer.written W.Writer.held W.Writer.faults)
+        ((result.1 ≡ input) × (result.2 ≡ output) × (wire.new ≡ wire.old)) (input_at
+        W.Reader.left W.Reader.taken W.Reader.faults W.Reader.empty_takes) W.Writer.view
         (task_of task.entry) statics.now (limits_of quotas) before after result.0) }
     ensures offline { WhereOffline (task_of task.entry) (wire.new ≡ wire.old) }
     ensures wire_fault { CountsWire (W.faults wire.old) (W.faults wire.new)
@@ -63,49 +71,60 @@ pub fn work<F: Shelf, I: Source, O: Sink, N: Sink, W: Wire>(
         (F.fetches shelf.new) }
     ensures shelf_faults { F.faults shelf.old ≤ F.faults shelf.new }
     ensures shelf_well { (result.0 ≡ 3 → ⊥) → F.faults shelf.new ≡ F.faults shelf.old }
-    ensures notes_faults { N.faults notes.old ≤ N.faults notes.new }
+    ensures notes_faults { (N.view notes.old).faults ≤ (N.view notes.new).faults }
 {
     match task {
         Task::Report { detail, origin } => {
             let (status, output) = report_input(
-                alloc, detail, origin, statics, quotas, input, output,
+                alloc, detail, origin, statics, quotas, &mut input, output,
             );
             note_status(status, notes);
-            (status, output)
+            (status, input, output)
         }
         Task::Build(opening) => {
-            let (ending, output) = build_input(alloc, opening, statics, quotas, input, output);
+            let (ending, output) = build_input(alloc, opening, statics, quotas, &mut input, output);
             note_building(ending, notes);
-            (build_status(ending), output)
+            (build_status(ending), input, output)
         }
         Task::Replay(serving) => replay_input(
-            alloc, serving, statics, quotas, shelf, input, output, notes,
+            rt, alloc, serving, statics, quotas, shelf, input, output, notes,
         ),
         Task::Serve {
             listen,
             connections,
             serving,
-        } => serve_wire(
-            alloc,
-            listen,
-            connections,
-            serving,
-            statics,
-            quotas,
-            shelf,
-            output,
-            notes,
-            wire,
-        ),
+        } => {
+            let (status, output) = serve_wire(
+                rt,
+                alloc,
+                listen,
+                connections,
+                serving,
+                statics,
+                quotas,
+                shelf,
+                output,
+                notes,
+                wire,
+            );
+            (status, input, output)
+        }
         Task::Call {
             connect,
             opening,
             second,
-        } => call_peer(
-            alloc, connect, opening, second, statics, quotas, shelf, input, output, notes, wire,
-        ),
+        } => {
+            let (status, output) = call_peer(
+                rt, alloc, connect, opening, second, statics, quotas, shelf, &mut input, output,
+                notes, wire,
+            );
+            (status, input, output)
+        }
         Task::Generate { seed, count } => {
-            generate_session(alloc, seed, count, statics, quotas, output, notes)
+            let (status, output) = generate_session(
+                alloc, seed, count, statics, quotas, output, notes,
+            );
+            (status, input, output)
         }
     }
 }

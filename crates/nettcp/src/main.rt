@@ -64,6 +64,7 @@ fn main(rt: HostRuntime) -> ExitCode {
     let mut shelf = FileShelf::new(rt);
     let mut wire = TcpWire::new(rt);
     let ran = run(
+        &rt,
         rt.alloc(),
         &words,
         &mut shelf,

@@ -1,4 +1,4 @@
-use Rattle.std.proofs.Common.{◌∙◌, subst}
+use Rattle.std.proofs.Common.{sym, ap, ◌∙◌, subst}
 use Rattle.{nbfx_values.specs.QuotasOf.limits_of, stream_loop.specs.Reported.EndsAs}
 use Rattle.document_lines.specs.DocumentReaderState.{has_good_quotas, settings_of}
 use Rattle.document_lines.specs.Input.{envelopes_and_end, lines_of_documents, Settings}
@@ -6,6 +6,7 @@ use Rattle.command_words.specs.{Asking.opening_of, Tasks.Opening}
 use Rattle.dump_replay.specs.Building.{preamble_of, with_preamble}
 use Rattle.dump_replay.proofs.{Beginnings.ends_behind, Seen.input_by, Seen.output_by}
 use Rattle.dump_replay.proofs.BuildEndings.{lines_end_within, unbegun}
+use Rattle.io_edges.specs.Views.{SinkView}
 use Rattle.dump_replay.proofs.building.build_input.Goals as goal
 
 pub returns-in_default : goal.returns-in_default
@@ -34,13 +35,18 @@ returns g c =
     let o = output_by g.O.Sink c.args.output in
     let o' = output_by g.O.Sink c.into_sink.result in
     let ending = c.report_stream-ending.result in
-    let beneath = ends_behind (lines_of_documents (settings_of c.new-reader.result))
-    envelopes_and_end g.O.Sink.written g.O.Sink.held g.O.Sink.faults i i' tt ending
-    (preamble_of opening) c.args.output
-    c.holding-gathered.result.sink c.report_stream-ending.new.output.sink c.into_sink.result
-    c.holding-gathered.result.gathered _ c.holding-gathered.ensures.sink
+    let first = c.holding-gathered.result in
+    let last = c.report_stream-ending.new.output in
+    let view = g.O.Sink.view in
+    let lines = lines_of_documents (settings_of c.new-reader.result) in
+    let beneath = ends_behind lines envelopes_and_end i i' (view first.sink) (view last.sink)
+    first.gathered last.gathered tt ending (preamble_of opening)
     (c.holding-gathered.ensures.gathered ∙ c.deref.ensures.value ∙ c.in-Ok.ensures.bytes)
-    c.into_sink.ensures
     c.report_stream-ending.ensures.reported in
+    let given = subst (λ (k : SinkView). EndsAs lines envelopes_and_end i i'
+    (with_preamble opening (view first.sink)) k tt ending)
+    (sym (ap view c.into_sink.ensures)) beneath in
+    let began = subst (λ (k : SinkView). EndsAs lines envelopes_and_end i i'
+    (with_preamble opening k) o' tt ending) (ap view c.holding-gathered.ensures.sink) given in
     subst (λ (s : Settings). EndsAs (lines_of_documents s) envelopes_and_end i i'
-    (with_preamble opening o) o' tt ending) c.new-reader.ensures.settings beneath
+    (with_preamble opening o) o' tt ending) c.new-reader.ensures.settings began

@@ -1,7 +1,7 @@
 use Rattle.std.proofs.Common.{ℕ, List, Option, refl, subst}
 use Rattle.{nbfx_values.specs.QuotasOf.limits_of, command_words.specs.Asking.serving_of}
 use Rattle.duplex_server.proofs.Outcomes.{unbegun_so}
-use Rattle.duplex_server.specs.{Owed.answering, Replaying.Replays, Responding.served_by}
+use Rattle.duplex_server.specs.{ServerStream.answering, Replaying.Replays, Responding.served_by}
 use Rattle.dump_replay.proofs.Seen.{input_by, output_by}
 use Rattle.stream_loop.specs.declared.outbound.Outbound.TheVariants as outbounds
 use Rattle.duplex_server.specs.declared.outcome.Inbound.TheVariants as inbounds
@@ -17,7 +17,7 @@ returns-in_default g c = λ files asked. record {
   status_is = refl;
   replays = unbegun_so (answering (served_by c.args.responder.now) c.args.statics.now
       (limits_of c.args.quotas)) (serving_of c.args.serving).endpoint
-      (input_by g.I.Source c.args.input.now)
+      (input_by g.I.Source c.args.input)
       (output_by g.O.Sink c.args.output)
       c.args.quotas.good;
   says = (c.note_status.ensures.notes, c.note_status.ensures.none);
@@ -27,16 +27,16 @@ pub returns : goal.returns
 returns g c = λ files asked. record {
   responder = c.args.responder.now;
   asked_for = asked;
-  inbound = c.replay_stream-output.result.0.inbound;
-  outbound = c.replay_stream-output.result.0.outbound;
+  inbound = c.replay_stream-input.result.0.inbound;
+  outbound = c.replay_stream-input.result.0.outbound;
   status_is = c.replay_status.ensures;
   replays = subst (λ (via : Option (List ℕ)). Replays (answering
       (served_by c.args.responder.now) c.args.statics.now (limits_of c.args.quotas)) via
-      (input_by g.I.Source c.args.input.now)
-      (input_by g.I.Source c.replay_stream-output.new.input)
+      (input_by g.I.Source c.args.input)
+      (input_by g.I.Source c.replay_stream-input.result.1)
       (output_by g.O.Sink c.args.output)
-      (output_by g.O.Sink c.replay_stream-output.result.1)
-      c.replay_stream-output.result.0.inbound c.replay_stream-output.result.0.outbound)
-      c.in-Ok.ensures c.replay_stream-output.ensures;
+      (output_by g.O.Sink c.replay_stream-input.result.2)
+      c.replay_stream-input.result.0.inbound c.replay_stream-input.result.0.outbound)
+      c.in-Ok.ensures c.replay_stream-input.ensures;
   says = (c.note_replay.ensures.notes, c.note_replay.ensures.none);
 }

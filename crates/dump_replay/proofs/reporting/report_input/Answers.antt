@@ -1,4 +1,4 @@
-use Rattle.std.proofs.Common.{ap, ◌∙◌, subst}
+use Rattle.std.proofs.Common.{sym, ap, ◌∙◌, subst}
 use Rattle.{unit_streams.specs.Tellers.Teller, stream_reader.specs.StreamReaderState.settings_of}
 use Rattle.nbfx_values.specs.{declared.refusals.Offence.Offence, QuotasOf.limits_of}
 use Rattle.stream_reader.specs.Stream.{ends, Settings, Side, stream, StreamEvent}
@@ -10,7 +10,8 @@ use Rattle.session_report.specs.Saying.{event_for, said_by}
 use Rattle.dump_replay.specs.Statics.{settings_for}
 use Rattle.dump_replay.proofs.Beginnings.{ends_under, not_begun}
 use Rattle.dump_replay.proofs.{Seen.input_by, Seen.output_by, Statuses.reports_by}
-use Rattle.stream_loop.specs.declared.reporting.Ending.TheVariants as endings
+use Rattle.stream_loop.specs.declared.reporting.ReportEnding.TheVariants as endings
+use Rattle.io_edges.specs.Views.{SinkView}
 use Rattle.dump_replay.proofs.reporting.report_input.Goals as goal
 
 pub returns-in_default : goal.returns-in_default
@@ -19,7 +20,7 @@ returns-in_default g c =
     let i = input_by g.I.Source c.args.input.now in
     let o = output_by g.O.Sink c.args.output in
     reports_by c.args.detail x c.args.quotas.good i i o o Open endings.Memory
-    (not_begun (stream x) (lines_of c.args.detail) i o ends x.limits.session
+    (not_begun (stream x) (lines_of c.args.detail) i o o.held ends x.limits.session
     (ends_within x c.args.quotas.good) Open)
 
 pub returns-in_default-gathering_room : goal.returns-in_default-gathering_room
@@ -28,7 +29,7 @@ returns-in_default-gathering_room g c =
     let i = input_by g.I.Source c.args.input.now in
     let o = output_by g.O.Sink c.args.output in
     reports_by c.args.detail x c.args.quotas.good i i o o Open endings.Memory
-    (not_begun (stream x) (lines_of c.args.detail) i o ends x.limits.session
+    (not_begun (stream x) (lines_of c.args.detail) i o o.held ends x.limits.session
     (ends_within x c.args.quotas.good) Open)
 
 pub report_stream-ending-requires-clause-ends : goal.report_stream-ending-requires-clause-ends
@@ -54,11 +55,17 @@ returns g c =
     let written = ap (λ (r : LineReporter). written_by event_for
     (said_by r.detail)) c.new-reporter.ensures
     ∙ lines_are c.args.detail in
-    let beneath = ends_under _ _ g.O.Sink.written g.O.Sink.held g.O.Sink.faults i i' end ending
-    c.args.output c.new-gathered.result.sink c.report_stream-ending.new.output.sink
-    c.into_sink.result
-    c.new-gathered.result.gathered _ c.new-gathered.ensures.sink c.new-gathered.ensures.nothing
-    c.into_sink.ensures c.report_stream-ending.ensures.reported in
+    let first = c.new-gathered.result in
+    let last = c.report_stream-ending.new.output in
+    let view = g.O.Sink.view in
+    let under = ends_under _ _ i i' (view first.sink) (view last.sink) first.gathered last.gathered
+    end ending c.new-gathered.ensures.nothing c.report_stream-ending.ensures.reported in
+    let given = subst (λ (k : SinkView). EndsAs (stream (settings_of c.in-Ok.end.reader))
+    (written_by event_for (said_by c.new-reporter.result.detail)) i i' (view first.sink) k end
+    ending) (sym (ap view c.into_sink.ensures)) under in
+    let beneath = subst (λ (k : SinkView). EndsAs (stream (settings_of c.in-Ok.end.reader))
+    (written_by event_for (said_by c.new-reporter.result.detail)) i i' k o' end ending)
+    (ap view c.new-gathered.ensures.sink) given in
     let by_settings = subst (λ (s : Settings). EndsAs (stream s) (written_by event_for
     (said_by c.new-reporter.result.detail)) i i' o o' end ending) set beneath in
     let by_lines = subst (λ (t : Teller Outcome StreamEvent Offence). EndsAs

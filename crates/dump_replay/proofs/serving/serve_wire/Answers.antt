@@ -1,10 +1,12 @@
 use Rattle.std.proofs.Common.{◌≡◌, ℕ, List, Err, Option, refl, ap, subst, inl}
-use Rattle.{nbfx_values.specs.QuotasOf.limits_of, stream_loop.specs.Edges.Output}
+use Rattle.{nbfx_values.specs.QuotasOf.limits_of}
 use Rattle.{stream_reader.specs.Sides.endpoint_of, dump_replay.specs.Outside.ends_seen}
 use Rattle.{command_words.specs.Asking.serving_of, duplex_server.proofs.Stops.none_served}
-use Rattle.duplex_server.specs.{Owed.answering, Responding.served_by, Served.Ends, Served.ServesAll}
+use Rattle.duplex_server.specs.{ServerStream.answering, Responding.served_by, Served.Ends}
+use Rattle.duplex_server.specs.{Served.ServesAll}
 use Rattle.dump_replay.proofs.Seen.{input_by, network_by, output_by}
 use Rattle.dump_replay.proofs.{ServeEnds.served_less, serving.serve_wire.Given.Over}
+use Rattle.io_edges.specs.Views.{SinkView}
 use Rattle.duplex_server.specs.declared.stopping.ServeFault.TheVariants as stops
 use Rattle.dump_replay.proofs.serving.serve_wire.Goals as goal
 
@@ -12,7 +14,7 @@ module _ (g : Over) where
   abbrev ends : g.row.W-Reader.Denot × g.row.W-Writer.Denot → Ends
   ends = ends_seen (input_by g.W.Reader.Source) (output_by g.W.Writer.Sink)
 
-  abbrev out : g.row.O.Denot → Output
+  abbrev out : g.row.O.Denot → SinkView
   out = output_by g.O.Sink
 
 -- there was no memory for the Via
@@ -29,8 +31,8 @@ returns-in_default-clause-answers g c = λ i.
       serves = served_less x via (ends g) c.args.connections (network_by g.W.Wire c.args.wire.now)
           (network_by g.W.Wire c.args.wire.now) (out g o) (out g o) (Err stops.Memory) (o ≡ o)
           (out g o ≡ out g o) (λ same. refl)
-          (none_served x via (ends g) g.O.Sink.written g.O.Sink.held g.O.Sink.faults
-          g.O.Sink.may_want c.args.connections (network_by g.W.Wire c.args.wire.now) o);
+          (none_served x via (ends g) c.args.connections (network_by g.W.Wire c.args.wire.now)
+          (out g o) refl);
       says = (c.note_status.ensures.notes, c.note_status.ensures.none);
       unread = refl;
     })

@@ -9,10 +9,10 @@ use Rattle.dump_replay.proofs.working.work.Goals as goal
 
 pub returns-in-Serve-clause-leaves : goal.returns-in-Serve-clause-leaves
 returns-in-Serve-clause-leaves g c =
-    let ran = c.serve_wire in
+    let ran = c.serve_wire-status in
     let s = shelf_by g.F.Shelf c.args.shelf.now in
     let s' = shelf_by g.F.Shelf ran.new.shelf in
-    let i = input_by g.I.Source c.args.input.now in
+    let i = input_by g.I.Source c.args.input in
     let o = output_by g.O.Sink c.args.output in
     let n = network_by g.W.Wire c.args.wire.now in
     let n' = network_by g.W.Wire ran.new.wire in
@@ -28,8 +28,8 @@ returns-in-Serve-clause-leaves g c =
 
 pub returns-in-Serve-clause-works : goal.returns-in-Serve-clause-works
 returns-in-Serve-clause-works g c =
-    let ran = c.serve_wire in
-    let input = c.args.input.now in
+    let ran = c.serve_wire-status in
+    let input = c.args.input in
     let all = seen_by g.F.Shelf g.I.Source g.O.Sink g.W.Wire in
     rw c.in-Serve.is (serve_works (Says g.N.Sink c.args.notes.now ran.new.notes)
     ((ran.result.1 ≡ c.args.output) × (ran.new.wire ≡ c.args.wire.now))
@@ -43,17 +43,17 @@ returns-in-Serve-clause-works g c =
 
 pub returns-in-Serve-clause-notes_faults : goal.returns-in-Serve-clause-notes_faults
 returns-in-Serve-clause-notes_faults g c =
-    elim (c.serve_wire.ensures.answers (input_by g.I.Source c.args.input.now)) [
+    elim (c.serve_wire-status.ensures.answers (input_by g.I.Source c.args.input)) [
       | inl h ↦ h.says.0.faults
       | inr h ↦ h.2.says.0.faults
     ]
 
 pub returns-in-Call-clause-leaves : goal.returns-in-Call-clause-leaves
 returns-in-Call-clause-leaves g c =
-    let ran = c.call_peer in
+    let ran = c.call_peer-status in
     let s = shelf_by g.F.Shelf c.args.shelf.now in
     let s' = shelf_by g.F.Shelf ran.new.shelf in
-    let i = input_by g.I.Source c.args.input.now in
+    let i = input_by g.I.Source c.args.input in
     let i' = input_by g.I.Source ran.new.input in
     let o = output_by g.O.Sink c.args.output in
     let n = network_by g.W.Wire c.args.wire.now in
@@ -72,4 +72,4 @@ returns-in-Call-clause-leaves g c =
     ]
 
 pub returns-in-Call-clause-works : goal.returns-in-Call-clause-works
-returns-in-Call-clause-works g c = rw c.in-Call.is c.call_peer.ensures.calls
+returns-in-Call-clause-works g c = rw c.in-Call.is c.call_peer-status.ensures.calls
