@@ -5,29 +5,35 @@ use io_edges::{MemoryShelf, MemorySink, MemorySource, MemoryWire};
 use std::alloc::{AllocError, Global};
 use std::collections::BTreeMap;
 use std::process::Abort;
+use std::sync::Wait;
 use std::test::Fail;
+use std::thread::Threads;
 
 mod building;
 mod calls;
 mod captures;
 mod failures;
+mod failures_in_turn;
 mod generating;
 mod modes;
 mod other_words;
 mod peers;
 mod read_back;
 mod records;
+mod rehearsing;
 mod replays;
 mod replies;
 mod rows;
 mod serves;
 mod streams;
+mod turns;
 mod values;
 mod words;
 mod worked_builds;
 mod worked_quotas;
 mod worked_replays;
 mod worked_streams;
+mod writes_in_turn;
 
 use peers::{Peer, assert_got, wire_of};
 use rows::*;
@@ -126,6 +132,7 @@ fn notes_of(alloc: Global, row: &Row) -> Result<MemorySink, AllocError> {
 
 // Runs the program on fakes.
 fn run_on_fakes(
+    rt: &(impl Threads + Wait + Sync),
     alloc: Global,
     row: &Row,
     words: &[String],
@@ -137,17 +144,22 @@ fn run_on_fakes(
 {
     let mut shelf = shelf_of(alloc, row)?;
     let output = sink_of(alloc, row.put, row.kept)?;
-    Ok(run(alloc, words, &mut shelf, input, output, notes, wire))
+    Ok(run(rt, alloc, words, &mut shelf, input, output, notes, wire))
 }
 
-pub fn assert_bytes(rt: &(impl Abort + AllocGlobal), row: &Row, bytes: &[u8], due: &[u8]) {
+pub fn assert_bytes(
+    rt: &(impl Abort + AllocGlobal + Threads + Wait + Sync),
+    row: &Row,
+    bytes: &[u8],
+    due: &[u8],
+) {
     let name = row.name;
     assert_eq!(rt; bytes, due, "{name}");
 }
 
 // Asserts what a run leaves: the status, the output, the note, and what isn't taken of the input.
 fn assert_ran(
-    rt: &(impl Abort + AllocGlobal),
+    rt: &(impl Abort + AllocGlobal + Threads + Wait + Sync),
     row: &Row,
     ran: &Ran<MemorySource, MemorySink>,
     output: &[u8],
@@ -163,7 +175,7 @@ fn assert_ran(
 
 // Asserts what a row leaves where its input comes in pieces of at most so many bytes.
 fn assert_left(
-    rt: &(impl Abort + AllocGlobal),
+    rt: &(impl Abort + AllocGlobal + Threads + Wait + Sync),
     row: &Row,
     words: &[String],
     input: &[u8],
@@ -177,14 +189,14 @@ fn assert_left(
     let source = source_of(alloc, input, most, row.take)?;
     let mut notes = notes_of(alloc, row)?;
     let mut wire = wire_of(alloc, row)?;
-    let ran = run_on_fakes(alloc, row, words, source, &mut notes, &mut wire)?;
+    let ran = run_on_fakes(rt, alloc, row, words, source, &mut notes, &mut wire)?;
     assert_ran(rt, row, &ran, output, notes.bytes(), rest);
     assert_got(rt, row, &wire)
 }
 
 // The same of these words, in each of the row's pieces.
 fn assert_asked(
-    rt: &(impl Abort + AllocGlobal),
+    rt: &(impl Abort + AllocGlobal + Threads + Wait + Sync),
     row: &Row,
     words: &[String],
 ) -> Result<(), AllocError> {
@@ -196,7 +208,10 @@ fn assert_asked(
     Ok(())
 }
 
-fn assert_rows(rt: &(impl Abort + AllocGlobal), rows: &[Row]) -> Result<(), AllocError> {
+fn assert_rows(
+    rt: &(impl Abort + AllocGlobal + Threads + Wait + Sync),
+    rows: &[Row],
+) -> Result<(), AllocError> {
     for row in rows {
         let words = listed(rt.alloc(), row.words, row.options)?;
         assert_asked(rt, row, &words)?;
@@ -204,31 +219,40 @@ fn assert_rows(rt: &(impl Abort + AllocGlobal), rows: &[Row]) -> Result<(), Allo
     Ok(())
 }
 
-fn assert_streams(rt: &(impl Abort + AllocGlobal)) -> Result<(), AllocError> {
+fn assert_streams(
+    rt: &(impl Abort + AllocGlobal + Threads + Wait + Sync),
+) -> Result<(), AllocError> {
     streams::assert_all(rt)?;
     modes::assert_all(rt)?;
     records::assert_all(rt)?;
     replies::assert_all(rt)?;
     failures::assert_all(rt)?;
+    failures_in_turn::assert_all(rt)?;
     worked_quotas::assert_all(rt)?;
     worked_streams::assert_all(rt)
 }
 
-fn assert_documents(rt: &(impl Abort + AllocGlobal)) -> Result<(), AllocError> {
+fn assert_documents(
+    rt: &(impl Abort + AllocGlobal + Threads + Wait + Sync),
+) -> Result<(), AllocError> {
     building::assert_all(rt)?;
     values::assert_all(rt)?;
     worked_builds::assert_all(rt)?;
-    generating::assert_all(rt)
+    generating::assert_all(rt)?;
+    rehearsing::assert_all(rt)
 }
 
-fn assert_sessions(rt: &(impl Abort + AllocGlobal)) -> Result<(), AllocError> {
+fn assert_sessions(
+    rt: &(impl Abort + AllocGlobal + Threads + Wait + Sync),
+) -> Result<(), AllocError> {
     replays::assert_all(rt)?;
     worked_replays::assert_all(rt)?;
     serves::assert_all(rt)?;
-    calls::assert_all(rt)
+    calls::assert_all(rt)?;
+    writes_in_turn::assert_all(rt)
 }
 
-fn assert_words(rt: &(impl Abort + AllocGlobal)) -> Result<(), AllocError> {
+fn assert_words(rt: &(impl Abort + AllocGlobal + Threads + Wait + Sync)) -> Result<(), AllocError> {
     words::assert_all(rt)?;
     other_words::assert_all(rt)
 }
@@ -239,7 +263,7 @@ fn streams_are_reported(rt: HostRuntime) -> Result<(), Fail> {
     Ok(assert_streams(&rt)?)
 }
 
-// Of `build` and `gen`.
+// Of `build`, `gen` and `rehearse`.
 #[test]
 fn sessions_are_made(rt: HostRuntime) -> Result<(), Fail> {
     Ok(assert_documents(&rt)?)

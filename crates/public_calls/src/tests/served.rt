@@ -1,12 +1,16 @@
-// An answer that doesn't fit.
+// An answer that doesn't fit, and two threads that answer.
+ghost use Rattle.std.specs.Prelude.{◌≤◌};
+
 use action_dispatch::EchoService;
-use duplex_server::{Inbound, Outbound, Outcome, serve_one};
+use duplex_server::{Inbound, Outbound, Outcome, serve_one, serve_two};
 use io_edges::{MemorySink, MemorySource};
 use nbfx_values::Quotas;
 use receiver_machine::Endpoint;
 use static_dictionary::StaticTable;
 use std::alloc::{AllocError, Global};
+use std::sync::Wait;
 use std::test::Fail;
+use std::thread::Threads;
 
 const STATICS: &[u8] = b"id,string\n0,mustUnderstand\n2,Envelope\n\
 4,http://www.w3.org/2003/05/soap-envelope\n6,http://www.w3.org/2005/08/addressing\n\
@@ -58,5 +62,53 @@ fn a_fault_goes_in_place_of_an_answer_that_does_not_fit(rt: HostRuntime) -> Resu
     // After the reason the four elements end that are open, and the session.
     let ending = b"The reply does not fit.\x01\x01\x01\x01\x07";
     assert!(rt; sink.bytes().ends_with(ending));
+    Ok(())
+}
+
+// The same on two threads, where the source gives at most so many bytes at a take, and this put of
+// the sink fails and keeps three bytes.
+fn echoed_by_two(
+    rt: &(impl Threads + Wait + Sync),
+    alloc: Global,
+    quotas: &Quotas,
+    most: usize,
+    failing: &[u64],
+) -> Result<(Outcome, MemorySink), Fail>
+    requires { 1 ≤ most }
+{
+    let statics = StaticTable::read(alloc, STATICS)?;
+    let source = MemorySource::new(session(alloc)?, most, Vec::new(alloc));
+    let sink = MemorySink::new(alloc, failing.to_vec(alloc)?, 3);
+    let (outcome, _, sink) = serve_two(
+        rt,
+        alloc,
+        source,
+        sink,
+        &statics,
+        quotas,
+        &Endpoint::Any,
+        &EchoService,
+    );
+    Ok((outcome, sink))
+}
+
+// Two threads write what one does, also where they read a byte at a time; where a write fails, first
+// bytes of that, and the session is read to its end all the same.
+#[test]
+fn two_threads_write_what_one_does(rt: HostRuntime) -> Result<(), Fail> {
+    let alloc = rt.alloc();
+    let quotas = Quotas::of(8_192, 5, 2_048, 262_144, 2_048, 1 << 48).ok_or("good quotas")?;
+    let (outcome, alone) = echoed(alloc, &quotas)?;
+    for most in [1, 65_536] {
+        let (beside, sink) = echoed_by_two(&rt, alloc, &quotas, most, &[])?;
+        assert_eq!(&rt; beside, outcome);
+        assert_eq!(&rt; sink.bytes(), alone.bytes());
+    }
+    for failed in [0, 1] {
+        let (beside, sink) = echoed_by_two(&rt, alloc, &quotas, 65_536, &[failed])?;
+        assert_eq!(&rt; beside.outbound, Outbound::WriteFault);
+        assert_eq!(&rt; (beside.messages, beside.inbound), (1, Inbound::Ended));
+        assert!(&rt; alone.bytes().starts_with(sink.bytes()) && sink.bytes().starts_with(b"\x0B"));
+    }
     Ok(())
 }

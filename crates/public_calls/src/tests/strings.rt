@@ -1,4 +1,4 @@
-// A great session table.
+// Session tables: a great one, and one that is cut back.
 use session_dictionary::SessionTable;
 use std::test::Fail;
 
@@ -15,4 +15,18 @@ fn many_strings(rt: HostRuntime) -> Result<(), Fail> {
         assert_eq!(rt; table.id(text.as_str()), Some(2 * number + 1));
     }
     Ok(())
+}
+
+#[test]
+fn a_string_that_comes_twice_has_its_first_identifier(rt: HostRuntime) {
+    let mut table = SessionTable::new(rt.alloc(), 16);
+    let none = table.mark();
+    assert_eq!(rt; table.add("a"), Ok(1));
+    let one = table.mark();
+    assert_eq!(rt; table.add("a"), Ok(3));
+    assert_eq!(rt; table.id("a"), Some(1));
+    table.back_to(one);
+    assert_eq!(rt; table.id("a"), Some(1));
+    table.back_to(none);
+    assert_eq!(rt; table.id("a"), None);
 }

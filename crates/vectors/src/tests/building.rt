@@ -375,7 +375,9 @@ fn unfitting_rows_2() -> &'static [Row] {
     UNFITTING_2
 }
 
-pub fn assert_all(rt: &(impl Abort + AllocGlobal)) -> Result<(), AllocError> {
+pub fn assert_all(
+    rt: &(impl Abort + AllocGlobal + Threads + Wait + Sync),
+) -> Result<(), AllocError> {
     assert_rows(rt, lined_rows())?;
     assert_rows(rt, lined_rows_2())?;
     assert_rows(rt, lined_rows_3())?;

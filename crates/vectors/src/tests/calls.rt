@@ -364,20 +364,10 @@ const SESSIONS_3: &[Row] = &[
         ..UNSENT
     },
     Row {
-        name: "the second file is sent after the input, which is empty",
+        name: "the second file is sent where the input is empty",
         options: "--second=T",
         input: &[],
         output: &[b"accepted\nended 2\n", b"sent 1 tags b\n"],
-        ..CALL_ONE
-    },
-    Row {
-        name: "the second file is sent after the input",
-        options: "--second=T",
-        peers: &[Peer {
-            got: Some(&[PREAMBLE, FIRST, NEXT, END]),
-            ..CALLED
-        }],
-        output: &[b"accepted\nended 2\n", b"sent 2 tags ab\n"],
         ..CALL_ONE
     },
 ];
@@ -405,6 +395,47 @@ const DOCUMENTS: &[Row] = &[
         ..CALL_ONE
     },
 ];
+
+// Which list's document comes next isn't fixed, so the output isn't looked at here.
+const BOTH_LISTS: Row = Row {
+    name: "two lists are sent on one session",
+    options: "--second=T",
+    files: &[("T", THREE_X)],
+    input: &[THREE_X],
+    peers: &[Peer {
+        got: Some(&[PREAMBLE, FIRST, NEXT, NEXT, NEXT, NEXT, NEXT, END]),
+        ..CALLED
+    }],
+    ..CALL_ONE
+};
+
+const THREE_X: &[u8] = b"start \"\" \"x\"\nclose\n\
+start \"\" \"x\"\nclose\n\
+start \"\" \"x\"\nclose\n";
+
+const SENT_OF_BOTH: &[u8] = b"accepted\nended 2\nsent 6 tags ";
+
+// Asserts that the documents of two lists were sent, with three letters for each list.
+fn assert_both_lists(
+    rt: &(impl Abort + AllocGlobal + Threads + Wait + Sync),
+) -> Result<(), AllocError> {
+    let row = &BOTH_LISTS;
+    let alloc = rt.alloc();
+    let words = listed(alloc, row.words, row.options)?;
+    let input = joined(alloc, row.input, row.long)?;
+    let source = source_of(alloc, &input, 65_536, row.take)?;
+    let mut notes = notes_of(alloc, row)?;
+    let mut wire = wire_of(alloc, row)?;
+    let ran = run_on_fakes(rt, alloc, row, &words, source, &mut notes, &mut wire)?;
+    let (name, output) = (row.name, ran.output.bytes());
+    let letters = output.get(SENT_OF_BOTH.len()..).unwrap_or(b"");
+    let of_first = letters.iter().filter(|letter| **letter == b'a').count();
+    let of_second = letters.iter().filter(|letter| **letter == b'b').count();
+    assert_eq!(rt; ran.status, 0, "{name}");
+    assert!(rt; output.starts_with(SENT_OF_BOTH), "{name}");
+    assert_eq!(rt; (of_first, of_second, letters.len()), (3, 3, 7), "{name}");
+    assert_got(rt, row, &wire)
+}
 
 fn statuses_rows() -> &'static [Row] {
     STATUSES
@@ -434,12 +465,15 @@ fn documents_rows() -> &'static [Row] {
     DOCUMENTS
 }
 
-pub fn assert_all(rt: &(impl Abort + AllocGlobal)) -> Result<(), AllocError> {
+pub fn assert_all(
+    rt: &(impl Abort + AllocGlobal + Threads + Wait + Sync),
+) -> Result<(), AllocError> {
     assert_rows(rt, statuses_rows())?;
     assert_rows(rt, statuses_rows_2())?;
     assert_rows(rt, statuses_rows_3())?;
     assert_rows(rt, sessions_rows())?;
     assert_rows(rt, sessions_rows_2())?;
     assert_rows(rt, sessions_rows_3())?;
-    assert_rows(rt, documents_rows())
+    assert_rows(rt, documents_rows())?;
+    assert_both_lists(rt)
 }

@@ -343,7 +343,9 @@ fn files_rows_2() -> &'static [Row] {
     FILES_2
 }
 
-pub fn assert_all(rt: &(impl Abort + AllocGlobal)) -> Result<(), AllocError> {
+pub fn assert_all(
+    rt: &(impl Abort + AllocGlobal + Threads + Wait + Sync),
+) -> Result<(), AllocError> {
     assert_rows(rt, takes_rows())?;
     assert_rows(rt, takes_rows_2())?;
     assert_rows(rt, puts_rows())?;

@@ -121,7 +121,9 @@ fn modes_rows_2() -> &'static [Row] {
     MODES_2
 }
 
-pub fn assert_all(rt: &(impl Abort + AllocGlobal)) -> Result<(), AllocError> {
+pub fn assert_all(
+    rt: &(impl Abort + AllocGlobal + Threads + Wait + Sync),
+) -> Result<(), AllocError> {
     assert_rows(rt, modes_rows())?;
     assert_rows(rt, modes_rows_2())
 }

@@ -80,6 +80,28 @@ const OTHER_OPTIONS: &[Asked] = &[
             ..REFUSED_WORDS
         },
     },
+    Asked {
+        forms: &[
+            "nettcp rehearse",
+            "nettcp rehearse --window 32",
+            "nettcp rehearse --id",
+            "nettcp rehearse --id=",
+            "nettcp rehearse --id=\t\r\n",
+            "nettcp rehearse --id u --window 0",
+            "nettcp rehearse --id u --window 1025",
+            "nettcp rehearse --id u --window 01",
+            "nettcp rehearse --id u --window 4294967297",
+            "nettcp rehearse --id u --id u",
+            "nettcp rehearse --id u --static S",
+            "nettcp rehearse --id u --session 100",
+            "nettcp check --static S --window 32",
+        ],
+        settings: NO_SETTING,
+        row: Row {
+            name: "words that name no sequence",
+            ..REFUSED_WORDS
+        },
+    },
 ];
 
 const OTHER_OPTIONS_2: &[Asked] = &[
@@ -229,7 +251,9 @@ fn other_values_rows_2() -> &'static [Asked] {
     OTHER_VALUES_2
 }
 
-pub fn assert_all(rt: &(impl Abort + AllocGlobal)) -> Result<(), AllocError> {
+pub fn assert_all(
+    rt: &(impl Abort + AllocGlobal + Threads + Wait + Sync),
+) -> Result<(), AllocError> {
     assert_table(rt, other_options_rows())?;
     assert_table(rt, other_options_rows_2())?;
     assert_table(rt, other_values_rows())?;

@@ -6,6 +6,7 @@ use super::*;
 
 // What a peer sends, the takes and puts of its connection that fail, and what was written to it,
 // where the connection was made and ended.
+#[derive(Clone, Copy)]
 pub struct Peer {
     pub sends: Parts,
     pub read: Option<u64>,
@@ -42,7 +43,7 @@ fn wire_over(
     }
 }
 
-fn wire_of_one(alloc: Global, peer: &Peer, row: &Row) -> Result<MemoryWire, AllocError>
+pub fn wire_of_one(alloc: Global, peer: &Peer, row: &Row) -> Result<MemoryWire, AllocError>
     ensures { IfOk result (λ wire. wire.out ≡ 0) }
 {
     let mut ends = Vec::new(alloc);
@@ -83,7 +84,7 @@ pub fn wire_of(alloc: Global, row: &Row) -> Result<MemoryWire, AllocError>
 
 // Asserts that these bytes were written to a peer, or that it was never met.
 fn assert_written(
-    rt: &(impl Abort + AllocGlobal),
+    rt: &(impl Abort + AllocGlobal + Threads + Wait + Sync),
     row: &Row,
     got: Option<&[u8]>,
     due: Option<Parts>,
@@ -103,7 +104,7 @@ fn assert_written(
 
 // Asserts what was written to each peer.
 pub fn assert_got(
-    rt: &(impl Abort + AllocGlobal),
+    rt: &(impl Abort + AllocGlobal + Threads + Wait + Sync),
     row: &Row,
     wire: &MemoryWire,
 ) -> Result<(), AllocError> {

@@ -38,22 +38,26 @@ fn printed(alloc: Global, docs: &Docs) -> Result<MemorySink, SinkFault> {
 }
 
 // The first run of a row, in one piece.
-fn ran(alloc: Global, row: &Row) -> Result<Ran<MemorySource, MemorySink>, AllocError> {
+fn ran(
+    rt: &(impl AllocGlobal + Threads + Wait + Sync),
+    row: &Row,
+) -> Result<Ran<MemorySource, MemorySink>, AllocError> {
+    let alloc = rt.alloc();
     let words = listed(alloc, row.words, row.options)?;
     let input = joined(alloc, row.input, row.long)?;
     let source = source_of(alloc, &input, 65_536, row.take)?;
     let mut notes = notes_of(alloc, row)?;
     let mut wire = wire_of(alloc, row)?;
-    run_on_fakes(alloc, row, &words, source, &mut notes, &mut wire)
+    run_on_fakes(rt, alloc, row, &words, source, &mut notes, &mut wire)
 }
 
 // The lines of the documents that a row dumps.
-fn dumped(alloc: Global, row: &Row) -> Result<String, Fail> {
-    let ran = ran(alloc, row)?;
+fn dumped(rt: &(impl AllocGlobal + Threads + Wait + Sync), row: &Row) -> Result<String, Fail> {
+    let ran = ran(rt, row)?;
     if ran.status != row.status {
         return Err("another status".into());
     }
-    Ok(document_lines(alloc, str::from_utf8(ran.output.bytes())?)?)
+    Ok(document_lines(rt.alloc(), str::from_utf8(ran.output.bytes())?)?)
 }
 
 fn read(alloc: Global, lines: &str) -> Result<Docs, Fail> {
@@ -65,13 +69,13 @@ fn read(alloc: Global, lines: &str) -> Result<Docs, Fail> {
 
 // Asserts that the dump of a row has so many documents, and that they are read back out of it.
 fn assert_read_back(
-    rt: &(impl Abort + AllocGlobal),
+    rt: &(impl Abort + AllocGlobal + Threads + Wait + Sync),
     row: &Row,
     documents: usize,
 ) -> Result<(), Fail> {
     let alloc = rt.alloc();
     let name = row.name;
-    let lines = dumped(alloc, row)?;
+    let lines = dumped(rt, row)?;
     let docs = read(alloc, lines.as_str())?;
     assert_eq!(rt; docs.len(), documents, "{name}");
     let again = printed(alloc, &docs)?;

@@ -224,7 +224,9 @@ fn after_preambles_rows_3() -> &'static [Row] {
     AFTER_PREAMBLES_3
 }
 
-pub fn assert_all(rt: &(impl Abort + AllocGlobal)) -> Result<(), AllocError> {
+pub fn assert_all(
+    rt: &(impl Abort + AllocGlobal + Threads + Wait + Sync),
+) -> Result<(), AllocError> {
     assert_rows(rt, preambles_rows())?;
     assert_rows(rt, preambles_rows_2())?;
     assert_rows(rt, after_preambles_rows())?;

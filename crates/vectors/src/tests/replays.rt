@@ -154,15 +154,6 @@ const ANSWERED_2: &[Row] = &[
         output: &[ACK, b"\x06\x44\x02\x01x", ANSWER, HI],
         ..BROKEN
     },
-    Row {
-        name: "the first answer is written before a put that fails",
-        input: TWO_CALLS,
-        pieces: &[(85, 0)],
-        put: Some(1),
-        kept: 3,
-        output: &[ACK, b"\x06\x44\x02\x01x", ANSWER, HI, b"\x06\x42\x00"],
-        ..UNWRITTEN
-    },
 ];
 
 const ACTIONS_FIRST: &[Row] = &[
@@ -218,7 +209,9 @@ fn actions_first_rows() -> &'static [Row] {
     ACTIONS_FIRST
 }
 
-pub fn assert_all(rt: &(impl Abort + AllocGlobal)) -> Result<(), AllocError> {
+pub fn assert_all(
+    rt: &(impl Abort + AllocGlobal + Threads + Wait + Sync),
+) -> Result<(), AllocError> {
     assert_rows(rt, answered_rows())?;
     assert_rows(rt, answered_rows_2())?;
     assert_rows(rt, actions_first_rows())

@@ -300,7 +300,9 @@ fn cut_rows_2() -> &'static [Row] {
     CUT_2
 }
 
-pub fn assert_all(rt: &(impl Abort + AllocGlobal)) -> Result<(), AllocError> {
+pub fn assert_all(
+    rt: &(impl Abort + AllocGlobal + Threads + Wait + Sync),
+) -> Result<(), AllocError> {
     assert_rows(rt, ended_rows())?;
     assert_rows(rt, ended_rows_2())?;
     assert_rows(rt, ended_rows_3())?;

@@ -10,6 +10,7 @@ pub const LONG: &[u8] = b"LONG";
 pub const NO_TEXT: (usize, u8) = (0, b' ');
 
 // A run of the program: what it is asked, what comes in and what fails, and what it leaves.
+#[derive(Clone, Copy)]
 pub struct Row {
     pub name: &'static str,
     pub words: &'static str,

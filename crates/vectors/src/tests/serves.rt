@@ -244,7 +244,9 @@ fn causes_rows() -> &'static [Row] {
     CAUSES
 }
 
-pub fn assert_all(rt: &(impl Abort + AllocGlobal)) -> Result<(), AllocError> {
+pub fn assert_all(
+    rt: &(impl Abort + AllocGlobal + Threads + Wait + Sync),
+) -> Result<(), AllocError> {
     assert_rows(rt, served_rows())?;
     assert_rows(rt, served_rows_2())?;
     assert_rows(rt, causes_rows())

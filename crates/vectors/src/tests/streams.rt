@@ -203,7 +203,9 @@ fn streams_rows_2() -> &'static [Row] {
     STREAMS_2
 }
 
-pub fn assert_all(rt: &(impl Abort + AllocGlobal)) -> Result<(), AllocError> {
+pub fn assert_all(
+    rt: &(impl Abort + AllocGlobal + Threads + Wait + Sync),
+) -> Result<(), AllocError> {
     assert_rows(rt, calls_rows())?;
     assert_rows(rt, calls_rows_2())?;
     assert_rows(rt, streams_rows())?;

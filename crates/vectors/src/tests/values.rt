@@ -163,7 +163,9 @@ fn values_rows_3() -> &'static [Row] {
     VALUES_3
 }
 
-pub fn assert_all(rt: &(impl Abort + AllocGlobal)) -> Result<(), AllocError> {
+pub fn assert_all(
+    rt: &(impl Abort + AllocGlobal + Threads + Wait + Sync),
+) -> Result<(), AllocError> {
     assert_rows(rt, values_rows())?;
     assert_rows(rt, values_rows_2())?;
     assert_rows(rt, values_rows_3())

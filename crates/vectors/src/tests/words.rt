@@ -52,7 +52,7 @@ fn filled(alloc: Global, form: &str, option: &str, value: &str) -> Result<Vec<St
 
 // Asserts what each form leaves with this option and value.
 fn assert_forms(
-    rt: &(impl Abort + AllocGlobal),
+    rt: &(impl Abort + AllocGlobal + Threads + Wait + Sync),
     asked: &Asked,
     option: &str,
     value: &str,
@@ -64,7 +64,10 @@ fn assert_forms(
     Ok(())
 }
 
-fn assert_settings(rt: &(impl Abort + AllocGlobal), asked: &Asked) -> Result<(), AllocError> {
+fn assert_settings(
+    rt: &(impl Abort + AllocGlobal + Threads + Wait + Sync),
+    asked: &Asked,
+) -> Result<(), AllocError> {
     for (option, values) in asked.settings {
         for value in values.split('|') {
             assert_forms(rt, asked, option, value)?;
@@ -73,7 +76,10 @@ fn assert_settings(rt: &(impl Abort + AllocGlobal), asked: &Asked) -> Result<(),
     Ok(())
 }
 
-pub fn assert_table(rt: &(impl Abort + AllocGlobal), table: &[Asked]) -> Result<(), AllocError> {
+pub fn assert_table(
+    rt: &(impl Abort + AllocGlobal + Threads + Wait + Sync),
+    table: &[Asked],
+) -> Result<(), AllocError> {
     for asked in table {
         assert_settings(rt, asked)?;
     }
@@ -225,7 +231,9 @@ fn understood_rows_2() -> &'static [Asked] {
     UNDERSTOOD_2
 }
 
-pub fn assert_all(rt: &(impl Abort + AllocGlobal)) -> Result<(), AllocError> {
+pub fn assert_all(
+    rt: &(impl Abort + AllocGlobal + Threads + Wait + Sync),
+) -> Result<(), AllocError> {
     assert_table(rt, understood_rows())?;
     assert_table(rt, understood_rows_2())
 }

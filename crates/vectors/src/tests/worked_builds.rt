@@ -144,7 +144,9 @@ fn builds_rows_2() -> &'static [Row] {
     BUILDS_2
 }
 
-pub fn assert_all(rt: &(impl Abort + AllocGlobal)) -> Result<(), AllocError> {
+pub fn assert_all(
+    rt: &(impl Abort + AllocGlobal + Threads + Wait + Sync),
+) -> Result<(), AllocError> {
     assert_rows(rt, builds_rows())?;
     assert_rows(rt, builds_rows_2())
 }

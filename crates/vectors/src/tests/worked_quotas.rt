@@ -252,7 +252,9 @@ fn quotas_rows_3() -> &'static [Row] {
     QUOTAS_3
 }
 
-pub fn assert_all(rt: &(impl Abort + AllocGlobal)) -> Result<(), AllocError> {
+pub fn assert_all(
+    rt: &(impl Abort + AllocGlobal + Threads + Wait + Sync),
+) -> Result<(), AllocError> {
     assert_rows(rt, quotas_rows())?;
     assert_rows(rt, quotas_rows_2())?;
     assert_rows(rt, quotas_rows_3())

@@ -241,7 +241,9 @@ fn sessions_rows_3() -> &'static [Row] {
     SESSIONS_3
 }
 
-pub fn assert_all(rt: &(impl Abort + AllocGlobal)) -> Result<(), AllocError> {
+pub fn assert_all(
+    rt: &(impl Abort + AllocGlobal + Threads + Wait + Sync),
+) -> Result<(), AllocError> {
     assert_rows(rt, sessions_rows())?;
     assert_rows(rt, sessions_rows_2())?;
     assert_rows(rt, sessions_rows_3())

@@ -492,7 +492,9 @@ fn refused_nodes_rows_3() -> &'static [Row] {
     REFUSED_NODES_3
 }
 
-pub fn assert_all(rt: &(impl Abort + AllocGlobal)) -> Result<(), AllocError> {
+pub fn assert_all(
+    rt: &(impl Abort + AllocGlobal + Threads + Wait + Sync),
+) -> Result<(), AllocError> {
     assert_rows(rt, read_rows())?;
     assert_rows(rt, read_rows_2())?;
     assert_rows(rt, numbers_rows())?;

@@ -1,0 +1,35 @@
+// When a sending half may send a message, and when End.
+use super::answers::requests;
+use nbfx_encoder::{SendFault, SendState, Sender, Side};
+use nbfx_values::{Kind, Mode, Quotas};
+use static_dictionary::StaticTable;
+use std::test::Fail;
+
+// An initiator in singleton mode sends one message, and then End once.
+#[test]
+fn one_message_and_its_end(rt: HostRuntime) -> Result<(), Fail> {
+    let alloc = rt.alloc();
+    let statics = StaticTable::read(alloc, b"id,string\n2,Envelope\n")?;
+    let docs = requests(alloc)?;
+    let doc = docs.get(0).ok_or("no document")?;
+    let (quotas, side) = (Quotas::usual(), Side::Initiator);
+    let mut sender = Sender::new(
+        alloc,
+        &statics,
+        quotas,
+        Kind::Session,
+        Mode::Singleton,
+        side,
+    );
+    let mut out = Vec::new(alloc);
+    assert_eq!(rt; sender.end(), Err(SendState::Ready));
+    assert_eq!(rt; sender.message(doc, &mut out), Ok(()));
+    let state = SendState::Spent;
+    assert_eq!(rt;
+        sender.message(doc, &mut out),
+        Err(SendFault::WrongMoment { state })
+    );
+    assert_eq!(rt; sender.end(), Ok(7));
+    assert_eq!(rt; sender.end(), Err(SendState::Closed));
+    Ok(())
+}
