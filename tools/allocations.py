@@ -16,7 +16,8 @@ ALL_STRINGS = os.path.join(SAMPLES, "mc-nbfs.csv")
 # Fails the call with a number, from 1, of all that ask for memory, and writes at the end how many
 # did, and how many more gave memory than gave it back. Fails the write of the output, and the send
 # over a socket, with a number, if there is one, and writes how many of each there were; reads at
-# most so many bytes at a time, or random numbers up to that by a seed, if there is one.
+# most so many bytes at a time, or random numbers up to that by a seed, if there is one. A program that
+# has threads ends by _exit, at which no destructor runs.
 SHIM = r"""
 #define _GNU_SOURCE
 #include <dlfcn.h>
@@ -25,12 +26,18 @@ SHIM = r"""
 #include <errno.h>
 #include <stdlib.h>
 #include <sys/socket.h>
+#include <sys/syscall.h>
 #include <unistd.h>
-static long calls, wanted, live, writes, sends;
+static _Atomic long calls, wanted, live, writes, sends;
 __attribute__((destructor)) static void tell(void) {
     long told = calls, kept = live, put = writes, sent = sends;
     int file = open(getenv("ALLOCATIONS"), O_WRONLY | O_CREAT | O_TRUNC, 0600);
     dprintf(file, "%ld %ld %ld %ld", told, kept, put, sent);
+}
+void _exit(int status) {
+    tell();
+    syscall(SYS_exit_group, status);
+    __builtin_unreachable();
 }
 static long told_by(const char *name) {
     const char *text = getenv(name);

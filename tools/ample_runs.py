@@ -44,7 +44,8 @@ class Runs:
     def of(self, command, stream=b"", words=(), status=0, names=(), once=False):
         """What a run writes that has to end with this status, as a whole and in pieces alike. The
         names are those of messages."""
-        words = [command, *(self.statics if "--static" not in words else []), *words]
+        statics = command != "rehearse" and "--static" not in words
+        words = [command, *(self.statics if statics else []), *words]
         whole = self.judged(run(words, stream), words, status, names)
         if stream and not once:
             most, seed = (1, 0) if len(stream) <= MOST_ALONE else (LONGEST_PIECE, len(stream))

@@ -131,12 +131,16 @@ CASES = (sized_texts, sized_values, sized_strings, counted, counted_values, deep
 
 def tables_of_strings():
     """Tables of session strings, of which a document names the last one: each of one long string,
-    and each of many short ones."""
+    each of many short ones, and with longer spellings of their sizes."""
     for length in sizes(MOST - ROOM):
-        yield "a session string of %d bytes" % length, string(b"s" * length), 1
+        yield "a session string of %d bytes" % length, string(string(b"s" * length)), 1
     for count in sizes(MOST_COUNT, 1):
         table = b"".join(string(b"%c" % (97 + it % 26)) for it in range(count))
-        yield "%d session strings" % count, table, 2 * count - 1
+        yield "%d session strings" % count, string(table), 2 * count - 1
+    for least in range(2, 6):
+        one = string(b"a name of more than sixteen bytes", least)
+        yield "strings with sizes of %d bytes" % least, string(one * 2, least), 3
+        yield "no strings, with a size of %d bytes" % least, integer(0, least), 0
 
 
 def naming(identifier):
