@@ -1,12 +1,15 @@
 -- What the caller knows once each pass is back.
-use Rattle.std.proofs.Common.{◌≡◌, ℕ, zero, suc, Bool, true, false, true≢false, List, [], ◌∷◌, ◌++◌, length, sym, refl, ap, ◌∙◌, append-nil, subst, None, Some, if◌then◌else◌}
+use Rattle.std.proofs.Common.{◌≡◌, ℕ, zero, suc, Bool, true, false, true≢false, List, [], ◌∷◌, ◌++◌}
+use Rattle.std.proofs.Common.{length, sym, refl, ap, ◌∙◌, append-nil, subst, None, Some}
+use Rattle.std.proofs.Common.{if◌then◌else◌}
 use Rattle.std.proofs.lemmas.List.Elements.{filter-append}
 use Rattle.two_lanes.specs.declared.jobs.Lane.{Lane}
 use Rattle.two_lanes.specs.declared.jobs.Lane.TheVariants.{A, B}
 use Rattle.two_lanes.specs.declared.jobs.LaneJob.{LaneJob}
 use Rattle.two_lanes.specs.declared.jobs.LaneJob.TheVariants.{Send, Last, Back}
 use Rattle.two_lanes.specs.declared.jobs.Log.{Log}
-use Rattle.two_lanes.specs.Jobs.{is_lane, lane_of, of, log, known, first_jobs, all_jobs, has_last, has_back, ends, AllTold}
+use Rattle.two_lanes.specs.Jobs.{is_lane, lane_of, of, log, known, first_jobs, all_jobs, has_last}
+use Rattle.two_lanes.specs.Jobs.{has_back, ends, AllTold}
 use Rattle.two_lanes.specs.Numbers.{HasAll, numbers, Took}
 use Rattle.two_lanes.proofs.Numbering.{all_numbers, one_by_one}
 use Rattle.two_lanes.proofs.Taking.{last-else}
@@ -44,25 +47,35 @@ none_left [] items e = sym e
 none_left (x ∷ got) items e = cc
 
 -- behind the last job of a lane comes none
-last_ends : (lane : Lane) (xs got items : List LaneJob) → xs ++ Last lane ∷ [] ≡ got ++ items → has_last lane xs ≡ false → has_last lane got ≡ true → items ≡ []
+last_ends : (lane : Lane) (xs got items : List LaneJob) → xs ++ Last lane ∷ [] ≡ got ++ items
+    → has_last lane xs ≡ false → has_last lane got ≡ true → items ≡ []
 last_ends lane xs [] items e free there = absurd (true≢false (sym there))
 last_ends lane [] (x ∷ got) items e free there = none_left got items (ap tail_of e)
-last_ends lane (Send l n ∷ xs) (y ∷ got) items e free there = let is : y ≡ Send l n = sym (ap (head_of Back) e) in
-    last_ends lane xs got items (ap tail_of e) free (ap (λ j. has_last lane (j ∷ got)) (sym is) ∙ there)
-last_ends lane (Back ∷ xs) (y ∷ got) items e free there = let is : y ≡ Back = sym (ap (head_of Back) e) in
-    last_ends lane xs got items (ap tail_of e) free (ap (λ j. has_last lane (j ∷ got)) (sym is) ∙ there)
+last_ends lane (Send l n ∷ xs) (y ∷ got) items e free there = let is : y ≡ Send l n = sym
+    (ap (head_of Back) e) in
+    last_ends lane xs got items (ap tail_of e) free
+    (ap (λ j. has_last lane (j ∷ got)) (sym is) ∙ there)
+last_ends lane (Back ∷ xs) (y ∷ got) items e free there = let is : y ≡ Back = sym
+    (ap (head_of Back) e) in
+    last_ends lane xs got items (ap tail_of e) free
+    (ap (λ j. has_last lane (j ∷ got)) (sym is) ∙ there)
 last_ends A (Last A ∷ xs) (y ∷ got) items e free there = absurd (true≢false free)
 last_ends B (Last B ∷ xs) (y ∷ got) items e free there = absurd (true≢false free)
-last_ends A (Last B ∷ xs) (y ∷ got) items e free there = let is : y ≡ Last B = sym (ap (head_of Back) e) in
+last_ends A (Last B ∷ xs) (y ∷ got) items e free there = let is : y ≡ Last B = sym
+    (ap (head_of Back) e) in
     last_ends A xs got items (ap tail_of e) free (ap (λ j. has_last A (j ∷ got)) (sym is) ∙ there)
-last_ends B (Last A ∷ xs) (y ∷ got) items e free there = let is : y ≡ Last A = sym (ap (head_of Back) e) in
+last_ends B (Last A ∷ xs) (y ∷ got) items e free there = let is : y ≡ Last A = sym
+    (ap (head_of Back) e) in
     last_ends B xs got items (ap tail_of e) free (ap (λ j. has_last B (j ∷ got)) (sym is) ∙ there)
 
 -- of a lane whose last job was taken all jobs were taken
-lane_taken : (lane : Lane) (n : ℕ) (got items : List LaneJob) → all_jobs lane n ≡ of lane (got ++ items) → has_last lane got ≡ true → of lane got ≡ all_jobs lane n
+lane_taken : (lane : Lane) (n : ℕ) (got items : List LaneJob)
+    → all_jobs lane n ≡ of lane (got ++ items) → has_last lane got ≡ true
+    → of lane got ≡ all_jobs lane n
 lane_taken lane n got items e there =
     let e' : all_jobs lane n ≡ of lane got ++ of lane items = e ∙ of-append lane got items in
-    let none : of lane items ≡ [] = last_ends lane (first_jobs lane n) (of lane got) (of lane items) e' (no_last lane n) (last_of lane got ∙ there) in
+    let none : of lane items ≡ [] = last_ends lane (first_jobs lane n) (of lane got) (of lane items)
+    e' (no_last lane n) (last_of lane got ∙ there) in
     sym (append-nil (of lane got)) ∙ ap (λ l. of lane got ++ l) (sym none) ∙ sym e'
 
 back_of : (jobs : List LaneJob) → has_back (of A jobs) ≡ has_back jobs
@@ -79,7 +92,8 @@ back-first (Send l n ∷ x) y e = back-first x y e
 back-first (Last l ∷ x) y e = back-first x y e
 back-first (Back ∷ x) y e = e
 
-back-else : (x : List LaneJob) (j : LaneJob) → has_back (j ∷ []) ≡ false → has_back x ≡ false → has_back (x ++ j ∷ []) ≡ false
+back-else : (x : List LaneJob) (j : LaneJob) → has_back (j ∷ []) ≡ false → has_back x ≡ false
+    → has_back (x ++ j ∷ []) ≡ false
 back-else [] j e free = e
 back-else (Send l n ∷ x) j e free = back-else x j e free
 back-else (Last l ∷ x) j e free = back-else x j e free
@@ -90,11 +104,15 @@ no_back lane zero = refl
 no_back lane (suc n) = back-else (first_jobs lane n) (Send lane n) refl (no_back lane n)
 
 -- lanes never send the writer back
-not_back : (n : ℕ) (got items : List LaneJob) → all_jobs A n ≡ of A (got ++ items) → has_back got ≡ false
+not_back : (n : ℕ) (got items : List LaneJob) → all_jobs A n ≡ of A (got ++ items)
+    → has_back got ≡ false
 not_back n got items e = sym (back_of got)
-    ∙ back-first (of A got) (of A items) (ap has_back (sym (e ∙ of-append A got items)) ∙ back-else (first_jobs A n) (Last A) refl (no_back A n))
+    ∙ back-first (of A got) (of A items)
+    (ap has_back (sym (e ∙ of-append A got items))
+    ∙ back-else (first_jobs A n) (Last A) refl (no_back A n))
 
-both_last : (x y z : Bool) → (if x then true else (if y then z else false)) ≡ true → x ≡ false → (y ≡ true) × (z ≡ true)
+both_last : (x y z : Bool) → (if x then true else (if y then z else false)) ≡ true → x ≡ false
+    → (y ≡ true) × (z ≡ true)
 both_last true y z e free = absurd (true≢false free)
 both_last false true z e free = (refl, e)
 both_last false false z e free = absurd (true≢false (sym e))
@@ -163,10 +181,14 @@ module _ {W : Type 0} (did finished : W → List LaneJob → W → Type 0) (a b 
       (took.stopped (ap has_back is)) finishes)
 
 -- the pass that took in the taker's
-pub told_both : (v w z : Log) (x y : List LaneJob) → v ≡ log (Some x) (Some y) None → w ≡ log None None (Some (known w.got)) → z ≡ log v.a v.b w.got → (items : List LaneJob) → AllTold z items
+pub told_both : (v w z : Log) (x y : List LaneJob) → v ≡ log (Some x) (Some y) None
+    → w ≡ log None None (Some (known w.got)) → z ≡ log v.a v.b w.got → (items : List LaneJob)
+    → AllTold z items
     → (x ≡ of A (known w.got ++ items)) × (y ≡ of B (known w.got ++ items))
 told_both v w z x y ev ew ez items told =
     let got : known z.got ≡ known w.got = ap (λ u. known u.got) ez in (
-      sym (ap (λ u. known u.a) ez ∙ ap (λ u. known u.a) ev) ∙ ap (λ u. known u.a) told ∙ ap (λ l. of A (l ++ items)) got,
-      sym (ap (λ u. known u.b) ez ∙ ap (λ u. known u.b) ev) ∙ ap (λ u. known u.b) told ∙ ap (λ l. of B (l ++ items)) got,
+      sym (ap (λ u. known u.a) ez ∙ ap (λ u. known u.a) ev) ∙ ap (λ u. known u.a) told
+          ∙ ap (λ l. of A (l ++ items)) got,
+      sym (ap (λ u. known u.b) ez ∙ ap (λ u. known u.b) ev) ∙ ap (λ u. known u.b) told
+          ∙ ap (λ l. of B (l ++ items)) got,
     )

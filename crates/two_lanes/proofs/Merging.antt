@@ -1,8 +1,10 @@
 -- Letters, and the two lists that a merge comes from.
-use Rattle.std.proofs.Common.{◌≡◌, ◌≤◌, ◌∙◌, ℕ, zero, suc, List, [], ◌∷◌, ◌++◌, take, drop, length, refl, sym, ap, append_assoc, append-nil, arith}
+use Rattle.std.proofs.Common.{◌≡◌, ◌≤◌, ◌∙◌, ℕ, zero, suc, List, [], ◌∷◌, ◌++◌, take, drop, length}
+use Rattle.std.proofs.Common.{refl, sym, ap, append_assoc, append-nil, arith}
 use Rattle.two_lanes.specs.declared.jobs.Lane.{Lane}
 use Rattle.two_lanes.specs.declared.jobs.Lane.TheVariants.{A, B}
-use Rattle.two_lanes.specs.Merges.{elements_of, InOrder, merge, MergesAreInOrder, MergesGrowByOne, Step, tagged, tags_of, times, values}
+use Rattle.two_lanes.specs.Merges.{elements_of, InOrder, merge, MergesAreInOrder, MergesGrowByOne}
+use Rattle.two_lanes.specs.Merges.{Step, tagged, tags_of, times, values}
 
 module _ {T : Type 0} where
   pub merge-steps : (s : List (Step T)) (ra rb : List T)

@@ -1,6 +1,7 @@
 -- What jobs name of two lists, for callers: a worker that has done jobs that name all elements has
 -- dealt with a merge of both lists.
-use Rattle.std.proofs.Common.{◌≡◌, ◌+◌, ℕ, zero, suc, List, [], ◌∷◌, ◌++◌, take, length, sym, refl, ap, ◌∙◌, append_assoc, append-nil, arith, Option, None, Some}
+use Rattle.std.proofs.Common.{◌≡◌, ◌+◌, ℕ, zero, suc, List, [], ◌∷◌, ◌++◌, take, length, sym, refl}
+use Rattle.std.proofs.Common.{ap, ◌∙◌, append_assoc, append-nil, arith, Option, None, Some}
 use Rattle.std.proofs.lemmas.List.{take_all}
 use Rattle.std.specs.List.{slice_get}
 use Rattle.two_lanes.specs.declared.jobs.Lane.{Lane}

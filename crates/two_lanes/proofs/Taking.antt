@@ -1,5 +1,6 @@
 -- What a worker's thread knows after one more job.
-use Rattle.std.proofs.Common.{◌≡◌, ℕ, Bool, true, false, true≢false, List, [], ◌∷◌, ◌++◌, sym, refl, ap, ◌∙◌, subst, Option, None, Some, if◌then◌else◌}
+use Rattle.std.proofs.Common.{◌≡◌, ℕ, Bool, true, false, true≢false, List, [], ◌∷◌, ◌++◌, sym, refl}
+use Rattle.std.proofs.Common.{ap, ◌∙◌, subst, Option, None, Some, if◌then◌else◌}
 use Rattle.two_lanes.specs.declared.jobs.Lane.{Lane}
 use Rattle.two_lanes.specs.declared.jobs.Lane.TheVariants.{A, B}
 use Rattle.two_lanes.specs.declared.jobs.LaneJob.{LaneJob}

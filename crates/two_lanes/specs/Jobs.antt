@@ -1,6 +1,7 @@
 -- The rule of the channel: for each lane, the jobs of it that were taken and those that wait are
 -- what was sent of it. One pass at most may send of a lane, and one may take.
-use Rattle.std.specs.Prelude.{◌≡◌, ℕ, zero, suc, Bool, true, false, List, [], ◌∷◌, ◌++◌, Option, None, Some, IfSome, if◌then◌else◌}
+use Rattle.std.specs.Prelude.{◌≡◌, ℕ, zero, suc, Bool, true, false, List, [], ◌∷◌, ◌++◌, Option}
+use Rattle.std.specs.Prelude.{None, Some, IfSome, if◌then◌else◌}
 use Rattle.std.specs.List.{filter}
 use mathlib.Core.Option.{some}
 use lib.ListN.{get_elem?}
@@ -89,10 +90,11 @@ abbrev pub after_send : Log → LaneJob → Log
 after_send v x = send_on (lane_of x) v x
 
 -- one pass at most has this side, and what it knows is these jobs
-pub record Has (f : Log → Option (List LaneJob)) (jobs : List LaneJob) (views : List Log) : Type 0 where
-  pub seat : ℕ
-  pub told : (pass : ℕ) (v : Log) → get_elem? views pass ≡ some v
-      → IfSome (f v) (λ k. (pass ≡ seat) × (k ≡ jobs))
+pub record Has (f : Log → Option (List LaneJob)) (jobs : List LaneJob) (views : List Log) : Type 0
+  where
+    pub seat : ℕ
+    pub told : (pass : ℕ) (v : Log) → get_elem? views pass ≡ some v
+        → IfSome (f v) (λ k. (pass ≡ seat) × (k ≡ jobs))
 
 abbrev pub Crossing : List LaneJob → List Log → Type 0
 Crossing items views = (got : List LaneJob)

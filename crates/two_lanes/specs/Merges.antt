@@ -1,5 +1,6 @@
 -- Elements of two lists, each with the letter of its list.
-use Rattle.std.specs.Prelude.{◌≡◌, ℕ, ◌≤◌, List, [], ◌∷◌, ◌++◌, map, take, drop, length, None, Some, Option, if◌then◌else◌}
+use Rattle.std.specs.Prelude.{◌≡◌, ℕ, ◌≤◌, List, [], ◌∷◌, ◌++◌, map, take, drop, length, None, Some}
+use Rattle.std.specs.Prelude.{Option, if◌then◌else◌}
 use Rattle.std.specs.List.{filter, slice_get}
 use Rattle.two_lanes.specs.declared.jobs.Lane.{Lane}
 use Rattle.two_lanes.specs.declared.jobs.Lane.TheVariants.{A, B}

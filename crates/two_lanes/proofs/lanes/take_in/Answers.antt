@@ -10,7 +10,8 @@ absorb-requires-clause-rule c = merges_working _ _ _ _ (ap (λ v. is_known v.got
 
 pub learn_as-requires-clause-rule : goal.learn_as-requires-clause-rule
 learn_as-requires-clause-rule c =
-    totals _ _ (ap (λ v. is_known v.a) c.absorb.ensures.rule ∙ ap (λ v. is_known v.a) c.requires.sent)
+    totals _ _ (ap (λ v. is_known v.a) c.absorb.ensures.rule
+    ∙ ap (λ v. is_known v.a) c.requires.sent)
     (ap (λ v. is_known v.b) c.absorb.ensures.rule ∙ ap (λ v. is_known v.b) c.requires.sent)
     (ap (λ v. is_known v.got) c.absorb.ensures.rule ∙ ap (λ v. is_known v.got) c.requires.got)
 
