@@ -31,21 +31,23 @@ use Rattle.nbfx_values.specs.declared.session.Kind.TheVariants as kinds
 -- ---- limits
 
 abbrev is_good : Limits → Bool
-is_good l = nat_le 4096 l.payload && (nat_le l.payload 1048576 && (nat_le 4 l.depth
-    && (nat_le l.depth 128 && (nat_le l.dictionary l.payload && (nat_le l.payload l.content
-    && (nat_le l.content 16777216 && (nat_le 16 l.via && (nat_le l.via 2048
-    && (nat_le 1 l.session && nat_le l.session 281474976710656)))))))))
+is_good l = nat_le 4096 l.payload && (nat_le l.payload 16777216 && (nat_le 4 l.depth
+    && (nat_le l.depth 1024 && (nat_le l.dictionary l.payload && (nat_le l.dictionary 1048576
+    && (nat_le l.payload l.content && (nat_le l.content 67108864 && (nat_le 16 l.via
+    && (nat_le l.via 2048 && (nat_le 1 l.session
+    && nat_le l.session 281474976710656))))))))))
 
 good-passes : (l : Limits) → IsGood l → is_good l ≡ true
 good-passes l g =
     rw (
       le-leb 4096 l.payload g.payload_least,
-      le-leb l.payload 1048576 g.payload_most,
+      le-leb l.payload 16777216 g.payload_most,
       le-leb 4 l.depth g.depth_least,
-      le-leb l.depth 128 g.depth_most,
+      le-leb l.depth 1024 g.depth_most,
       le-leb l.dictionary l.payload g.dictionary_most,
+      le-leb l.dictionary 1048576 g.dictionary_greatest,
       le-leb l.payload l.content g.content_least,
-      le-leb l.content 16777216 g.content_most,
+      le-leb l.content 67108864 g.content_most,
       le-leb 16 l.via g.via_least,
       le-leb l.via 2048 g.via_most,
       le-leb 1 l.session g.session_least,
@@ -59,7 +61,8 @@ passes-good l e =
     let c = both _ _ b.1 in
     let d = both _ _ c.1 in
     let f = both _ _ d.1 in
-    let g = both _ _ f.1 in
+    let f2 = both _ _ f.1 in
+    let g = both _ _ f2.1 in
     let h = both _ _ g.1 in
     let i = both _ _ h.1 in
     let j = both _ _ i.1 in
@@ -70,6 +73,7 @@ passes-good l e =
       depth_least = leb-true _ _ c.0;
       depth_most = leb-true _ _ d.0;
       dictionary_most = leb-true _ _ f.0;
+      dictionary_greatest = leb-true _ _ f2.0;
       content_least = leb-true _ _ g.0;
       content_most = leb-true _ _ h.0;
       via_least = leb-true _ _ i.0;

@@ -97,14 +97,14 @@ numbers = (
   codes "x check --static S --payload 65537",
   within (limits 65537 32 2048 262148 2048 281474976710656) Summary Initiator,
 ) ∷ (
-  codes "x check --static S --payload 1048576",
-  within (limits 1048576 32 2048 4194304 2048 281474976710656) Summary Initiator,
+  codes "x check --static S --payload 16777216",
+  within (limits 16777216 32 2048 67108864 2048 281474976710656) Summary Initiator,
 ) ∷ (
   codes "x check --static S --depth 4",
   within (limits 65536 4 2048 262144 2048 281474976710656) Summary Initiator,
 ) ∷ (
-  codes "x check --static S --depth 128",
-  within (limits 65536 128 2048 262144 2048 281474976710656) Summary Initiator,
+  codes "x check --static S --depth 1024",
+  within (limits 65536 1024 2048 262144 2048 281474976710656) Summary Initiator,
 ) ∷ (
   codes "x check --static S --dictionary 0",
   within (limits 65536 32 0 262144 2048 281474976710656) Summary Initiator,
@@ -112,11 +112,14 @@ numbers = (
   codes "x check --static S --dictionary 65536",
   within (limits 65536 32 65536 262144 2048 281474976710656) Summary Initiator,
 ) ∷ (
+  codes "x check --static S --payload 1048577 --dictionary 1048576",
+  within (limits 1048577 32 1048576 4194308 2048 281474976710656) Summary Initiator,
+) ∷ (
   codes "x check --static S --content 65536",
   within (limits 65536 32 2048 65536 2048 281474976710656) Summary Initiator,
 ) ∷ (
-  codes "x check --static S --content 16777216",
-  within (limits 65536 32 2048 16777216 2048 281474976710656) Summary Initiator,
+  codes "x check --static S --content 67108864",
+  within (limits 65536 32 2048 67108864 2048 281474976710656) Summary Initiator,
 ) ∷
     (codes "x check --static S --session 281474976710656", usual Summary Initiator) ∷
     []
@@ -339,12 +342,13 @@ are_missing_or_twice = are-refused missing_or_twice refl
 abbrev no_good_number : List Text
 no_good_number =
     codes "x check --static S --payload 4095" ∷
-    codes "x check --static S --payload 1048577" ∷
+    codes "x check --static S --payload 16777217" ∷
     codes "x check --static S --depth 3" ∷
-    codes "x check --static S --depth 129" ∷
+    codes "x check --static S --depth 1025" ∷
     codes "x check --static S --dictionary 65537" ∷
     codes "x check --static S --content 65535" ∷
-    codes "x check --static S --content 16777217" ∷
+    codes "x check --static S --payload 2097152 --dictionary 1048577" ∷
+    codes "x check --static S --content 67108865" ∷
     codes "x check --static S --session 0" ∷
     codes "x check --static S --session 281474976710657" ∷
     codes "x check --static S --session 18446744073709551617" ∷

@@ -23,12 +23,13 @@ limits payload depth dictionary content via session = record {
 -- the least and the greatest value of each
 pub record IsGood (q : Limits) : Type 0 where
   pub payload_least : 4096 ≤ q.payload
-  pub payload_most : q.payload ≤ 1048576
+  pub payload_most : q.payload ≤ 16777216
   pub depth_least : 4 ≤ q.depth
-  pub depth_most : q.depth ≤ 128
+  pub depth_most : q.depth ≤ 1024
   pub dictionary_most : q.dictionary ≤ q.payload
+  pub dictionary_greatest : q.dictionary ≤ 1048576
   pub content_least : q.payload ≤ q.content
-  pub content_most : q.content ≤ 16777216
+  pub content_most : q.content ≤ 67108864
   pub via_least : 16 ≤ q.via
   pub via_most : q.via ≤ 2048
   pub session_least : 1 ≤ q.session

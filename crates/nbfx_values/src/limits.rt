@@ -18,14 +18,15 @@ const USUAL_SESSION: u64 = 1 << 48;
 /// What a reader or writer of sessions admits; valid by its type. Sizes are in bytes.
 #[derive(Clone, Copy, Debug, PartialEq, Eq)]
 pub struct Quotas {
-    /// The most bytes of one envelope's payload: 4,096 to 1,048,576.
+    /// The most bytes of one envelope's payload: 4,096 to 16,777,216.
     pub payload: u32,
-    /// The most elements that are open at one moment, an array's element included: 4 to 128.
+    /// The most elements that are open at one moment, an array's element included: 4 to 1,024.
     pub depth: u32,
-    /// The most that the session strings of one direction cost: at most the payload quota.
+    /// The most that the session strings of one direction cost: at most the payload quota, and at
+    /// most 1,048,576.
     pub dictionary: u32,
     /// The greatest [content](crate::Doc::content) of one document: the payload quota to
-    /// 16,777,216.
+    /// 67,108,864.
     pub content: u32,
     /// The most bytes of a Via, or of a Fault's text: 16 to 2,048.
     pub via: u32,
@@ -68,11 +69,12 @@ impl Quotas {
         ensures limits { IfSome result (λ quotas.
             limits_of quotas ≡ limits payload depth dictionary content via session) }
     {
-        let good = (4_096..=1_048_576).contains(&payload)
-            && (4..=128).contains(&depth)
+        let good = (4_096..=16_777_216).contains(&payload)
+            && (4..=1_024).contains(&depth)
             && dictionary <= payload
+            && dictionary <= 1_048_576
             && payload <= content
-            && content <= 16_777_216
+            && content <= 67_108_864
             && (16..=2_048).contains(&via)
             && 1 <= session
             && session <= 1 << 48;
@@ -89,6 +91,15 @@ impl Quotas {
             None
         }
     }
+}
+
+/// The quotas of both directions of a session.
+#[derive(Clone, Copy, Debug, PartialEq, Eq)]
+pub struct Two {
+    /// Of what the initiator sends and the receiver reads.
+    pub forward: Quotas,
+    /// Of what the receiver sends and the initiator reads.
+    pub back: Quotas,
 }
 
 /// What a reader holds of its input at one moment.

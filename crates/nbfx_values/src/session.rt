@@ -1,7 +1,7 @@
 //! The modes and encodings of sessions.
 
 ghost use Rattle.std.specs.Prelude.{◌≡◌};
-ghost use Rattle.nbfx_values.specs.Session.{kind_number, mode_number};
+ghost use Rattle.nbfx_values.specs.Session.{content_type, encoding_kind, kind_number, mode_number};
 
 /// How the two ends of a session send messages: what the Mode Record of MC-NMF names.
 #[derive(Clone, Copy, Debug, PartialEq, Eq)]
@@ -46,6 +46,36 @@ impl Kind {
         match self {
             Kind::Plain => 7,
             Kind::Session => 8,
+        }
+    }
+
+    /// The content type by which an Extensible Encoding Record names it.
+    pub fn content_type(&self) -> &'static str
+        ensures { result.now ≡ content_type self.now }
+    {
+        match self {
+            Kind::Plain => "application/soap+msbin1",
+            Kind::Session => "application/soap+msbinsession1",
+        }
+    }
+}
+
+/// How a preamble says which encoding the envelopes have.
+#[derive(Clone, Copy, Debug, PartialEq, Eq)]
+pub enum Encoding {
+    /// By its number, in a Known Encoding Record.
+    Known(Kind),
+    /// By its content type, in an Extensible Encoding Record.
+    Extensible(Kind),
+}
+
+impl Encoding {
+    /// The encoding that it names.
+    pub fn kind(&self) -> Kind
+        ensures { result ≡ encoding_kind self.now }
+    {
+        match self {
+            Encoding::Known(kind) | Encoding::Extensible(kind) => *kind,
         }
     }
 }

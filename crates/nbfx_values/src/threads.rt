@@ -3,7 +3,7 @@
 use crate::builder::DocBuilder;
 use crate::content::Items;
 use crate::document::{Doc, Docs};
-use crate::limits::Quotas;
+use crate::limits::{Quotas, Two};
 
 fn moves<T: Send>() {}
 
@@ -16,6 +16,8 @@ fn move_and_share() {
     moves::<DocBuilder>();
     moves::<Items>();
     moves::<Quotas>();
+    moves::<Two>();
     is_shared::<Docs>();
     is_shared::<Quotas>();
+    is_shared::<Two>();
 }

@@ -14,6 +14,7 @@ mod fault;
 mod header;
 mod names;
 mod table;
+mod threads;
 
 pub use fault::{TableFault, TableKind};
 pub use table::StaticTable;
