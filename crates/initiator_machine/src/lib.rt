@@ -11,6 +11,7 @@
 mod initiator;
 pub mod laws;
 mod preamble;
+mod threads;
 
 pub use initiator::Initiator;
 pub use preamble::opening;

@@ -19,6 +19,7 @@ mod measuring;
 mod quick;
 mod section;
 mod strings;
+mod threads;
 mod units;
 
 pub use decoder::Decoder;

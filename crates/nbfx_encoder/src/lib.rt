@@ -14,6 +14,7 @@ mod items;
 pub mod laws;
 mod sender;
 mod speller;
+mod threads;
 
 pub use encoder::Encoder;
 pub use faults::EncodeFault;

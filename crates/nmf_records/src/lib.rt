@@ -29,6 +29,7 @@ mod reader;
 pub mod record_types;
 mod script;
 mod stage;
+mod threads;
 mod writing;
 
 pub use fault_texts::fault_text;

@@ -10,6 +10,7 @@
 
 mod owed;
 mod receiver;
+mod threads;
 
 pub use owed::closing_record;
 pub use receiver::Receiver;

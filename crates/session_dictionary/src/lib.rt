@@ -11,5 +11,6 @@
 mod order;
 mod table;
 mod texts;
+mod threads;
 
 pub use table::{AddFault, Mark, SessionTable};

@@ -21,6 +21,7 @@ mod reader;
 mod runs;
 mod side;
 mod stepping;
+mod threads;
 
 pub use reader::{ReadRefusal, StreamReader, StreamStep};
 pub use side::{Endpoint, Side};

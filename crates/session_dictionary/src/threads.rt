@@ -1,0 +1,10 @@
+//! Which types may move between threads.
+
+use crate::table::SessionTable;
+
+fn moves<T: Send>() {}
+
+// A type that may not fails here, and not at the first thread that takes it.
+fn move_all() {
+    moves::<SessionTable>();
+}
