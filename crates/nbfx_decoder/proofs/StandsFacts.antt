@@ -105,11 +105,11 @@ few_bytes d n none within =
     let most = d.units.quotas.good.payload_most in
     omega (arith, le, most)
 
-pub payload_small : (d : Decoder) → (settings_of d).limits.payload ≤ 1048576
+pub payload_small : (d : Decoder) → (settings_of d).limits.payload ≤ 16777216
 unfolding settings_of
 payload_small d = d.units.quotas.good.payload_most
 
-pub content_most : (d : Decoder) → (settings_of d).limits.content ≤ 16777216
+pub content_most : (d : Decoder) → (settings_of d).limits.content ≤ 67108864
 unfolding settings_of
 content_most d = d.units.quotas.good.content_most
 
@@ -117,7 +117,7 @@ pub depth_some : (d : Decoder) → 0 < (settings_of d).limits.depth
 unfolding settings_of
 depth_some d = let least = d.units.quotas.good.depth_least in omega (arith, least)
 
-pub depth_most : (d : Decoder) → (settings_of d).limits.depth ≤ 128
+pub depth_most : (d : Decoder) → (settings_of d).limits.depth ≤ 1024
 unfolding settings_of
 depth_most d = d.units.quotas.good.depth_most
 
