@@ -3,8 +3,9 @@ use Rattle.std.specs.Prelude.{ℕ, List, codes}
 use Rattle.nbfx_values.specs.declared.refusals.Reason.{Reason, TheVariants.UpgradeRefused}
 use Rattle.nbfx_values.specs.declared.refusals.Reason.TheVariants.{BadArray, BadEncoding, BadInt}
 use Rattle.nbfx_values.specs.declared.refusals.Reason.TheVariants.{BadMode, BadUtf8, BadValue}
-use Rattle.nbfx_values.specs.declared.refusals.Reason.TheVariants.{BadVersion, DictionaryFull}
-use Rattle.nbfx_values.specs.declared.refusals.Reason.TheVariants.{DocumentCut, EndpointNotFound}
+use Rattle.nbfx_values.specs.declared.refusals.Reason.TheVariants.{BadVersion, ContentTypeTooLong}
+use Rattle.nbfx_values.specs.declared.refusals.Reason.TheVariants.{DictionaryFull, DocumentCut}
+use Rattle.nbfx_values.specs.declared.refusals.Reason.TheVariants.{EndpointNotFound}
 use Rattle.nbfx_values.specs.declared.refusals.Reason.TheVariants.{MessageTooLarge, NodeOutOfPlace}
 use Rattle.nbfx_values.specs.declared.refusals.Reason.TheVariants.{OutOfOrder, SessionTooLong}
 use Rattle.nbfx_values.specs.declared.refusals.Reason.TheVariants.{TableCut, TextNotUtf8}
@@ -39,6 +40,7 @@ reason_number DocumentCut = 22
 reason_number TrailingBytes = 23
 reason_number Truncated = 24
 reason_number SessionTooLong = 25
+reason_number ContentTypeTooLong = 26
 
 abbrev pub reason_name : Reason → List ℕ
 reason_name BadInt = codes "BadInt"
@@ -66,3 +68,4 @@ reason_name DocumentCut = codes "DocumentCut"
 reason_name TrailingBytes = codes "TrailingBytes"
 reason_name Truncated = codes "Truncated"
 reason_name SessionTooLong = codes "SessionTooLong"
+reason_name ContentTypeTooLong = codes "ContentTypeTooLong"

@@ -18,11 +18,11 @@ pub enum Reason {
     BadMode,
     /// The length of a Via or a Fault's text is above the via quota.
     TextTooLong,
-    /// A Via or a Fault's text isn't UTF-8.
+    /// A Via, a Fault's text or a content type isn't UTF-8.
     TextNotUtf8,
     /// The Via isn't the endpoint that is served.
     EndpointNotFound,
-    /// The encoding isn't a known encoding 7 or 8.
+    /// The encoding isn't known encoding 7 or 8, nor the content type of one of these.
     BadEncoding,
     /// The peer asks for an upgrade of the transport.
     UpgradeRefused,
@@ -56,10 +56,12 @@ pub enum Reason {
     Truncated,
     /// The session quota is read and the session hasn't ended.
     SessionTooLong,
+    /// The length of a content type is above 256.
+    ContentTypeTooLong,
 }
 
 impl Reason {
-    /// The reason's number in reports, 1 to 25.
+    /// The reason's number in reports, 1 to 26.
     pub fn number(&self) -> u8
         ensures { result ≡ reason_number self.now }
     {
@@ -89,6 +91,7 @@ impl Reason {
             Reason::TrailingBytes => 23,
             Reason::Truncated => 24,
             Reason::SessionTooLong => 25,
+            Reason::ContentTypeTooLong => 26,
         }
     }
 
@@ -122,6 +125,7 @@ impl Reason {
             Reason::TrailingBytes => "TrailingBytes",
             Reason::Truncated => "Truncated",
             Reason::SessionTooLong => "SessionTooLong",
+            Reason::ContentTypeTooLong => "ContentTypeTooLong",
         }
     }
 }

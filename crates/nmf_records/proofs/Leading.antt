@@ -1,4 +1,5 @@
 -- What a byte of a type, a field or a size led to.
+use Rattle.nmf_records.specs.RecordFronts.{TextLimits}
 use Rattle.std.proofs.Common.{◌≡◌, ℕ, suc, ◌+◌, ◌≤◌, List, [], ◌∷◌, ◌++◌, length, drop, sym, refl}
 use Rattle.std.proofs.Common.{ap, ◌∙◌, subst, arith, length-append}
 use Rattle.unit_streams.{proofs.Behind.behind_begun, specs.Front.begun}
@@ -22,7 +23,7 @@ use Rattle.nmf_records.specs.declared.stage.Stage.TheVariants as stages
 
 -- a reader of texts that begins anew has no byte of one
 holds_text : (mid : FrameReader) (stage : Stage) (p : List ℕ) → HasNoText stage p
-    → BeginsAnew mid (Going stage) → HoldsText stage mid.text p
+    → BeginsAnew mid (Going stage) → HoldsText stage mid p
 holds_text mid stages.Type p none anew = tt
 holds_text mid (stages.Field field) p none anew = tt
 holds_text mid (stages.Text text) p none anew = rw none anew
@@ -30,14 +31,14 @@ holds_text mid (stages.Size size) p none anew = tt
 holds_text mid (stages.Failed fault) p none anew = tt
 
 -- a fixed byte leads where it goes
-pub fixed_leads : (limit : ℕ) (expect : Expect) (p : List ℕ) (mid : FrameReader)
-    (progress : Progress) → Meets (frame_at limit expect p) (length p) progress
+pub fixed_leads : (limits : TextLimits) (expect : Expect) (p : List ℕ) (mid : FrameReader)
+    (progress : Progress) → Meets (frame_at limits expect p) (length p) progress
     → GoesTo expect p progress → IntStandsFor mid.size [] → BeginsAnew mid progress
-    → Progresses limit expect p mid progress
-fixed_leads limit expect p mid (Going stage) meets goes int anew =
+    → Progresses limits expect p mid progress
+fixed_leads limits expect p mid (Going stage) meets goes int anew =
     (meets, goes.0, rw goes.1 int, holds_text mid stage p goes.2 anew)
-fixed_leads limit expect p mid (Done frame) meets goes int anew = (meets.0, meets.1, int)
-fixed_leads limit expect p mid (Wrong fault) meets goes int anew = meets
+fixed_leads limits expect p mid (Done frame) meets goes int anew = (meets.0, meets.1, int)
+fixed_leads limits expect p mid (Wrong fault) meets goes int anew = meets
 
 -- a text doesn't begin with a second byte
 pub not_anew : (expect : Expect) (p : List ℕ) (mid : FrameReader) (progress : Progress) → 2
@@ -58,14 +59,16 @@ begun_size n frame b h = behind_begun n (λ size. bare (frame size)) (λ _. faul
     h
 
 -- what a size behind n bytes led to
-module _ (limit n : ℕ) (expect : Expect) (size : SizeRecord) (q : List ℕ) (byte : ℕ) (p : List ℕ)
+module _ (limits : TextLimits) (n : ℕ) (expect : Expect) (size : SizeRecord) (q : List ℕ)
+    (byte : ℕ) (p : List ℕ)
   where
     -- where its bytes with one more lead
-    pub size_leads : (mid : FrameReader) (progress : Progress) → frame_at limit expect p
+    pub size_leads : (mid : FrameReader) (progress : Progress) → frame_at limits expect p
         ≡ size_at n (sized size) (q ++ byte ∷ []) → length p ≡ n + length (q ++ byte ∷ [])
         → HasShape expect (stages.Size size) p → size_bytes (stages.Size size) p ≡ q ++ byte ∷ []
         → int_at q ≡ begun
-        → SizeAnswers size (q ++ byte ∷ []) mid.size progress → Progresses limit expect p mid progress
+        → SizeAnswers size (q ++ byte ∷ []) mid.size progress
+        → Progresses limits expect p mid progress
     size_leads mid (Going stage) reads len shape bytes so_far answers =
         rw answers.0 (reads ∙ ap (as_size n (sized size)) answers.1, shape, rw bytes answers.2, tt)
     size_leads mid (Done frame) reads len shape bytes so_far answers =
@@ -97,40 +100,41 @@ one_more : (p : List ℕ) (byte : ℕ) → length (p ++ byte ∷ []) ≡ length 
 one_more p byte = simp length-append
 
 -- a byte of a fixed field
-pub field_leads : (limit : ℕ) (expect : Expect) (field : Field) (p : List ℕ) (byte : ℕ)
+pub field_leads : (limits : TextLimits) (expect : Expect) (field : Field) (p : List ℕ) (byte : ℕ)
     (mid : FrameReader) (progress : Progress)
-    → HasShape expect (stages.Field field) p → Meets (frame_at limit expect (p ++ byte ∷ []))
+    → HasShape expect (stages.Field field) p → Meets (frame_at limits expect (p ++ byte ∷ []))
     (length p + 1) progress → GoesTo expect (p ++ byte ∷ []) progress → IntStandsFor mid.size []
-    → Progresses limit expect (p ++ byte ∷ []) mid progress
-field_leads limit expect field p byte mid progress shape meets goes int =
+    → Progresses limits expect (p ++ byte ∷ []) mid progress
+field_leads limits expect field p byte mid progress shape meets goes int =
     let len = one_more p byte in
     let some = field_some expect field p shape in
-    fixed_leads limit expect (p ++ byte ∷ []) mid progress
-    (subst (λ n. Meets (frame_at limit expect (p ++ byte ∷ [])) n progress) (sym len) meets) goes
+    fixed_leads limits expect (p ++ byte ∷ []) mid progress
+    (subst (λ n. Meets (frame_at limits expect (p ++ byte ∷ [])) n progress) (sym len) meets) goes
     int (not_anew expect (p ++ byte ∷ []) mid progress (omega (arith, len, some)) goes)
 
 -- a byte of a size that has begun
-pub size_byte_leads : (limit : ℕ) (expect : Expect) (size : SizeRecord) (p : List ℕ) (byte : ℕ)
+pub size_byte_leads : (limits : TextLimits) (expect : Expect) (size : SizeRecord) (p : List ℕ)
+    (byte : ℕ)
     (mid : FrameReader) (progress : Progress)
-    → frame_at limit expect p ≡ begun → HasShape expect (stages.Size size) p
+    → frame_at limits expect p ≡ begun → HasShape expect (stages.Size size) p
     → SizeAnswers size (size_bytes (stages.Size size) p ++ byte ∷ []) mid.size progress
-    → Progresses limit expect (p ++ byte ∷ []) mid progress
-size_byte_leads limit expect sizes.SizedEnvelope p byte mid progress so_far shape answers =
+    → Progresses limits expect (p ++ byte ∷ []) mid progress
+size_byte_leads limits expect sizes.SizedEnvelope p byte mid progress so_far shape answers =
     let q : List ℕ = drop 1 p in
-    let so_far' : frame_at limit expect (SIZED_ENVELOPE ∷ q) ≡ begun = ap (frame_at limit expect)
+    let so_far' : frame_at limits expect (SIZED_ENVELOPE ∷ q) ≡ begun = ap (frame_at limits expect)
     (sym shape) ∙ so_far in
     let more : p ++ byte ∷ [] ≡ SIZED_ENVELOPE ∷ (q ++ byte ∷ []) = ap (λ x. x ++ byte ∷ []) shape
     in
-    let reads : frame_at limit expect (SIZED_ENVELOPE ∷ (q ++ byte ∷ []))
-    ≡ size_at 1 frames.SizedEnvelope (q ++ byte ∷ []) = begun_reads limit expect SIZED_ENVELOPE q
+    let reads : frame_at limits expect (SIZED_ENVELOPE ∷ (q ++ byte ∷ []))
+    ≡ size_at 1 frames.SizedEnvelope (q ++ byte ∷ []) = begun_reads limits expect SIZED_ENVELOPE q
     (q ++ byte ∷ []) (omega arith) so_far' in
     let so_far_size : size_at 1 frames.SizedEnvelope q
-    ≡ begun = sym (begun_reads limit expect SIZED_ENVELOPE q q (omega arith) so_far') ∙ so_far' in
-    rw more (size_leads limit 1 expect sizes.SizedEnvelope q byte
+    ≡ begun = sym (begun_reads limits expect SIZED_ENVELOPE q q (omega arith) so_far') ∙ so_far' in
+    rw more (size_leads limits 1 expect sizes.SizedEnvelope q byte
     (SIZED_ENVELOPE ∷ (q ++ byte ∷ [])) mid progress reads (omega arith) refl refl
     (begun_size 1 frames.SizedEnvelope q so_far_size) answers)
-size_byte_leads limit expect sizes.Chunk p byte mid progress so_far shape answers =
-    let so_far' : size_at 0 frames.Chunk p ≡ begun = ap (λ e. frame_at limit e p) (sym shape) ∙
+size_byte_leads limits expect sizes.Chunk p byte mid progress so_far shape answers =
+    let so_far' : size_at 0 frames.Chunk p ≡ begun = ap (λ e. frame_at limits e p) (sym shape) ∙
     so_far in
-    size_leads limit 0 expect sizes.Chunk p byte (p ++ byte ∷ []) mid progress (rw shape refl)
+    size_leads limits 0 expect sizes.Chunk p byte (p ++ byte ∷ []) mid progress (rw shape refl)
     (omega arith) shape refl (begun_size 0 frames.Chunk p so_far') answers

@@ -1,4 +1,5 @@
 -- A record that is read is the bytes that it is read of, and a record's bytes are read as it.
+use Rattle.nmf_records.specs.RecordFronts.{content_type, TextKind, TextLimits, via_or_fault}
 use Rattle.std.proofs.Common.{◌≡◌, ℕ, suc, ◌+◌, ◌≤◌, true, List, [], ◌∷◌, ◌++◌, length, take, drop}
 use Rattle.std.proofs.Common.{nat_lt, Some, sym, refl, ap, ◌∙◌, arith, take-append-drop}
 use Rattle.std.{proofs.Common.length-take-le, specs.Prelude.⊤, proofs.lemmas.Bool.cond_both}
@@ -9,13 +10,14 @@ use Rattle.multibyte_ints.proofs.TextLaws.{string_alone, string_from_whole}
 use Rattle.multibyte_ints.specs.{Integer.int_at, Text.string_at, Text.StringFault}
 use Rattle.nmf_records.specs.declared.frame.Expect.{Expect, TheVariants.Chunk, TheVariants.Types}
 use Rattle.nmf_records.specs.declared.frame.{Frame.Frame, FrameFault.FrameFault}
-use Rattle.nmf_records.specs.declared.record_types.TheConstants.{END, FAULT, GREATEST}
+use Rattle.nmf_records.specs.declared.record_types.TheConstants.{END, EXTENSIBLE_ENCODING, FAULT}
+use Rattle.nmf_records.specs.declared.record_types.TheConstants.{GREATEST}
 use Rattle.nmf_records.specs.declared.record_types.TheConstants.{KNOWN_ENCODING, MODE, PREAMBLE_ACK}
 use Rattle.nmf_records.specs.declared.record_types.TheConstants.{PREAMBLE_END, SIZED_ENVELOPE}
 use Rattle.nmf_records.specs.declared.record_types.TheConstants.{UNSIZED_ENVELOPE, VERSION, VIA}
 use Rattle.nmf_records.specs.RecordFronts.{allows, allows_type, as_size, as_text, byte_at, frame_at}
 use Rattle.nmf_records.specs.RecordFronts.{lone, MayCome, size_at, text_frame_at, typed_at}
-use Rattle.nmf_records.specs.RecordFronts.{version_at, with_text}
+use Rattle.nmf_records.specs.RecordFronts.{limit_for, text_kind, text_limit, version_at, with_text}
 use Rattle.nmf_records.specs.Records.{IsRecord, IsRecordOf, IsTextRecord, Read, type_of}
 use Rattle.nmf_records.proofs.{Frames.frames_front, Typed.type_known}
 use Rattle.nmf_records.proofs.TypeCases.{by_type, read_by_type}
@@ -28,15 +30,16 @@ OfWhole P (whole read n) = P read n
 OfWhole P (wrong fault n) = Unit {0}
 
 -- the bytes at the front are the record, which may come, and its text is within the limit
-abbrev IsReadOf : ℕ → Expect → List ℕ → Read → ℕ → Type 0
-IsReadOf limit expect bytes read n = IsRecord read (take n bytes) × MayCome expect read.frame
-    × (length read.text ≤ limit)
+abbrev IsReadOf : TextLimits → Expect → List ℕ → Read → ℕ → Type 0
+IsReadOf limits expect bytes read n = IsRecord read (take n bytes) × MayCome expect read.frame
+    × (length read.text ≤ text_limit limits read.frame)
 
 -- behind a type byte that may come
-module _ (limit types kind : ℕ) (bytes : List ℕ) (may : allows types kind ≡ true) where
+module _ (limits : TextLimits) (types kind : ℕ) (bytes : List ℕ) (may : allows types kind
+    ≡ true) where
   -- what is read behind the type byte is no whole record, or one that the bytes are
   abbrev Of : Front Read FrameFault → Type 0
-  Of = OfWhole (IsReadOf limit (Types types) (kind ∷ bytes))
+  Of = OfWhole (IsReadOf limits (Types types) (kind ∷ bytes))
 
   -- a record of the type may come
   type_may : (frame : Frame) (n : ℕ) → kind ≡ n → type_of frame ≡ Some n → MayCome (Types types)
@@ -60,14 +63,14 @@ module _ (limit types kind : ℕ) (bytes : List ℕ) (may : allows types kind �
   -- a record with a text is its bytes
   read_text : (frame : Frame) (n : ℕ) → kind ≡ n → type_of frame ≡ Some n
       → ((text b : List ℕ) → IsTextRecord n text b → IsRecordOf frame text b)
-      → Of (text_frame_at limit frame bytes)
-  read_text frame n e is record_of = by_string (string_at limit bytes) refl
+      → Of (text_frame_at limits frame bytes)
+  read_text frame n e is record_of = by_string (string_at (text_limit limits frame) bytes) refl
     where
-      by_string : (y : Front (List ℕ) StringFault) → string_at limit bytes ≡ y
+      by_string : (y : Front (List ℕ) StringFault) → string_at (text_limit limits frame) bytes ≡ y
           → Of (as_text frame y)
       by_string begun h = tt
       by_string (whole s k) h =
-          let w = string_from_whole limit bytes s k h in (
+          let w = string_from_whole (text_limit limits frame) bytes s k h in (
             record_of s (take (1 + k) (kind ∷ bytes)) (take k bytes, w.2, first_more n k e),
             type_may
                 frame n e is,
@@ -89,66 +92,74 @@ module _ (limit types kind : ℕ) (bytes : List ℕ) (may : allows types kind �
       by_int (wrong r k) h = tt
 
 -- a Version record is its bytes
-read_version : (limit types kind : ℕ) (bytes : List ℕ) (may : allows types kind ≡ true) → kind
-    ≡ VERSION → Of limit types kind bytes may (version_at bytes)
-read_version limit types kind [] may e = tt
-read_version limit types kind (major ∷ []) may e = tt
-read_version limit types kind (major ∷ minor ∷ rest) may e = (
+read_version : (limits : TextLimits) (types kind : ℕ) (bytes : List ℕ) (may : allows types kind
+    ≡ true) → kind
+    ≡ VERSION → Of limits types kind bytes may (version_at bytes)
+read_version limits types kind [] may e = tt
+read_version limits types kind (major ∷ []) may e = tt
+read_version limits types kind (major ∷ minor ∷ rest) may e = (
   (refl, ap (λ t. t ∷ major ∷ minor ∷ []) e),
-  type_may limit types kind (major ∷ minor ∷ rest)
+  type_may limits types kind (major ∷ minor ∷ rest)
       may (frames.Version major minor) VERSION e refl,
   omega arith,
 )
 
 -- a record of one byte is its bytes
-read_byte : (limit types kind : ℕ) (bytes : List ℕ) (may : allows types kind ≡ true)
+read_byte : (limits : TextLimits) (types kind : ℕ) (bytes : List ℕ) (may : allows types kind ≡ true)
     (frame : ℕ → Frame) (n : ℕ) → kind ≡ n → ((x : ℕ) → type_of (frame x) ≡ Some n)
-    → ((x : ℕ) (b : List ℕ) → b ≡ n ∷ x ∷ [] → IsRecordOf (frame x) [] b) → Of limit types kind
+    → ((x : ℕ) (b : List ℕ) → b ≡ n ∷ x ∷ [] → IsRecordOf (frame x) [] b) → Of limits types kind
     bytes may (byte_at frame bytes)
-read_byte limit types kind [] may frame n e is record_of = tt
-read_byte limit types kind (x ∷ rest) may frame n e is record_of = (
+read_byte limits types kind [] may frame n e is record_of = tt
+read_byte limits types kind (x ∷ rest) may frame n e is record_of = (
   record_of x (kind ∷ x ∷ []) (ap (λ t. t ∷ x ∷ []) e),
-  type_may limit types kind (x ∷ rest) may
+  type_may limits types kind (x ∷ rest) may
       (frame x) n e (is x),
   omega arith,
 )
 
 -- a record of a type is its bytes
-read_typed : (limit types kind : ℕ) (bytes : List ℕ) (may : allows types kind ≡ true) → kind
-    ≤ GREATEST → Of limit types kind bytes may (typed_at limit kind bytes)
-read_typed limit types kind bytes may le = by_type limit kind bytes (Of limit types kind bytes may)
+read_typed : (limits : TextLimits) (types kind : ℕ) (bytes : List ℕ) (may : allows types kind
+    ≡ true) → kind
+    ≤ GREATEST → Of limits types kind bytes may (typed_at limits kind bytes)
+read_typed limits types kind bytes may le = by_type limits kind bytes
+    (Of limits types kind bytes may)
     le record {
-      version = read_version limit types kind bytes may;
-      mode = λ e. read_byte limit types kind bytes may frames.Mode MODE e (λ x. refl)
+      version = read_version limits types kind bytes may;
+      mode = λ e. read_byte limits types kind bytes may frames.Mode MODE e (λ x. refl)
           (λ x b h. (refl, h));
-      via = λ e. read_text limit types kind bytes may frames.Via VIA e refl (λ text b h. h);
-      encoding = λ e. read_byte limit types kind bytes may frames.KnownEncoding KNOWN_ENCODING e
+      via = λ e. read_text limits types kind bytes may frames.Via VIA e refl (λ text b h. h);
+      encoding = λ e. read_byte limits types kind bytes may frames.KnownEncoding KNOWN_ENCODING e
           (λ x. refl) (λ x b h. (refl, h));
-      unsized_envelope = λ e. read_lone limit types kind bytes may frames.UnsizedEnvelope
+      content_type = λ e. read_text limits types kind bytes may frames.ExtensibleEncoding
+          EXTENSIBLE_ENCODING e refl (λ text b h. h);
+      unsized_envelope = λ e. read_lone limits types kind bytes may frames.UnsizedEnvelope
           UNSIZED_ENVELOPE e refl (λ b h. (refl, h));
-      sized_envelope = read_size limit types kind bytes may;
-      end = λ e. read_lone limit types kind bytes may frames.End END e refl (λ b h. (refl, h));
-      fault = λ e. read_text limit types kind bytes may frames.Fault FAULT e refl (λ text b h. h);
-      preamble_ack = λ e. read_lone limit types kind bytes may frames.PreambleAck PREAMBLE_ACK e refl
+      sized_envelope = read_size limits types kind bytes may;
+      end = λ e. read_lone limits types kind bytes may frames.End END e refl (λ b h. (refl, h));
+      fault = λ e. read_text limits types kind bytes may frames.Fault FAULT e refl (λ text b h. h);
+      preamble_ack = λ e. read_lone limits types kind bytes may frames.PreambleAck PREAMBLE_ACK e
+          refl
           (λ b h. (refl, h));
-      preamble_end = λ e. read_lone limit types kind bytes may frames.PreambleEnd PREAMBLE_END e refl
+      preamble_end = λ e. read_lone limits types kind bytes may frames.PreambleEnd PREAMBLE_END e
+          refl
           (λ b h. (refl, h));
       other = λ e. tt;
     }
 
 -- a record, or a chunk's size, is its bytes
-read_front : (limit : ℕ) (expect : Expect) (bytes : List ℕ) → OfWhole (IsReadOf limit expect bytes)
-    (frame_at limit expect bytes)
-read_front limit (Types types) [] = tt
-read_front limit (Types types) (kind ∷ bytes) =
-    let P : Front Read FrameFault → Type 0 = OfWhole (IsReadOf limit (Types types) (kind ∷ bytes))
+read_front : (limits : TextLimits) (expect : Expect) (bytes : List ℕ)
+    → OfWhole (IsReadOf limits expect bytes)
+    (frame_at limits expect bytes)
+read_front limits (Types types) [] = tt
+read_front limits (Types types) (kind ∷ bytes) =
+    let P : Front Read FrameFault → Type 0 = OfWhole (IsReadOf limits (Types types) (kind ∷ bytes))
     in
     cond_both (nat_lt GREATEST kind) _ _ P (λ _. tt)
     (λ known. cond_both (allows types kind) _ _ P
-    (λ may. read_typed limit types kind bytes may (type_known kind known)) (λ _. tt))
-read_front limit Chunk bytes = by_int (int_at bytes) refl
+    (λ may. read_typed limits types kind bytes may (type_known kind known)) (λ _. tt))
+read_front limits Chunk bytes = by_int (int_at bytes) refl
   where
-    by_int : (y : Front ℕ ⊤) → int_at bytes ≡ y → OfWhole (IsReadOf limit Chunk bytes)
+    by_int : (y : Front ℕ ⊤) → int_at bytes ≡ y → OfWhole (IsReadOf limits Chunk bytes)
         (as_size 0 frames.Chunk y)
     by_int begun h = tt
     by_int (whole n k) h = let z : 0 + k ≡ k = omega arith in
@@ -162,93 +173,111 @@ OfWhole_at P y read n e h = rw e at h
 
 -- the bytes that a record is read of are the record, which may come, and its text is within the
 -- limit
-pub read_record : (limit : ℕ) (expect : Expect) (bytes : List ℕ) (read : Read) (n : ℕ)
-    → frame_at limit expect bytes ≡ whole read n
-    → IsRecord read (take n bytes) × MayCome expect read.frame × (length read.text ≤ limit)
-read_record limit expect bytes read n e = OfWhole_at (IsReadOf limit expect bytes)
-    (frame_at limit expect bytes) read n e (read_front limit expect bytes)
+pub read_record : (limits : TextLimits) (expect : Expect) (bytes : List ℕ) (read : Read) (n : ℕ)
+    → frame_at limits expect bytes ≡ whole read n
+    → IsRecord read (take n bytes) × MayCome expect read.frame
+    × (length read.text ≤ text_limit limits read.frame)
+read_record limits expect bytes read n e = OfWhole_at (IsReadOf limits expect bytes)
+    (frame_at limits expect bytes) read n e (read_front limits expect bytes)
 
 -- a Via's or a Fault's bytes are read as it
-text_record_read : (limit : ℕ) (expect : Expect) (frame : Frame) (kind : ℕ) (text b : List ℕ) → kind
+text_record_read : (limits : TextLimits) (expect : Expect) (frame : Frame) (kind : ℕ)
+    (text b : List ℕ) → kind
     ≤ GREATEST → type_of frame ≡ Some kind
-    → ((c : List ℕ) → typed_at limit kind c ≡ text_frame_at limit frame c)
+    → ((c : List ℕ) → typed_at limits kind c ≡ text_frame_at limits frame c)
     → IsTextRecord kind text b
-    → MayCome expect frame → length text ≤ limit
-    → frame_at limit expect b ≡ whole (with_text frame text) (length b)
-text_record_read limit expect frame kind text b le is reads h may low =
+    → MayCome expect frame → length text ≤ text_limit limits frame
+    → frame_at limits expect b ≡ whole (with_text frame text) (length b)
+text_record_read limits expect frame kind text b le is reads h may low =
     let size : 1 + length h.0 ≡ suc (length h.0) = omega arith in
     rw (
       h.2,
-      read_by_type limit expect frame kind h.0 le is may,
+      read_by_type limits expect frame kind h.0 le is may,
       reads h.0,
-      string_alone limit h.0
+      string_alone (text_limit limits frame) h.0
           text low h.1,
       size,
     ) refl
 
 -- each record's bytes are read as it
-record_of_read : (limit : ℕ) (expect : Expect) (frame : Frame) (text b : List ℕ) → IsRecordOf frame
-    text b → MayCome expect frame → length text ≤ limit
-    → frame_at limit expect b ≡ whole (with_text frame text) (length b)
-record_of_read limit expect (frames.Version major minor) text b h may low =
-    rw (h.0, h.1) (read_by_type limit expect (frames.Version major minor) VERSION
+record_of_read : (limits : TextLimits) (expect : Expect) (frame : Frame) (text b : List ℕ)
+    → IsRecordOf frame
+    text b → MayCome expect frame → length text ≤ text_limit limits frame
+    → frame_at limits expect b ≡ whole (with_text frame text) (length b)
+record_of_read limits expect (frames.Version major minor) text b h may low =
+    rw (h.0, h.1) (read_by_type limits expect (frames.Version major minor) VERSION
     (major ∷ minor ∷ []) (omega arith) refl may)
-record_of_read limit expect (frames.Mode mode) text b h may low =
-    rw (h.0, h.1) (read_by_type limit expect (frames.Mode mode) MODE (mode ∷ []) (omega arith) refl
+record_of_read limits expect (frames.Mode mode) text b h may low =
+    rw (h.0, h.1) (read_by_type limits expect (frames.Mode mode) MODE (mode ∷ []) (omega arith) refl
     may)
-record_of_read limit expect frames.Via text b h may low = text_record_read limit expect frames.Via
+record_of_read limits expect frames.Via text b h may low = text_record_read limits expect frames.Via
     VIA text b (omega arith) refl (λ c. refl) h may low
-record_of_read limit expect (frames.KnownEncoding encoding) text b h may low =
-    rw (h.0, h.1) (read_by_type limit expect (frames.KnownEncoding encoding) KNOWN_ENCODING
+record_of_read limits expect (frames.KnownEncoding encoding) text b h may low =
+    rw (h.0, h.1) (read_by_type limits expect (frames.KnownEncoding encoding) KNOWN_ENCODING
     (encoding ∷ []) (omega arith) refl may)
-record_of_read limit expect frames.UnsizedEnvelope text b h may low = rw (h.0, h.1)
-    (read_by_type limit expect frames.UnsizedEnvelope UNSIZED_ENVELOPE [] (omega arith) refl may)
-record_of_read limit Chunk (frames.Chunk size) text b h may low =
+record_of_read limits expect frames.ExtensibleEncoding text b h may low = text_record_read limits
+    expect frames.ExtensibleEncoding EXTENSIBLE_ENCODING text b (omega arith) refl (λ c. refl) h
+    may low
+record_of_read limits expect frames.UnsizedEnvelope text b h may low = rw (h.0, h.1)
+    (read_by_type limits expect frames.UnsizedEnvelope UNSIZED_ENVELOPE [] (omega arith) refl may)
+record_of_read limits Chunk (frames.Chunk size) text b h may low =
     let none : 0 + length b ≡ length b = omega arith in
     rw (h.0, whole_from_all b size h.1, none) refl
-record_of_read limit (Types types) (frames.Chunk size) text b h may low = cc
-record_of_read limit expect (frames.SizedEnvelope size) text b h may low =
+record_of_read limits (Types types) (frames.Chunk size) text b h may low = cc
+record_of_read limits expect (frames.SizedEnvelope size) text b h may low =
     let n : 1 + length h.1 ≡ suc (length h.1) = omega arith in
     rw (
       h.0,
       h.3,
-      read_by_type limit expect (frames.SizedEnvelope size) SIZED_ENVELOPE h.1
+      read_by_type limits expect (frames.SizedEnvelope size) SIZED_ENVELOPE h.1
           (omega arith) refl may,
       whole_from_all h.1 size h.2,
       n,
     ) refl
-record_of_read limit expect frames.End text b h may low = rw (h.0, h.1)
-    (read_by_type limit expect frames.End END [] (omega arith) refl may)
-record_of_read limit expect frames.Fault text b h may low = text_record_read limit expect
+record_of_read limits expect frames.End text b h may low = rw (h.0, h.1)
+    (read_by_type limits expect frames.End END [] (omega arith) refl may)
+record_of_read limits expect frames.Fault text b h may low = text_record_read limits expect
     frames.Fault FAULT text b (omega arith) refl (λ c. refl) h may low
-record_of_read limit expect frames.PreambleAck text b h may low = rw (h.0, h.1)
-    (read_by_type limit expect frames.PreambleAck PREAMBLE_ACK [] (omega arith) refl may)
-record_of_read limit expect frames.PreambleEnd text b h may low = rw (h.0, h.1)
-    (read_by_type limit expect frames.PreambleEnd PREAMBLE_END [] (omega arith) refl may)
+record_of_read limits expect frames.PreambleAck text b h may low = rw (h.0, h.1)
+    (read_by_type limits expect frames.PreambleAck PREAMBLE_ACK [] (omega arith) refl may)
+record_of_read limits expect frames.PreambleEnd text b h may low = rw (h.0, h.1)
+    (read_by_type limits expect frames.PreambleEnd PREAMBLE_END [] (omega arith) refl may)
 
 -- a record's bytes are read as it, where it may come and its text is within the limit
-pub record_read : (limit : ℕ) (expect : Expect) (read : Read) (bytes : List ℕ) → IsRecord read bytes
-    → MayCome expect read.frame → length read.text ≤ limit
-    → frame_at limit expect bytes ≡ whole read (length bytes)
-record_read limit expect read bytes h may low = record_of_read limit expect read.frame read.text
+pub record_read : (limits : TextLimits) (expect : Expect) (read : Read) (bytes : List ℕ)
+    → IsRecord read bytes
+    → MayCome expect read.frame → length read.text ≤ text_limit limits read.frame
+    → frame_at limits expect bytes ≡ whole read (length bytes)
+record_read limits expect read bytes h may low = record_of_read limits expect read.frame read.text
     bytes h may low
 
 -- and whatever follows them
-pub record_read_on : (limit : ℕ) (expect : Expect) (read : Read) (bytes : List ℕ) (n : ℕ) → n
+pub record_read_on : (limits : TextLimits) (expect : Expect) (read : Read) (bytes : List ℕ)
+    (n : ℕ) → n
     ≤ length bytes → IsRecord read (take n bytes) → MayCome expect read.frame
-    → length read.text ≤ limit → frame_at limit expect bytes ≡ whole read n
-record_read_on limit expect read bytes n within h may low =
-    let alone : frame_at limit expect (take n bytes) ≡ whole read n = record_read limit expect read
+    → length read.text ≤ text_limit limits read.frame → frame_at limits expect bytes ≡ whole read n
+record_read_on limits expect read bytes n within h may low =
+    let alone : frame_at limits expect (take n bytes) ≡ whole read n = record_read limits expect
+    read
     (take n bytes) h may low ∙ ap (whole read) (length-take-le n bytes within) in
-    ap (frame_at limit expect) (sym (take-append-drop n bytes)) ∙
-    (frames_front limit expect).whole_stays (take n bytes) (drop n bytes) read n alone
+    ap (frame_at limits expect) (sym (take-append-drop n bytes)) ∙
+    (frames_front limits expect).whole_stays (take n bytes) (drop n bytes) read n alone
+
+-- where both limits are one, it is each text's
+both_limits : (n : ℕ) (kind : TextKind) (len : ℕ) → len ≤ n
+    → len ≤ limit_for kind (record { text = n; content_type = n })
+both_limits n via_or_fault len le = le
+both_limits n content_type len le = le
 
 -- no record goes on to a longer one that may come in its place, and none is two
 pub no_longer_record : (expect : Expect) (one other : Read) (bytes more : List ℕ)
     → MayCome expect one.frame → MayCome expect other.frame
     → IsRecord one bytes → IsRecord other (bytes ++ more) → (more ≡ []) × (one ≡ other)
 no_longer_record expect one other bytes more may may' h h' =
-    let limit : ℕ = length one.text + length other.text in
-    none_goes_on (frame_at limit expect) (frames_front limit expect) bytes more one other
-    (record_read limit expect one bytes h may (omega arith))
-    (record_read limit expect other (bytes ++ more) h' may' (omega arith))
+    let n : ℕ = length one.text + length other.text in
+    let limits : TextLimits = record { text = n; content_type = n } in
+    none_goes_on (frame_at limits expect) (frames_front limits expect) bytes more one other
+    (record_read limits expect one bytes h may (both_limits n (text_kind one.frame)
+    (length one.text) (omega arith)))
+    (record_read limits expect other (bytes ++ more) h' may'
+    (both_limits n (text_kind other.frame) (length other.text) (omega arith)))

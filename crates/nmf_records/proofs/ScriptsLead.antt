@@ -8,6 +8,7 @@ use Rattle.nmf_records.specs.{declared.frame.Frame.Frame, RecordFronts.MayCome, 
 use Rattle.nmf_records.specs.declared.script.{Direction.Direction, Due.Due}
 use Rattle.nmf_records.specs.declared.script.Direction.TheVariants.{FromInitiator, FromReceiver}
 use Rattle.nmf_records.specs.Script.{AreEnvelopes, behind_preamble, first, IsAnswer}
+use Rattle.nmf_records.specs.Script.{IsEncoding}
 use Rattle.nmf_records.specs.Script.{IsInitiatorsScript, IsScript, IsUnsized, leads, may_come}
 use Rattle.nmf_records.proofs.ScriptWays.{Follows, nothing_comes}
 use Rattle.nmf_records.specs.declared.frame.Frame.TheVariants as frames
@@ -74,6 +75,14 @@ envelopes_follow FromReceiver Duplex envelopes sent = rw sent.1
     (sized_follow FromReceiver Duplex sent.0)
 envelopes_follow FromReceiver Simplex envelopes none = rw none (refl, tt, refl)
 
+-- either record may name the encoding
+encoding_follows : (mode : Mode) (encoding : Frame) → IsEncoding encoding → (rest : List Frame)
+    → Follows FromInitiator mode dues.PreambleEnd rest
+    → Follows FromInitiator mode dues.Encoding (encoding ∷ rest)
+encoding_follows mode (frames.KnownEncoding byte) is rest h = (refl, tt, h)
+encoding_follows mode frames.ExtensibleEncoding is rest h = (refl, tt, h)
+encoding_follows mode _ is rest h = absurd is
+
 request_follows : (mode : Mode) (script : List Frame) → IsInitiatorsScript mode script
     → Follows FromInitiator mode dues.Version script
 request_follows mode script r =
@@ -83,7 +92,13 @@ request_follows mode script r =
       (
         refl,
         refl,
-        (refl, tt, (refl, tt, (refl, tt, envelopes_follow FromInitiator mode r.envelopes r.sent))),
+        (
+          refl,
+          tt,
+          encoding_follows mode r.encoding r.is_encoding
+              (frames.PreambleEnd ∷ r.envelopes ++ frames.End ∷ [])
+              (refl, tt, envelopes_follow FromInitiator mode r.envelopes r.sent),
+        ),
       ),
     )
 

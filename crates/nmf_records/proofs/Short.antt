@@ -1,4 +1,6 @@
 -- A record that has begun is short, and so is what decides one.
+use Rattle.nmf_records.specs.RecordFronts.{content_type, limit_for, longest_text, text_kind}
+use Rattle.nmf_records.specs.RecordFronts.{text_limit, TextKind, TextLimits, via_or_fault}
 use Rattle.std.proofs.Common.{◌≡◌, ℕ, ◌+◌, ◌-◌, ◌^◌, ◌<◌, ◌≤◌, min, Bool, true, false, List, []}
 use Rattle.std.proofs.Common.{◌∷◌, length, take, if◌then◌else◌, nat_lt, ◌==◌, ap, inl, inr, arith}
 use Rattle.std.proofs.Common.{length-take-le}
@@ -10,7 +12,8 @@ use Rattle.multibyte_ints.proofs.TextFacts.{above, int_begun, int_wrong, no_text
 use Rattle.multibyte_ints.specs.{Integer.int_at, Text.string_at}
 use Rattle.nmf_records.specs.declared.frame.Expect.{Expect, TheVariants.Chunk, TheVariants.Types}
 use Rattle.nmf_records.specs.declared.frame.{Frame.Frame, FrameFault.FrameFault}
-use Rattle.nmf_records.specs.declared.record_types.TheConstants.{END, FAULT, GREATEST}
+use Rattle.nmf_records.specs.declared.record_types.TheConstants.{END, EXTENSIBLE_ENCODING, FAULT}
+use Rattle.nmf_records.specs.declared.record_types.TheConstants.{GREATEST}
 use Rattle.nmf_records.specs.declared.record_types.TheConstants.{KNOWN_ENCODING, MODE, PREAMBLE_ACK}
 use Rattle.nmf_records.specs.declared.record_types.TheConstants.{PREAMBLE_END, SIZED_ENVELOPE}
 use Rattle.nmf_records.specs.declared.record_types.TheConstants.{UNSIZED_ENVELOPE, VERSION, VIA}
@@ -51,10 +54,19 @@ size_short limit n le frame b e =
     (int_at b) e)).short in
     omega arith
 
+-- each limit is at most the greater one
+kind_longest : (kind : TextKind) (limits : TextLimits)
+    → longest (limit_for kind limits) ≤ longest (longest_text limits)
+kind_longest via_or_fault limits = omega arith
+kind_longest content_type limits = omega arith
+
 -- a text is
-text_short : (limit : ℕ) (frame : Frame) → IsShort limit 1 (text_frame_at limit frame)
-text_short limit frame b e = string_short limit b
-    (behind_begun 1 (with_text frame) fault_of (string_at limit b) e)
+text_short : (limits : TextLimits) (frame : Frame)
+    → IsShort (longest_text limits) 1 (text_frame_at limits frame)
+text_short limits frame b e =
+    let short = string_short (text_limit limits frame) b (behind_begun 1 (with_text frame)
+    (fault_of (text_kind frame)) (string_at (text_limit limits frame) b) e) in
+    omega (arith, short, kind_longest (text_kind frame) limits)
 
 -- a Version record is
 version_short : (limit : ℕ) → IsShort limit 1 version_at
@@ -83,43 +95,52 @@ choice_short limit true f g p q = p
 choice_short limit false f g p q = q
 
 -- what follows a type byte is short
-typed_short : (limit kind : ℕ) → IsShort limit 1 (typed_at limit kind)
-typed_short limit kind =
+typed_short : (limits : TextLimits) (kind : ℕ)
+    → IsShort (longest_text limits) 1 (typed_at limits kind)
+typed_short limits kind =
+    let limit : ℕ = longest_text limits in
     choice_short limit (kind == VERSION) _ _ (version_short limit) (
     choice_short limit (kind == MODE) _ _ (byte_short limit frames.Mode) (
-    choice_short limit (kind == VIA) _ _ (text_short limit frames.Via) (
+    choice_short limit (kind == VIA) _ _ (text_short limits frames.Via) (
     choice_short limit (kind == KNOWN_ENCODING) _ _ (byte_short limit frames.KnownEncoding) (
+    choice_short limit (kind == EXTENSIBLE_ENCODING) _ _
+    (text_short limits frames.ExtensibleEncoding) (
     choice_short limit (kind == UNSIZED_ENVELOPE) _ _ (lone_short limit frames.UnsizedEnvelope) (
     choice_short limit (kind == SIZED_ENVELOPE) _ _
     (size_short limit 1 (omega arith) frames.SizedEnvelope) (
     choice_short limit (kind == END) _ _ (lone_short limit frames.End) (
-    choice_short limit (kind == FAULT) _ _ (text_short limit frames.Fault) (
+    choice_short limit (kind == FAULT) _ _ (text_short limits frames.Fault) (
     choice_short limit (kind == PREAMBLE_ACK) _ _ (lone_short limit frames.PreambleAck) (
     choice_short limit (kind == PREAMBLE_END) _ _ (lone_short limit frames.PreambleEnd)
-    (wrong_short limit (faults.Unexpected kind)))))))))))
+    (wrong_short limit (faults.Unexpected kind))))))))))))
 
 -- whether or not it may come
-behind_type : (limit types kind : ℕ) → IsShort limit 1 (λ b. allowed_at limit types (kind ∷ b))
-behind_type limit types kind =
+behind_type : (limits : TextLimits) (types kind : ℕ)
+    → IsShort (longest_text limits) 1 (λ b. allowed_at limits types (kind ∷ b))
+behind_type limits types kind =
+    let limit : ℕ = longest_text limits in
     choice_short limit (nat_lt GREATEST kind) _ _ (wrong_short limit faults.UnknownRecord) (
-    choice_short limit (allows types kind) _ _ (typed_short limit kind)
+    choice_short limit (allows types kind) _ _ (typed_short limits kind)
     (wrong_short limit (faults.Unexpected kind)))
 
 -- a record that has begun has at most five bytes more than the longest text
-pub begun_short : (limit : ℕ) (expect : Expect) → IsShort limit 0 (frame_at limit expect)
-begun_short limit (Types types) [] e = omega arith
-begun_short limit (Types types) (kind ∷ b) e = omega (arith, behind_type limit types kind b e)
-begun_short limit Chunk b e = size_short limit 0 (omega arith) frames.Chunk b e
+pub begun_short : (limits : TextLimits) (expect : Expect)
+    → IsShort (longest_text limits) 0 (frame_at limits expect)
+begun_short limits (Types types) [] e = omega arith
+begun_short limits (Types types) (kind ∷ b) e = omega (arith, behind_type limits types kind b e)
+begun_short limits Chunk b e =
+    size_short (longest_text limits) 0 (omega arith) frames.Chunk b e
 
 -- so what decides one has at most six more
-pub decided_short : (limit : ℕ) (expect : Expect) (b : List ℕ) → extent (frame_at limit expect b)
-    ≤ longest limit + 6
-decided_short limit expect b =
-    let peels = frame_peels limit expect in
-    elim (leaves_or_decides (frame_at limit expect) peels [] b peels.nothing) [
+pub decided_short : (limits : TextLimits) (expect : Expect) (b : List ℕ)
+    → extent (frame_at limits expect b)
+    ≤ longest (longest_text limits) + 6
+decided_short limits expect b =
+    let peels = frame_peels limits expect in
+    elim (leaves_or_decides (frame_at limits expect) peels [] b peels.nothing) [
       | inl l ↦ omega (arith, ap extent l.at_end)
       | inr (n, d) ↦
-          let short = begun_short limit expect (take (n - 1) b)
+          let short = begun_short limits expect (take (n - 1) b)
           (d.before (n - 1) (omega (arith, d.some))) in
           omega (
             arith,

@@ -1,4 +1,5 @@
 -- A record whose type byte may come is read by its type.
+use Rattle.nmf_records.specs.RecordFronts.{TextLimits}
 use Rattle.std.proofs.Common.{◌≡◌, ℕ, suc, ◌≤◌, Bool, true, false, List, [], ◌∷◌, ◌++◌, length}
 use Rattle.std.proofs.Common.{nat_eq, nat_lt, nat_le, sym, refl, ap, ◌∙◌, arith}
 use Rattle.std.proofs.lemmas.Bool.Decides.{nat_tests}
@@ -20,9 +21,11 @@ pub type_known : (kind : ℕ) → nat_lt GREATEST kind ≡ false → kind ≤ GR
 type_known kind e = grind (arith, nat_tests)
 
 -- a known type that may come is read by its type
-pub allowed_reads : (limit types kind : ℕ) (c : List ℕ) → kind ≤ GREATEST → allows types kind ≡ true
-    → allowed_at limit types (kind ∷ c) ≡ typed_at limit kind c
-allowed_reads limit types kind c le may = let known : nat_lt GREATEST kind ≡ false = known_type kind
+pub allowed_reads : (limits : TextLimits) (types kind : ℕ) (c : List ℕ) → kind ≤ GREATEST
+    → allows types kind ≡ true
+    → allowed_at limits types (kind ∷ c) ≡ typed_at limits kind c
+allowed_reads limits types kind c le may = let known : nat_lt GREATEST kind
+    ≡ false = known_type kind
     le in rw (known, may) refl
 
 -- a byte that comes ends an integer of one byte
@@ -38,17 +41,18 @@ small_int kind q le =
     rw (small, not_all (length q)) refl
 
 -- a record that has begun may come
-pub begun_may_come : (limit : ℕ) (expect : Expect) (kind : ℕ) (q : List ℕ) → kind ≤ GREATEST
-    → frame_at limit expect (kind ∷ q) ≡ begun
+pub begun_may_come : (limits : TextLimits) (expect : Expect) (kind : ℕ) (q : List ℕ)
+    → kind ≤ GREATEST
+    → frame_at limits expect (kind ∷ q) ≡ begun
     → (types : ℕ) × (expect ≡ Types types) × (allows types kind ≡ true)
-begun_may_come limit Chunk kind q le h = cc (small_int kind q le)
-begun_may_come limit (Types types) kind q le h = (types, refl, may (allows types kind) refl) where
+begun_may_come limits Chunk kind q le h = cc (small_int kind q le)
+begun_may_come limits (Types types) kind q le h = (types, refl, may (allows types kind) refl) where
   known : nat_lt GREATEST kind ≡ false
   known = known_type kind le
 
   at_false : allows types kind ≡ false → ⊥
   at_false e =
-      let w : allowed_at limit types (kind ∷ q) ≡ wrong (faults.Unexpected kind) 1 = rw (known, e)
+      let w : allowed_at limits types (kind ∷ q) ≡ wrong (faults.Unexpected kind) 1 = rw (known, e)
       refl in
       cc
 
@@ -57,43 +61,46 @@ begun_may_come limit (Types types) kind q le h = (types, refl, may (allows types
   may false e = absurd (at_false e)
 
 -- what goes on from such a record is read by its type
-pub begun_reads : (limit : ℕ) (expect : Expect) (kind : ℕ) (q c : List ℕ) → kind ≤ GREATEST
-    → frame_at limit expect (kind ∷ q) ≡ begun
-    → frame_at limit expect (kind ∷ c) ≡ typed_at limit kind c
-begun_reads limit expect kind q c le h =
-    let f = begun_may_come limit expect kind q le h in
-    rw f.1 (allowed_reads limit f.0 kind c le f.2)
+pub begun_reads : (limits : TextLimits) (expect : Expect) (kind : ℕ) (q c : List ℕ)
+    → kind ≤ GREATEST
+    → frame_at limits expect (kind ∷ q) ≡ begun
+    → frame_at limits expect (kind ∷ c) ≡ typed_at limits kind c
+begun_reads limits expect kind q c le h =
+    let f = begun_may_come limits expect kind q le h in
+    rw f.1 (allowed_reads limits f.0 kind c le f.2)
 
 -- what one more byte makes of the records of fixed fields
-module _ (limit : ℕ) (expect : Expect) (byte : ℕ) where
+module _ (limits : TextLimits) (expect : Expect) (byte : ℕ) where
   -- the major version
-  pub behind_version : (p : List ℕ) → p ≡ VERSION ∷ [] → frame_at limit expect p ≡ begun
-      → frame_at limit expect (p ++ byte ∷ []) ≡ begun
+  pub behind_version : (p : List ℕ) → p ≡ VERSION ∷ [] → frame_at limits expect p ≡ begun
+      → frame_at limits expect (p ++ byte ∷ []) ≡ begun
   behind_version p e h =
-      let h' : frame_at limit expect (VERSION ∷ []) ≡ begun = ap (frame_at limit expect) (sym e) ∙ h
+      let h' : frame_at limits expect (VERSION ∷ []) ≡ begun = ap (frame_at limits expect)
+      (sym e) ∙ h
       in
-      rw e (begun_reads limit expect VERSION [] (byte ∷ []) (omega arith) h')
+      rw e (begun_reads limits expect VERSION [] (byte ∷ []) (omega arith) h')
 
   -- the minor version
-  pub behind_major : (major : ℕ) (p : List ℕ) → p ≡ VERSION ∷ major ∷ [] → frame_at limit expect p
+  pub behind_major : (major : ℕ) (p : List ℕ) → p ≡ VERSION ∷ major ∷ [] → frame_at limits expect p
       ≡ begun
-      → frame_at limit expect (p ++ byte ∷ []) ≡ whole (bare (frames.Version major byte)) 3
+      → frame_at limits expect (p ++ byte ∷ []) ≡ whole (bare (frames.Version major byte)) 3
   behind_major major p e h =
-      let h' : frame_at limit expect (VERSION ∷ major ∷ []) ≡ begun = ap (frame_at limit expect)
+      let h' : frame_at limits expect (VERSION ∷ major ∷ []) ≡ begun = ap (frame_at limits expect)
       (sym e) ∙ h in
-      rw e (begun_reads limit expect VERSION (major ∷ []) (major ∷ byte ∷ []) (omega arith) h')
+      rw e (begun_reads limits expect VERSION (major ∷ []) (major ∷ byte ∷ []) (omega arith) h')
 
   -- the mode's byte
-  pub behind_mode : (p : List ℕ) → p ≡ MODE ∷ [] → frame_at limit expect p ≡ begun
-      → frame_at limit expect (p ++ byte ∷ []) ≡ whole (bare (frames.Mode byte)) 2
+  pub behind_mode : (p : List ℕ) → p ≡ MODE ∷ [] → frame_at limits expect p ≡ begun
+      → frame_at limits expect (p ++ byte ∷ []) ≡ whole (bare (frames.Mode byte)) 2
   behind_mode p e h =
-      let h' : frame_at limit expect (MODE ∷ []) ≡ begun = ap (frame_at limit expect) (sym e) ∙ h in
-      rw e (begun_reads limit expect MODE [] (byte ∷ []) (omega arith) h')
+      let h' : frame_at limits expect (MODE ∷ []) ≡ begun = ap (frame_at limits expect) (sym e)
+      ∙ h in
+      rw e (begun_reads limits expect MODE [] (byte ∷ []) (omega arith) h')
 
   -- the encoding's byte
-  pub behind_encoding : (p : List ℕ) → p ≡ KNOWN_ENCODING ∷ [] → frame_at limit expect p ≡ begun
-      → frame_at limit expect (p ++ byte ∷ []) ≡ whole (bare (frames.KnownEncoding byte)) 2
+  pub behind_encoding : (p : List ℕ) → p ≡ KNOWN_ENCODING ∷ [] → frame_at limits expect p ≡ begun
+      → frame_at limits expect (p ++ byte ∷ []) ≡ whole (bare (frames.KnownEncoding byte)) 2
   behind_encoding p e h =
-      let h' : frame_at limit expect (KNOWN_ENCODING ∷ []) ≡ begun = ap (frame_at limit expect)
+      let h' : frame_at limits expect (KNOWN_ENCODING ∷ []) ≡ begun = ap (frame_at limits expect)
       (sym e) ∙ h in
-      rw e (begun_reads limit expect KNOWN_ENCODING [] (byte ∷ []) (omega arith) h')
+      rw e (begun_reads limits expect KNOWN_ENCODING [] (byte ∷ []) (omega arith) h')

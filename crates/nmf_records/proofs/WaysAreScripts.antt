@@ -7,7 +7,8 @@ use Rattle.nbfx_values.specs.{declared.session.Mode.Mode, Session.mode_number}
 use Rattle.nbfx_values.specs.declared.session.Mode.TheVariants.{Duplex, Simplex, Singleton}
 use Rattle.nmf_records.specs.declared.{frame.Frame.Frame, script.Direction.Direction}
 use Rattle.nmf_records.specs.declared.script.Direction.TheVariants.{FromInitiator, FromReceiver}
-use Rattle.nmf_records.specs.Script.{AreEnvelopes, behind_preamble, first, IsInitiatorsScript}
+use Rattle.nmf_records.specs.Script.{AreEnvelopes, behind_preamble, first, IsEncoding}
+use Rattle.nmf_records.specs.Script.{IsInitiatorsScript}
 use Rattle.nmf_records.specs.Script.{IsScript, IsUnsized}
 use Rattle.nmf_records.proofs.ScriptWays.{Follows, over_is}
 use Rattle.nmf_records.specs.declared.frame.Frame.TheVariants as frames
@@ -94,10 +95,13 @@ at_preamble_end mode (frames.PreambleEnd ∷ rest) h = (rest, refl, h.2)
 at_preamble_end mode (_ ∷ rest) h = cc
 
 at_encoding : (mode : Mode) (script : List Frame) → Follows FromInitiator mode dues.Encoding script
-    → (encoding : ℕ) × (rest : List Frame) × (script ≡ frames.KnownEncoding encoding ∷ rest)
+    → (encoding : Frame) × IsEncoding encoding × (rest : List Frame) × (script ≡ encoding ∷ rest)
     × Follows FromInitiator mode dues.PreambleEnd rest
 at_encoding mode [] h = cc
-at_encoding mode (frames.KnownEncoding encoding ∷ rest) h = (encoding, rest, refl, h.2)
+at_encoding mode (frames.KnownEncoding byte ∷ rest) h =
+    (frames.KnownEncoding byte, tt, rest, refl, h.2)
+at_encoding mode (frames.ExtensibleEncoding ∷ rest) h =
+    (frames.ExtensibleEncoding, tt, rest, refl, h.2)
 at_encoding mode (_ ∷ rest) h = cc
 
 at_via : (mode : Mode) (script : List Frame) → Follows FromInitiator mode dues.Via script
@@ -128,16 +132,17 @@ request_is mode script h =
     let m = at_mode mode v.2 v.4 in
     let via = at_via mode m.0 m.2 in
     let e = at_encoding mode via.0 via.2 in
-    let p = at_preamble_end mode e.1 e.3 in
+    let p = at_preamble_end mode e.2 e.4 in
     let sent = envelopes_are mode p.0 p.2 in
     record {
       major = v.0;
       minor = v.1;
       encoding = e.0;
+      is_encoding = e.1;
       envelopes = sent.0;
       sent = sent.1;
       joined =
-          cc (v.3, m.1, via.1, e.2, p.1, sent.2);
+          cc (v.3, m.1, via.1, e.3, p.1, sent.2);
     }
 
 -- a receiver's envelopes, and what ends its stream behind them

@@ -3,7 +3,9 @@ use Rattle.std.proofs.Common.{◌≡◌, ◌+◌, ◌^◌, ◌<◌, true, false,
 use Rattle.std.proofs.lemmas.List.Elements.{All-cons, All-nil}
 use Rattle.nbfx_values.specs.declared.session.Mode.TheVariants.{Duplex, Simplex, Singleton}
 use Rattle.nmf_records.specs.declared.frame.Frame.{Frame, TheVariants.Version, TheVariants.Via}
-use Rattle.nmf_records.specs.declared.frame.Frame.TheVariants.{Chunk, End, Fault, KnownEncoding}
+use Rattle.nmf_records.specs.declared.frame.Frame.TheVariants.{Chunk, End, ExtensibleEncoding}
+use Rattle.nmf_records.specs.declared.frame.Frame.TheVariants.{Fault}
+use Rattle.nmf_records.specs.declared.frame.Frame.TheVariants.{KnownEncoding}
 use Rattle.nmf_records.specs.declared.frame.Frame.TheVariants.{Mode, PreambleAck, PreambleEnd}
 use Rattle.nmf_records.specs.declared.frame.Frame.TheVariants.{SizedEnvelope, UnsizedEnvelope}
 use Rattle.nmf_records.specs.declared.script.Direction.TheVariants.{FromInitiator, FromReceiver}
@@ -19,9 +21,16 @@ duplex_preamble = Version 1 0 ∷ Mode 2 ∷ Via ∷ KnownEncoding 8 ∷ Preambl
 abbrev singleton_preamble : List Frame
 singleton_preamble = Version 1 0 ∷ Mode 1 ∷ Via ∷ KnownEncoding 7 ∷ PreambleEnd ∷ []
 
+-- the encoding by its content type
+abbrev spelled_out : List Frame
+spelled_out = Version 1 0 ∷ Mode 2 ∷ Via ∷ ExtensibleEncoding ∷ PreambleEnd ∷ []
+
 -- what may come
 version_first : may_come FromInitiator (first FromInitiator) ≡ expects.Types (2 ^ 0)
 version_first = refl
+
+either_encoding : may_come FromInitiator dues.Encoding ≡ expects.Types (2 ^ 3 + 2 ^ 4)
+either_encoding = refl
 
 messages_or_end : may_come FromInitiator dues.Messages ≡ expects.Types (2 ^ 6 + 2 ^ 7)
 messages_or_end = refl
@@ -45,6 +54,11 @@ no_fault_of_an_initiator = refl
 no_fault_for_a_size : comes (may_come FromReceiver dues.Chunk) Fault ≡ false
 no_fault_for_a_size = refl
 
+no_second_encoding : comes
+    (may_come FromInitiator (due_behind FromInitiator Duplex dues.Encoding (KnownEncoding 8 ∷ [])))
+    ExtensibleEncoding ≡ false
+no_second_encoding = refl
+
 no_sized_envelope : comes (may_come FromInitiator dues.Envelope) (SizedEnvelope 3) ≡ false
 no_sized_envelope = refl
 
@@ -57,6 +71,9 @@ no_second_envelope = refl
 behind_a_duplex_preamble : due_behind FromInitiator Duplex dues.Version duplex_preamble
     ≡ dues.Messages
 behind_a_duplex_preamble = refl
+
+behind_one_spelled_out : due_behind FromInitiator Duplex dues.Version spelled_out ≡ dues.Messages
+behind_one_spelled_out = refl
 
 behind_a_singleton_preamble : due_behind FromInitiator Singleton dues.Version singleton_preamble
     ≡ dues.Envelope
@@ -92,7 +109,20 @@ no_message : IsScript FromInitiator Duplex (Version 1 0 ∷ Mode 2 ∷ Via ∷ K
 no_message = record {
   major = 1;
   minor = 0;
-  encoding = 8;
+  encoding = KnownEncoding 8;
+  is_encoding = tt;
+  envelopes = [];
+  sent = ([], refl);
+  joined = refl;
+}
+
+no_message_spelled_out : IsScript FromInitiator Duplex (Version 1 0 ∷ Mode 2 ∷ Via
+    ∷ ExtensibleEncoding ∷ PreambleEnd ∷ End ∷ [])
+no_message_spelled_out = record {
+  major = 1;
+  minor = 0;
+  encoding = ExtensibleEncoding;
+  is_encoding = tt;
   envelopes = [];
   sent = ([], refl);
   joined = refl;
@@ -103,7 +133,8 @@ two_one_way : IsScript FromInitiator Simplex (Version 1 0 ∷ Mode 3 ∷ Via ∷
 two_one_way = record {
   major = 1;
   minor = 0;
-  encoding = 8;
+  encoding = KnownEncoding 8;
+  is_encoding = tt;
   envelopes = SizedEnvelope 3 ∷ SizedEnvelope 0 ∷ [];
   sent = (3 ∷ 0 ∷ [], refl);
   joined = refl;
@@ -114,7 +145,8 @@ one_envelope : IsScript FromInitiator Singleton (Version 1 0 ∷ Mode 1 ∷ Via 
 one_envelope = record {
   major = 1;
   minor = 0;
-  encoding = 7;
+  encoding = KnownEncoding 7;
+  is_encoding = tt;
   envelopes = UnsizedEnvelope ∷ Chunk 3 ∷ Chunk 0 ∷ [];
   sent = (
     3 ∷ [],

@@ -2,7 +2,10 @@
 use Rattle.std.proofs.Common.{◌≡◌, ℕ, List, [], ◌∷◌, map, Some, None, codes, Option, refl}
 use Rattle.multibyte_ints.specs.{Integer.shortest, Integer.shortest_within, Text.string_bytes_of}
 use Rattle.nbfx_values.specs.declared.refusals.Reason.{Reason}
-use Rattle.nmf_records.specs.declared.frame.Frame.TheVariants.{Chunk, End, Fault, KnownEncoding}
+use Rattle.nbfx_values.specs.{Session.content_type, declared.session.Kind.TheVariants.Plain}
+use Rattle.nmf_records.specs.declared.frame.Frame.TheVariants.{Chunk, End, ExtensibleEncoding}
+use Rattle.nmf_records.specs.declared.frame.Frame.TheVariants.{Fault}
+use Rattle.nmf_records.specs.declared.frame.Frame.TheVariants.{KnownEncoding}
 use Rattle.nmf_records.specs.declared.frame.Frame.TheVariants.{Mode, PreambleAck, PreambleEnd}
 use Rattle.nmf_records.specs.declared.frame.Frame.TheVariants.{SizedEnvelope, UnsizedEnvelope}
 use Rattle.nmf_records.specs.declared.frame.Frame.TheVariants.{Version, Via}
@@ -23,6 +26,7 @@ records : AllWritten (
     (bare (Mode 2), 0x01 ∷ 0x02 ∷ []) ∷
     (with_text Via (codes "net.tcp://h/e"), 0x02 ∷ 0x0D ∷ codes "net.tcp://h/e") ∷
     (bare (KnownEncoding 8), 0x03 ∷ 0x08 ∷ []) ∷
+    (with_text ExtensibleEncoding (content_type Plain), 0x04 ∷ 0x17 ∷ content_type Plain) ∷
     (bare PreambleEnd, 0x0C ∷ []) ∷
     (bare UnsizedEnvelope, 0x05 ∷ []) ∷
     (bare (Chunk 0), 0x00 ∷ []) ∷
@@ -73,6 +77,10 @@ fault_texts : AllTold ((
   reasons.MessageTooLarge,
   Some
       (codes "http://schemas.microsoft.com/ws/2006/05/framing/faults/MaxMessageSizeExceededFault"),
+) ∷ (
+  reasons.ContentTypeTooLong,
+  Some
+      (codes "http://schemas.microsoft.com/ws/2006/05/framing/faults/ContentTypeTooLong"),
 ) ∷
     [])
 fault_texts = refl

@@ -19,6 +19,11 @@ written_of frames.Via text size own = (
   refl,
 )
 written_of (frames.KnownEncoding encoding) text size own = (own, refl)
+written_of frames.ExtensibleEncoding text size own = (
+  string_bytes_of text,
+  string_bytes_are text own.0 own.1,
+  refl,
+)
 written_of frames.UnsizedEnvelope text size own = (own, refl)
 written_of (frames.Chunk n) text size own = (own, (shortest_spells n size).0)
 written_of (frames.SizedEnvelope n) text size own =
@@ -36,9 +41,10 @@ pub written_are_records : WrittenAreRecords
 written_are_records read can = written_of read.frame read.text can.size can.text
 
 pub written_are_read : WrittenAreRead
-written_are_read limit expect read rest can may low =
-    (frames_front limit expect).whole_stays (frame_bytes read) rest read (length (frame_bytes read))
-    (record_read limit expect read (frame_bytes read) (written_are_records read can) may low)
+written_are_read limits expect read rest can may low =
+    (frames_front limits expect).whole_stays (frame_bytes read) rest read (length
+    (frame_bytes read))
+    (record_read limits expect read (frame_bytes read) (written_are_records read can) may low)
 
 -- a type byte and a length were appended, and then the text
 pub text_appended : (out front rest text first second : List ℕ) (kind used : ℕ) → used ≡ 1

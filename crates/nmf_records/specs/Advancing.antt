@@ -9,9 +9,10 @@ use Rattle.multibyte_ints.specs.Text.{string_at, StringFault}
 use Rattle.nmf_records.specs.declared.{frame.Expect.Expect, reader.FrameReader.FrameReader}
 use Rattle.nmf_records.specs.declared.stage.{Progress.Progress, Stage.Stage}
 use Rattle.nmf_records.specs.declared.stage.{SizeRecord.SizeRecord, TextRecord.TextRecord}
-use Rattle.nmf_records.specs.Reader.{failure_of, HasShape, HoldsText, pending_of, size_bytes}
+use Rattle.nmf_records.specs.Reader.{failure_of, HasShape, HoldsText, kind_of, pending_of}
+use Rattle.nmf_records.specs.Reader.{reader_of, size_bytes}
 use Rattle.nmf_records.specs.{Reader.StandsFor, Steps.sized, Steps.texted}
-use Rattle.nmf_records.specs.RecordFronts.{fault_of, frame_at, with_text}
+use Rattle.nmf_records.specs.RecordFronts.{fault_of, frame_at, limit_for, TextLimits, with_text}
 use Rattle.nmf_records.specs.declared.frame.FrameFault.TheVariants as faults
 use Rattle.nmf_records.specs.declared.stage.Stage.TheVariants as stages
 use Rattle.nmf_records.specs.declared.stage.Progress.TheVariants as progress
@@ -24,7 +25,8 @@ ReadsBytes _ = Unit {0}
 
 -- where a text begins, the reader of texts begins anew
 abbrev pub BeginsAnew : FrameReader → Progress → Type 0
-BeginsAnew mid (progress.Going (stages.Text text)) = StringStandsFor mid.text []
+BeginsAnew mid (progress.Going (stages.Text text)) =
+    StringStandsFor (reader_of (kind_of text) mid) []
 BeginsAnew mid _ = Unit {0}
 
 -- what a size's bytes so far led to
@@ -36,33 +38,36 @@ SizeAnswers size q int (progress.Done frame) =
 SizeAnswers size q int (progress.Wrong fault) = (fault ≡ faults.BadInt) × (int_at q ≡ wrong tt 5)
 
 -- what the bytes of a string so far led to
-abbrev pub TextAnswers : ℕ → TextRecord → List ℕ → StringReader → Progress → Type 0
-TextAnswers limit text q reader (progress.Going stage) =
-    (stage ≡ stages.Text text) × (string_at limit q ≡ begun) × StringStandsFor reader q
-TextAnswers limit text q reader (progress.Done frame) =
-    (frame ≡ texted text) × (s : List ℕ) × (string_at limit q ≡ whole s (length q))
-TextAnswers limit text q reader (progress.Wrong fault) =
-    (r : StringFault) × (fault ≡ fault_of r) × (string_at limit q ≡ wrong r (length q))
+abbrev pub TextAnswers : TextLimits → TextRecord → List ℕ → StringReader → Progress → Type 0
+TextAnswers limits text q reader (progress.Going stage) =
+    (stage ≡ stages.Text text) × (string_at (limit_for (kind_of text) limits) q ≡ begun)
+    × StringStandsFor reader q
+TextAnswers limits text q reader (progress.Done frame) =
+    (frame ≡ texted text) × (s : List ℕ)
+    × (string_at (limit_for (kind_of text) limits) q ≡ whole s (length q))
+TextAnswers limits text q reader (progress.Wrong fault) =
+    (r : StringFault) × (fault ≡ fault_of (kind_of text) r)
+    × (string_at (limit_for (kind_of text) limits) q ≡ wrong r (length q))
 
 -- what the bytes p of a record led to, the readers of sizes and texts having gone on
-abbrev pub Progresses : ℕ → Expect → List ℕ → FrameReader → Progress → Type 0
-Progresses limit expect p mid (progress.Going stage) =
-    (frame_at limit expect p ≡ begun) × HasShape expect stage p
-    × IntStandsFor mid.size (size_bytes stage p) × HoldsText stage mid.text p
-Progresses limit expect p mid (progress.Done frame) =
-    (text : List ℕ) × (frame_at limit expect p ≡ whole (with_text frame text) (length p))
+abbrev pub Progresses : TextLimits → Expect → List ℕ → FrameReader → Progress → Type 0
+Progresses limits expect p mid (progress.Going stage) =
+    (frame_at limits expect p ≡ begun) × HasShape expect stage p
+    × IntStandsFor mid.size (size_bytes stage p) × HoldsText stage mid p
+Progresses limits expect p mid (progress.Done frame) =
+    (text : List ℕ) × (frame_at limits expect p ≡ whole (with_text frame text) (length p))
     × IntStandsFor mid.size []
-Progresses limit expect p mid (progress.Wrong fault) =
-    frame_at limit expect p ≡ wrong fault (length p)
+Progresses limits expect p mid (progress.Wrong fault) =
+    frame_at limits expect p ≡ wrong fault (length p)
 
 -- what they led to
-abbrev pub Steps : ℕ → Expect → List ℕ → FrameReader → Progress → Type 0
-Steps limit expect p new (progress.Going stage) = StandsFor new expect p
-Steps limit expect p new (progress.Done frame) =
-    (text : List ℕ) × (frame_at limit expect p ≡ whole (with_text frame text) (length p))
+abbrev pub Steps : TextLimits → Expect → List ℕ → FrameReader → Progress → Type 0
+Steps limits expect p new (progress.Going stage) = StandsFor new expect p
+Steps limits expect p new (progress.Done frame) =
+    (text : List ℕ) × (frame_at limits expect p ≡ whole (with_text frame text) (length p))
     × ((next : Expect) → StandsFor new next [])
-Steps limit expect p new (progress.Wrong fault) =
-    (frame_at limit expect p ≡ wrong fault (length p)) × (pending_of new ≡ length p)
+Steps limits expect p new (progress.Wrong fault) =
+    (frame_at limits expect p ≡ wrong fault (length p)) × (pending_of new ≡ length p)
 
 -- a reader goes on only with a byte or more
 abbrev pub Moves : ℕ → Progress → Type 0

@@ -7,7 +7,8 @@ use Rattle.std.specs.Prelude.{map, if◌then◌else◌, IsSome, ◌==◌, bit_or
 use Rattle.nbfx_values.specs.{declared.session.Mode.Mode, Session.mode_number}
 use Rattle.nbfx_values.specs.declared.session.Mode.TheVariants.{Duplex, Simplex, Singleton}
 use Rattle.nmf_records.specs.declared.frame.{Expect.Expect, Frame.Frame}
-use Rattle.nmf_records.specs.declared.record_types.TheConstants.{END, FAULT, KNOWN_ENCODING, MODE}
+use Rattle.nmf_records.specs.declared.record_types.TheConstants.{END, EXTENSIBLE_ENCODING, FAULT}
+use Rattle.nmf_records.specs.declared.record_types.TheConstants.{KNOWN_ENCODING, MODE}
 use Rattle.nmf_records.specs.declared.record_types.TheConstants.{PREAMBLE_ACK, PREAMBLE_END}
 use Rattle.nmf_records.specs.declared.record_types.TheConstants.{SIZED_ENVELOPE, UNSIZED_ENVELOPE}
 use Rattle.nmf_records.specs.declared.record_types.TheConstants.{VERSION, VIA}
@@ -33,7 +34,8 @@ abbrev pub may_come : Direction → Due → Expect
 may_come direction dues.Version = or_fault direction (2 ^ VERSION)
 may_come direction dues.Mode = or_fault direction (2 ^ MODE)
 may_come direction dues.Via = or_fault direction (2 ^ VIA)
-may_come direction dues.Encoding = or_fault direction (2 ^ KNOWN_ENCODING)
+may_come direction dues.Encoding =
+    or_fault direction (2 ^ KNOWN_ENCODING + 2 ^ EXTENSIBLE_ENCODING)
 may_come direction dues.PreambleEnd = or_fault direction (2 ^ PREAMBLE_END)
 may_come direction dues.Ack = or_fault direction (2 ^ PREAMBLE_ACK)
 may_come direction dues.Messages = or_fault direction (2 ^ SIZED_ENVELOPE + 2 ^ END)
@@ -58,6 +60,7 @@ leads direction mode due (frames.Version major minor) = dues.Mode
 leads direction mode due (frames.Mode byte) = dues.Via
 leads direction mode due frames.Via = dues.Encoding
 leads direction mode due (frames.KnownEncoding encoding) = dues.PreambleEnd
+leads direction mode due frames.ExtensibleEncoding = dues.PreambleEnd
 leads direction mode due frames.PreambleEnd = behind_preamble direction mode
 leads direction mode due frames.PreambleAck = behind_preamble direction mode
 leads direction mode due frames.UnsizedEnvelope = dues.Chunk
@@ -110,15 +113,22 @@ AreEnvelopes direction Duplex envelopes = AreSized envelopes
 AreEnvelopes FromInitiator Simplex envelopes = AreSized envelopes
 AreEnvelopes FromReceiver Simplex envelopes = envelopes ≡ []
 
+-- a record that names the encoding of the envelopes, by its number or by its content type
+abbrev pub IsEncoding : Frame → Type 0
+IsEncoding (frames.KnownEncoding encoding) = Unit {0}
+IsEncoding frames.ExtensibleEncoding = Unit {0}
+IsEncoding frame = ⊥
+
 -- an initiator's preamble, its envelopes and End
 pub record IsInitiatorsScript (mode : Mode) (script : List Frame) : Type 0 where
   pub major : ℕ
   pub minor : ℕ
-  pub encoding : ℕ
+  pub encoding : Frame
+  pub is_encoding : IsEncoding encoding
   pub envelopes : List Frame
   pub sent : AreEnvelopes FromInitiator mode envelopes
   pub joined : script ≡ frames.Version major minor ∷ frames.Mode (mode_number mode) ∷ frames.Via
-      ∷ frames.KnownEncoding encoding ∷ frames.PreambleEnd ∷ envelopes ++ frames.End ∷ []
+      ∷ encoding ∷ frames.PreambleEnd ∷ envelopes ++ frames.End ∷ []
 
 -- a receiver's Ack, its envelopes and End
 pub record IsAnswer (mode : Mode) (script : List Frame) : Type 0 where

@@ -6,8 +6,9 @@ use Rattle.nmf_records.specs.declared.frame.{Expect.Expect, Frame.Frame, FrameFa
 use Rattle.nmf_records.specs.declared.stage.{Progress.Progress, Stage.Stage}
 use Rattle.nmf_records.specs.declared.stage.Progress.TheVariants.{Done, Going, Wrong}
 use Rattle.nmf_records.specs.declared.stage.{SizeRecord.SizeRecord, TextRecord.TextRecord}
-use Rattle.nmf_records.specs.Reader.{HasShape, size_bytes}
+use Rattle.nmf_records.specs.Reader.{HasShape, kind_of, size_bytes}
 use Rattle.nmf_records.specs.{RecordFronts.with_text, Records.Read}
+use Rattle.nmf_records.specs.RecordFronts.{content_type, TextKind, too_long_as, via_or_fault}
 use Rattle.nmf_records.specs.declared.frame.Frame.TheVariants as frames
 use Rattle.nmf_records.specs.declared.frame.FrameFault.TheVariants as faults
 use Rattle.multibyte_ints.specs.declared.text.StringStep.TheVariants as steps
@@ -23,6 +24,7 @@ sized sizes.Chunk size = frames.Chunk size
 -- the frame of a record with a text
 abbrev pub texted : TextRecord → Frame
 texted texts.Via = frames.Via
+texted texts.ContentType = frames.ExtensibleEncoding
 texted texts.Fault = frames.Fault
 
 -- what a reader of strings answers, as a step of a record
@@ -30,7 +32,7 @@ abbrev pub progress_of : TextRecord → StringStep → Progress
 progress_of text steps.More = Going (stages.Text text)
 progress_of text steps.Done = Done (texted text)
 progress_of text steps.BadInt = Wrong faults.BadInt
-progress_of text steps.TooLong = Wrong faults.TextTooLong
+progress_of text steps.TooLong = Wrong (too_long_as (kind_of text))
 progress_of text steps.BadUtf8 = Wrong faults.TextNotUtf8
 
 -- what is read of the bytes, of which there are n
@@ -50,7 +52,14 @@ GoesTo expect p (Going stage) =
     HasShape expect stage p × (size_bytes stage p ≡ []) × HasNoText stage p
 GoesTo expect p _ = Unit {0}
 
--- a text comes next
-abbrev pub is_text_start : Progress → Bool
-is_text_start (Going (stages.Text _)) = true
-is_text_start _ = false
+-- the record has such a text
+abbrev pub has_kind : TextKind → TextRecord → Bool
+has_kind via_or_fault texts.ContentType = false
+has_kind via_or_fault text = true
+has_kind content_type texts.ContentType = true
+has_kind content_type text = false
+
+-- such a text comes next
+abbrev pub starts_text : TextKind → Progress → Bool
+starts_text kind (Going (stages.Text text)) = has_kind kind text
+starts_text kind _ = false

@@ -33,6 +33,9 @@ pub fn fault_text(reason: Reason) -> Option<&'static str>
         Reason::MessageTooLarge => Some(
             "http://schemas.microsoft.com/ws/2006/05/framing/faults/MaxMessageSizeExceededFault",
         ),
+        Reason::ContentTypeTooLong => {
+            Some("http://schemas.microsoft.com/ws/2006/05/framing/faults/ContentTypeTooLong")
+        }
         _ => None,
     }
 }

@@ -1,5 +1,5 @@
 /// A framing record of MC-NMF, of an envelope its head, or the size of a chunk. The text of a Via
-/// or a Fault stays in the reader.
+/// or a Fault, and the content type of an Extensible Encoding, stay in the reader.
 #[derive(Clone, Copy, Debug, PartialEq, Eq)]
 pub enum Frame {
     /// Version Record.
@@ -10,6 +10,8 @@ pub enum Frame {
     Via,
     /// Known Encoding Record, with the encoding's byte.
     KnownEncoding(u8),
+    /// Extensible Encoding Record.
+    ExtensibleEncoding,
     /// The head of an Unsized Envelope Record.
     UnsizedEnvelope,
     /// The size in bytes of a chunk of an Unsized Envelope Record; 0 ends the envelope.
@@ -26,8 +28,8 @@ pub enum Frame {
     PreambleEnd,
 }
 
-/// What may come next. Extensible Encoding, Upgrade Request and Upgrade Response Records have no
-/// [`Frame`], so they are unexpected everywhere.
+/// What may come next. Upgrade Request and Upgrade Response Records have no [`Frame`], so they are
+/// unexpected everywhere.
 #[derive(Clone, Copy, Debug, PartialEq, Eq)]
 pub enum Expect {
     /// A record, if the bit of its type t, which is 1 << t, is set.
@@ -54,8 +56,10 @@ pub enum FrameFault {
     Unexpected(u8),
     /// The fifth byte of a size or of a text's length is above 0x07.
     BadInt,
-    /// The length of a text is above the reader's limit.
+    /// The length of a Via or a Fault's text is above the reader's limit.
     TextTooLong,
+    /// The length of a content type is above [`CONTENT_TYPE_LIMIT`](crate::CONTENT_TYPE_LIMIT).
+    TypeTooLong,
     /// A text isn't UTF-8.
     TextNotUtf8,
 }

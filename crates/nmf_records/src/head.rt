@@ -2,7 +2,7 @@
 
 ghost use Rattle.std.specs.Prelude.{◌≡◌, ℕ, List, [], ◌∷◌, IfSome, true, false};
 ghost use Rattle.unit_streams.specs.Front.{whole};
-ghost use Rattle.nmf_records.specs.RecordFronts.{bare, begins_text, frame_at};
+ghost use Rattle.nmf_records.specs.RecordFronts.{bare, begins_text, frame_at, TextKind, TextLimits};
 
 use crate::frame::{Expect, Frame};
 use crate::record_types::SIZED_ENVELOPE;
@@ -13,9 +13,10 @@ use multibyte_ints::{IntRead, read_int};
 /// many bytes it has. None unless it may come and is complete: then
 /// [`FrameReader`](crate::FrameReader) says what the bytes are.
 pub fn head_at(bytes: &[u8], expect: Expect) -> Option<(Frame, usize)>
-    ensures reads { IfSome result (λ head. (limit : ℕ)
-        → frame_at limit expect bytes.now ≡ whole (bare head.0) head.1) }
-    ensures no_text { IfSome result (λ head. begins_text expect bytes.now ≡ false) }
+    ensures reads { IfSome result (λ head. (limits : TextLimits)
+        → frame_at limits expect bytes.now ≡ whole (bare head.0) head.1) }
+    ensures no_text { IfSome result (λ head. (kind : TextKind)
+        → begins_text kind expect bytes.now ≡ false) }
 {
     match expect {
         Expect::Chunk => chunk_at(bytes),
@@ -24,8 +25,8 @@ pub fn head_at(bytes: &[u8], expect: Expect) -> Option<(Frame, usize)>
 }
 
 fn chunk_at(bytes: &[u8]) -> Option<(Frame, usize)>
-    ensures { IfSome result (λ head. (limit : ℕ)
-        → frame_at limit Expect.Chunk bytes.now ≡ whole (bare head.0) head.1) }
+    ensures { IfSome result (λ head. (limits : TextLimits)
+        → frame_at limits Expect.Chunk bytes.now ≡ whole (bare head.0) head.1) }
 {
     match read_int(bytes) {
         IntRead::Done { value, used } => Some((Frame::Chunk(value), used)),
@@ -35,9 +36,10 @@ fn chunk_at(bytes: &[u8]) -> Option<(Frame, usize)>
 
 // The head of a sized envelope, where a record of one of these types may come.
 fn envelope_at(types: u16, bytes: &[u8]) -> Option<(Frame, usize)>
-    ensures reads { IfSome result (λ head. (limit : ℕ)
-        → frame_at limit (Expect.Types types) bytes.now ≡ whole (bare head.0) head.1) }
-    ensures no_text { IfSome result (λ head. begins_text (Expect.Types types) bytes.now ≡ false) }
+    ensures reads { IfSome result (λ head. (limits : TextLimits)
+        → frame_at limits (Expect.Types types) bytes.now ≡ whole (bare head.0) head.1) }
+    ensures no_text { IfSome result (λ head. (kind : TextKind)
+        → begins_text kind (Expect.Types types) bytes.now ≡ false) }
 {
     if *bytes.first()? != SIZED_ENVELOPE || !stage::allows(types, SIZED_ENVELOPE) {
         return None;

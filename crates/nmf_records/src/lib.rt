@@ -10,7 +10,8 @@
 //! proved to answer what stands at the front of all bytes since the last record: the record at the
 //! byte that completes it, or the fault at the first byte that shows it. Which bytes a reader has
 //! read, and what it answers, is in `specs/Reader.antt`. The text of a Via or a Fault stays in the
-//! reader, which allocates its buffer when it is made: no other call takes memory.
+//! reader, and so does the content type of an Extensible Encoding. Their buffers are allocated when
+//! the reader is made: no other call takes memory.
 //!
 //! Which records may come is the script of a session: `Due` says what may come next in the stream
 //! of a direction and where each record leads. `IsScript` of `specs/Script.antt` is the same as a
@@ -34,6 +35,6 @@ mod writing;
 
 pub use fault_texts::fault_text;
 pub use frame::{Expect, Frame, FrameFault, FrameRefusal, FrameStep};
-pub use reader::FrameReader;
+pub use reader::{CONTENT_TYPE_LIMIT, FrameReader};
 pub use script::{Direction, Due};
 pub use writing::{put_head, put_text_frame};

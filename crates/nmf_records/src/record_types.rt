@@ -8,7 +8,7 @@ pub const MODE: u8 = 0x01;
 pub const VIA: u8 = 0x02;
 /// Known Encoding Record.
 pub const KNOWN_ENCODING: u8 = 0x03;
-/// Extensible Encoding Record, which is refused.
+/// Extensible Encoding Record.
 pub const EXTENSIBLE_ENCODING: u8 = 0x04;
 /// Unsized Envelope Record.
 pub const UNSIZED_ENVELOPE: u8 = 0x05;

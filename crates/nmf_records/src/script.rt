@@ -6,8 +6,8 @@ ghost use Rattle.nmf_records.specs.Script.{or_fault, first, may_come, behind_pre
 
 use crate::frame::{Expect, Frame};
 use crate::record_types::{
-    END, FAULT, KNOWN_ENCODING, MODE, PREAMBLE_ACK, PREAMBLE_END, SIZED_ENVELOPE, UNSIZED_ENVELOPE,
-    VERSION, VIA,
+    END, EXTENSIBLE_ENCODING, FAULT, KNOWN_ENCODING, MODE, PREAMBLE_ACK, PREAMBLE_END,
+    SIZED_ENVELOPE, UNSIZED_ENVELOPE, VERSION, VIA,
 };
 use nbfx_values::Mode;
 
@@ -54,7 +54,7 @@ pub enum Due {
     Mode,
     /// A Via Record.
     Via,
-    /// A Known Encoding Record.
+    /// A Known Encoding or an Extensible Encoding Record.
     Encoding,
     /// A Preamble End Record.
     PreambleEnd,
@@ -94,7 +94,7 @@ impl Due {
             Due::Version => direction.or_fault(1 << VERSION),
             Due::Mode => direction.or_fault(1 << MODE),
             Due::Via => direction.or_fault(1 << VIA),
-            Due::Encoding => direction.or_fault(1 << KNOWN_ENCODING),
+            Due::Encoding => direction.or_fault(1 << KNOWN_ENCODING | 1 << EXTENSIBLE_ENCODING),
             Due::PreambleEnd => direction.or_fault(1 << PREAMBLE_END),
             Due::Ack => direction.or_fault(1 << PREAMBLE_ACK),
             Due::Messages => direction.or_fault(1 << SIZED_ENVELOPE | 1 << END),
@@ -115,7 +115,7 @@ impl Due {
             Frame::Version { .. } => Due::Mode,
             Frame::Mode(_) => Due::Via,
             Frame::Via => Due::Encoding,
-            Frame::KnownEncoding(_) => Due::PreambleEnd,
+            Frame::KnownEncoding(_) | Frame::ExtensibleEncoding => Due::PreambleEnd,
             Frame::PreambleEnd | Frame::PreambleAck => direction.behind_preamble(mode),
             Frame::UnsizedEnvelope => Due::Chunk,
             Frame::Chunk(0) => Due::End,

@@ -1,13 +1,13 @@
 //! How far a reader has come within a record, and what the next byte leads to.
 
-ghost use Rattle.std.specs.Prelude.{◌≡◌, ℕ, List, [], ◌∷◌, ◌++◌, ◌+◌, ◌≤◌, length, ◌==◌, ◌||◌};
+ghost use Rattle.std.specs.Prelude.{◌≡◌, ℕ, List, [], ◌∷◌, ◌++◌, ◌+◌, ◌≤◌, length};
 ghost use Rattle.unit_streams.specs.Front.{begun};
-ghost use Rattle.nmf_records.specs.declared.record_types.TheConstants.{VIA, FAULT, GREATEST};
+ghost use Rattle.nmf_records.specs.declared.record_types.TheConstants.{GREATEST};
 ghost use Rattle.nmf_records.specs.declared.frame.Expect.{Expect};
 ghost use Rattle.nmf_records.specs.declared.frame.Expect.TheVariants.{Types};
-ghost use Rattle.nmf_records.specs.RecordFronts.{frame_at, allowed_at, typed_at, allows, begins_text};
-ghost use Rattle.nmf_records.specs.Reader.{HasShape};
-ghost use Rattle.nmf_records.specs.Steps.{Meets, GoesTo, sized, texted, is_text_start, progress_of};
+ghost use Rattle.nmf_records.specs.RecordFronts.{frame_at, allowed_at, typed_at, allows, begins_text, content_type, has_text_of, TextLimits, too_long_as, via_or_fault};
+ghost use Rattle.nmf_records.specs.Reader.{HasShape, kind_of};
+ghost use Rattle.nmf_records.specs.Steps.{Meets, GoesTo, sized, texted, starts_text, progress_of};
 
 use crate::frame::{Frame, FrameFault};
 use crate::record_types;
@@ -18,6 +18,8 @@ use multibyte_ints::StringStep;
 pub enum TextRecord {
     /// Via Record.
     Via,
+    /// Extensible Encoding Record, with its content type.
+    ContentType,
     /// Fault Record.
     Fault,
 }
@@ -29,7 +31,18 @@ impl TextRecord {
     {
         match self {
             TextRecord::Via => Frame::Via,
+            TextRecord::ContentType => Frame::ExtensibleEncoding,
             TextRecord::Fault => Frame::Fault,
+        }
+    }
+
+    /// The fault of a text that is longer than its limit.
+    fn too_long(self) -> FrameFault
+        ensures { result ≡ too_long_as (kind_of self) }
+    {
+        match self {
+            TextRecord::ContentType => FrameFault::TypeTooLong,
+            TextRecord::Via | TextRecord::Fault => FrameFault::TextTooLong,
         }
     }
 }
@@ -96,15 +109,17 @@ pub enum Progress {
 
 /// What the type byte of a record that may come leads to.
 fn after_known_type(kind: u8) -> Progress
-    ensures reads { (limit : ℕ) → Meets (typed_at limit kind []) 1 result }
+    ensures reads { (limits : TextLimits) → Meets (typed_at limits kind []) 1 result }
     ensures goes { (types : ℕ) → GoesTo (Types types) (kind ∷ []) result }
-    ensures text { is_text_start result ≡ ((kind == VIA) || (kind == FAULT)) }
+    ensures text { starts_text via_or_fault result ≡ has_text_of via_or_fault kind }
+    ensures content_type { starts_text content_type result ≡ has_text_of content_type kind }
 {
     match kind {
         record_types::VERSION => Progress::Going(Stage::Field(Field::Major)),
         record_types::MODE => Progress::Going(Stage::Field(Field::Mode)),
         record_types::VIA => Progress::Going(Stage::Text(TextRecord::Via)),
         record_types::KNOWN_ENCODING => Progress::Going(Stage::Field(Field::Encoding)),
+        record_types::EXTENSIBLE_ENCODING => Progress::Going(Stage::Text(TextRecord::ContentType)),
         record_types::UNSIZED_ENVELOPE => Progress::Done(Frame::UnsizedEnvelope),
         record_types::SIZED_ENVELOPE => Progress::Going(Stage::Size(SizeRecord::SizedEnvelope)),
         record_types::END => Progress::Done(Frame::End),
@@ -125,9 +140,12 @@ pub fn allows(types: u16, kind: u8) -> bool
 
 /// What a type byte leads to, where the records may come whose type has its bit set in `types`.
 pub fn after_type(types: u16, kind: u8) -> Progress
-    ensures reads { (limit : ℕ) → Meets (allowed_at limit types (kind ∷ [])) 1 result }
+    ensures reads { (limits : TextLimits) → Meets (allowed_at limits types (kind ∷ [])) 1 result }
     ensures goes { GoesTo (Types types) (kind ∷ []) result }
-    ensures text { is_text_start result ≡ begins_text (Types types) (kind ∷ []) }
+    ensures text { starts_text via_or_fault result
+        ≡ begins_text via_or_fault (Types types) (kind ∷ []) }
+    ensures content_type { starts_text content_type result
+        ≡ begins_text content_type (Types types) (kind ∷ []) }
 {
     if kind > record_types::GREATEST {
         return Progress::Wrong(FrameFault::UnknownRecord);
@@ -140,9 +158,9 @@ pub fn after_type(types: u16, kind: u8) -> Progress
 
 /// What the byte of a field leads to.
 pub fn after_field(field: Field, byte: u8) -> Progress
-    ensures reads { (limit : ℕ) (expect : Expect) (p : List ℕ)
-        → HasShape expect (Stage.Field field) p → frame_at limit expect p ≡ begun
-        → Meets (frame_at limit expect (p ++ byte ∷ [])) (length p + 1) result }
+    ensures reads { (limits : TextLimits) (expect : Expect) (p : List ℕ)
+        → HasShape expect (Stage.Field field) p → frame_at limits expect p ≡ begun
+        → Meets (frame_at limits expect (p ++ byte ∷ [])) (length p + 1) result }
     ensures goes { (expect : Expect) (p : List ℕ) → HasShape expect (Stage.Field field) p
         → GoesTo expect (p ++ byte ∷ []) result }
 {
@@ -162,7 +180,7 @@ pub fn after_text(text: TextRecord, step: StringStep) -> Progress
         StringStep::More => Progress::Going(Stage::Text(text)),
         StringStep::Done => Progress::Done(text.frame()),
         StringStep::BadInt => Progress::Wrong(FrameFault::BadInt),
-        StringStep::TooLong => Progress::Wrong(FrameFault::TextTooLong),
+        StringStep::TooLong => Progress::Wrong(text.too_long()),
         StringStep::BadUtf8 => Progress::Wrong(FrameFault::TextNotUtf8),
     }
 }

@@ -3,19 +3,19 @@
 ghost use Rattle.std.specs.Prelude.{◌≡◌, ℕ, ◌+◌, ◌^◌, ◌<◌, ◌≤◌, ◌∷◌, ◌++◌, ◌⊎◌, length, take, drop, false, OnOk, OnErr};
 ghost use Rattle.multibyte_ints.specs.Integer.{shortest};
 ghost use Rattle.nmf_records.specs.RecordFronts.{bare};
-ghost use Rattle.nmf_records.specs.Writing.{frame_bytes, has_text, size_told, text_frame_bytes};
+ghost use Rattle.nmf_records.specs.Writing.{CanHave, frame_bytes, has_text, size_told, text_frame_bytes};
 
 use crate::frame::Frame;
 use crate::record_types::{
-    END, FAULT, KNOWN_ENCODING, MODE, PREAMBLE_ACK, PREAMBLE_END, SIZED_ENVELOPE, UNSIZED_ENVELOPE,
-    VERSION, VIA,
+    END, EXTENSIBLE_ENCODING, FAULT, KNOWN_ENCODING, MODE, PREAMBLE_ACK, PREAMBLE_END,
+    SIZED_ENVELOPE, UNSIZED_ENVELOPE, VERSION, VIA,
 };
 use multibyte_ints::put_int;
 use unit_streams::Memory;
 
 /// Writes the record of MC-NMF, of an envelope its head, or the size of a chunk, to the front of
-/// `out`, and says how many bytes it has. The rest of `out` stays. A Via or Fault Record has a
-/// text, which [`put_text_frame`] writes.
+/// `out`, and says how many bytes it has. The rest of `out` stays. A Via, a Fault or
+/// an Extensible Encoding Record has a text, which [`put_text_frame`] writes.
 pub fn put_head(frame: Frame, out: &mut [u8; 8]) -> usize
     requires textless { has_text frame ≡ false }
     requires size { size_told frame < 2 ^ 31 }
@@ -32,15 +32,15 @@ pub fn put_head(frame: Frame, out: &mut [u8; 8]) -> usize
         Frame::End => put_front(&[END], out),
         Frame::PreambleAck => put_front(&[PREAMBLE_ACK], out),
         Frame::PreambleEnd => put_front(&[PREAMBLE_END], out),
-        Frame::Via | Frame::Fault => unreachable!(),
+        Frame::Via | Frame::Fault | Frame::ExtensibleEncoding => unreachable!(),
     }
 }
 
-/// Appends a record of MC-NMF that has a text: a Via Record, where `kind` is [`VIA`], or a Fault
-/// Record, where it is [`FAULT`]. Without memory it fails, and `out` is as before.
+/// Appends a record of MC-NMF that has a text: a Via Record, where `kind` is [`VIA`], a Fault
+/// Record, where it is [`FAULT`], or an Extensible Encoding Record with its content type, where it
+/// is [`EXTENSIBLE_ENCODING`]. Without memory it fails, and `out` is as before.
 pub fn put_text_frame(kind: u8, text: &str, out: &mut Vec<u8>) -> Result<(), Memory>
-    requires kind { (kind ≡ VIA) ⊎ (kind ≡ FAULT) }
-    requires length { length text.now ≤ 2048 }
+    requires { CanHave kind (length text.now) }
     ensures written { OnOk result (out.new.items
         ≡ out.old.items ++ text_frame_bytes kind text.now) }
     ensures unchanged { OnErr result (out.new.items ≡ out.old.items) }

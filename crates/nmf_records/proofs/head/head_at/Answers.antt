@@ -1,6 +1,3 @@
-use Rattle.std.proofs.Common.{◌≡◌, IfSome, sym, subst}
-use Rattle.{unit_streams.specs.Front.whole, nmf_records.specs.declared.frame.Expect.Expect}
-use Rattle.nmf_records.specs.RecordFronts.{bare, frame_at}
 use Rattle.nmf_records.proofs.head.head_at.Goals as goal
 
 pub returns-in-Chunk-clause-reads : goal.returns-in-Chunk-clause-reads

@@ -17,9 +17,9 @@ returns-in-Some-clause-stands c = λ p stands.
     stands_anew c.args.self.now c.in-Type.is c.args.expect p stands
 
 pub returns-in-Some-clause-text : goal.returns-in-Some-clause-text
-returns-in-Some-clause-text c = λ p s stands shows.
-    head_shows c.args.self.now c.in-Type.is c.args.expect p stands c.args.piece.now s
-    c.in-Some.ensures.no_text shows
+returns-in-Some-clause-text c = λ kind p s stands shows.
+    head_shows c.args.self.now c.in-Type.is c.args.expect p stands c.args.piece.now kind s
+    (c.in-Some.ensures.no_text kind) shows
 
 pub returns-in-Some-clause-repeated : goal.returns-in-Some-clause-repeated
 returns-in-Some-clause-repeated c = λ refusal e.

@@ -1,6 +1,6 @@
-use Rattle.std.proofs.Common.{[], sym, refl, ap}
-use Rattle.multibyte_ints.{proofs.TextBytes.string_peels, specs.TextReader.text_of}
-use Rattle.nmf_records.specs.Reader.{limit_of, ShowsText, StandsFor}
+use Rattle.std.proofs.Common.{refl}
+use Rattle.nmf_records.specs.Reader.{limits_of, StandsFor}
+use Rattle.nmf_records.proofs.Showing.{shows_none}
 use Rattle.nmf_records.proofs.Frames.{frame_peels}
 use Rattle.nmf_records.proofs.reader.FrameReader.new.Goals as goal
 
@@ -15,13 +15,9 @@ returns-clause-stands c = λ expect. record {
 }
 
 pub returns-clause-text : goal.returns-clause-text
-unfolding ShowsText
-returns-clause-text c = record {
-  string = [];
-  stands = c.in_ok-new.ensures.stands;
-  text_is = ap text_of (sym (string_peels _).nothing);
-}
+returns-clause-text c =
+    shows_none _ c.in_ok-new.ensures.stands c.in_ok-new-2.ensures.stands
 
-pub returns-clause-limit : goal.returns-clause-limit
-unfolding limit_of
-returns-clause-limit c = c.in_ok-new.ensures.limit
+pub returns-clause-limits : goal.returns-clause-limits
+unfolding limits_of
+returns-clause-limits c = rw (c.in_ok-new.ensures.limit, c.in_ok-new-2.ensures.limit) refl
