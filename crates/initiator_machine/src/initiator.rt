@@ -105,7 +105,7 @@ impl<'s> Initiator<'s> {
         self.reader.table()
     }
 
-    /// What it holds of the input: the bytes of a framing record's text and of the payload's
+    /// What it holds of the input: the bytes of the framing records' texts and of the payload's
     /// incomplete record, and the content of the document so far.
     pub fn kept(&self) -> Kept
         ensures { Holds (reader_of self.now) result }

@@ -97,6 +97,9 @@ fn fault_record(reason: Reason) -> &'static [u8]
         Reason::BadEncoding => {
             b"\x08\x49http://schemas.microsoft.com/ws/2006/05/framing/faults/ContentTypeInvalid"
         }
+        Reason::ContentTypeTooLong => {
+            b"\x08\x49http://schemas.microsoft.com/ws/2006/05/framing/faults/ContentTypeTooLong"
+        }
         Reason::UpgradeRefused => {
             b"\x08\x45http://schemas.microsoft.com/ws/2006/05/framing/faults/UpgradeInvalid"
         }

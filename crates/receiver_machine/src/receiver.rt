@@ -29,7 +29,7 @@ pub struct Receiver<'s> {
 impl<'s> Receiver<'s> {
     ghost use Rattle.nbfx_values.specs.declared.refusals.Offence.{Offence as Refused};
     ghost use Rattle.stream_reader.specs.declared.reader.ReadRefusal.{ReadRefusal as Failure};
-    ghost use Rattle.stream_reader.specs.StreamReaderState.{HasPayloads, begun_in, items_in};
+    ghost use Rattle.stream_reader.specs.StreamReaderState.{HasPayloads, begun_in, items_in, texts_within};
     ghost use Rattle.stream_reader.specs.Saying.{Says, Repeats};
     ghost use Rattle.receiver_machine.specs.Owed.{owed_at_end, owed_behind, owed_for};
     ghost use Rattle.stream_reader.specs.Calls.{told_at_end};
@@ -197,21 +197,21 @@ impl<'s> Receiver<'s> {
         self.reader.table()
     }
 
-    /// What it holds of the input: the bytes of a framing record's text and of the payload's
+    /// What it holds of the input: the bytes of the framing records' texts and of the payload's
     /// incomplete record, and the content of the document so far.
     pub fn kept(&self) -> Kept
         ensures held { result.raw ≡ held_of self.now }
         ensures content_held { result.content ≡ content_held_of self.now }
         ensures raw { WhereItStands self.now (λ p. result.raw
             ≤ length (begun_in (standing (stream (settings_of self.now)) p).situation.stage)
-            + (settings_of self.now).limits.via) }
+            + texts_within (settings_of self.now).limits) }
         ensures content { WhereItStands self.now (λ p. result.content
             ≡ content_of (items_in (standing (stream (settings_of self.now)) p).situation.stage)) }
         ensures within { WhereItStands self.now (λ p. (result.raw
-            ≤ (settings_of self.now).limits.payload + (settings_of self.now).limits.via)
+            ≤ (settings_of self.now).limits.payload + texts_within (settings_of self.now).limits)
             × (result.content ≤ (settings_of self.now).limits.content)) }
         ensures failed { WhereItFailed self.now (λ refusal taken p. (result.raw
-            ≤ (settings_of self.now).limits.payload + (settings_of self.now).limits.via)
+            ≤ (settings_of self.now).limits.payload + texts_within (settings_of self.now).limits)
             × (result.content ≤ (settings_of self.now).limits.content)) }
     {
         self.reader.kept()

@@ -7,6 +7,7 @@ use Rattle.unit_streams.{proofs.Units.IsBetween, specs.Grammar.standing, specs.J
 use Rattle.string_tables.specs.{SessionStrings.used_cost, StringTable.StringTable}
 use Rattle.string_tables.specs.StaticStrings.{Entry, IsStaticMap}
 use Rattle.nbfx_values.specs.{declared.content.Item.Item, Documents.IsDocument}
+use Rattle.nbfx_values.specs.declared.session.Encoding.TheVariants.{Known}
 use Rattle.nbfx_values.specs.declared.session.{Kind.TheVariants.Session, Mode.TheVariants.Duplex}
 use Rattle.nbfx_values.specs.Limits.{IsGood, Limits}
 use Rattle.nbfx_encoder.proofs.LawFacts.{sends_one_more, writes_what_fits}
@@ -58,7 +59,7 @@ module _ (statics : List Entry) (l : Limits) (good : IsGood l) (is_map : IsStati
 
   opening_is : IsPreamble x Duplex Session via opening
   opening_is =
-      openings_are_preambles x good Duplex Session via via_utf8
+      openings_are_preambles x good Duplex (Known Session) via via_utf8
       (let low = good.via_least in omega (arith, low))
       refl
 

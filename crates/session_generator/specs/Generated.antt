@@ -3,6 +3,7 @@
 use Rattle.std.specs.Prelude.{ℕ, List, Ok, Err, codes, Result}
 use Rattle.{string_tables.specs.StaticStrings.Entry, initiator_machine.specs.Opening.opening_bytes}
 use Rattle.nbfx_values.specs.{declared.content.Item.Item, Limits.Limits}
+use Rattle.nbfx_values.specs.declared.session.Encoding.TheVariants.{Known}
 use Rattle.nbfx_values.specs.declared.session.{Kind.TheVariants.Session, Mode.TheVariants.Duplex}
 use Rattle.nbfx_encoder.specs.{Envelopes.envelopes_from, Envelopes.UnfitAt, Placing.Placed}
 use Rattle.session_ends.specs.Sent.{first_table, session_bytes}
@@ -12,7 +13,7 @@ abbrev pub via : List ℕ
 via = codes "net.tcp://h/e"
 
 abbrev pub opening : List ℕ
-opening = opening_bytes Duplex Session via
+opening = opening_bytes Duplex (Known Session) via
 
 -- a session's bytes, and the table behind them
 abbrev pub in_session : Result (Placed (List ℕ)) UnfitAt → Result (Placed (List ℕ)) UnfitAt

@@ -8,7 +8,7 @@ use crate::ends::{Ends, GenFault};
 use crate::reading::read;
 use initiator_machine::opening;
 use nbfx_encoder::{EncodeFault, SendFault, Sender, Side};
-use nbfx_values::{Doc, Kind, Mode, Quotas};
+use nbfx_values::{Doc, Encoding, Kind, Mode, Quotas};
 use receiver_machine::{Endpoint, Receiver};
 use static_dictionary::StaticTable;
 use std::alloc::Global;
@@ -39,7 +39,7 @@ impl<'s> Session<'s> {
         ensures stopped { IfErr result (Stops (limits_of quotas) statics.now []) }
     {
         let mut room = Vec::new(alloc);
-        opening(Mode::Duplex, Kind::Session, VIA, &mut room)?;
+        opening(Mode::Duplex, Encoding::Known(Kind::Session), VIA, &mut room)?;
         let sender = Sender::new(
             alloc,
             statics,

@@ -182,10 +182,7 @@ impl<'s> ReadingEnd for StreamEnd<'s> {
         }
     }
 
-    fn is_end(&self, event: &Event) -> bool
-        ensures { (completed : StreamEvent) → event.now ≡ event_for completed
-            → result ≡ is_last completed }
-    {
+    fn is_end(&self, event: &Event) -> bool {
         match event {
             Event::Ended { .. } | Event::PeerFault { .. } => true,
             Event::Opened { .. } | Event::Accepted | Event::Message(_) => false,

@@ -8,15 +8,17 @@ use Rattle.std.proofs.lemmas.{Bool.cases_lt, Bool.eqb-false, List.nil_from_lengt
 use Rattle.unit_streams.specs.{Front.whole, Grammar.standing, Judging.ending_at, Judging.refusal_at}
 use Rattle.nbfx_values.specs.{declared.session.Mode.Mode, Limits.IsGood}
 use Rattle.nbfx_values.specs.declared.session.Mode.TheVariants.{Duplex, Simplex, Singleton}
-use Rattle.nbfx_values.specs.Session.{kind_number, mode_number}
-use Rattle.nmf_records.specs.{declared.frame.Frame.Frame, RecordFronts.MayCome, Records.IsRecordOf}
+use Rattle.nbfx_values.specs.Session.{content_type, kind_number, mode_number}
+use Rattle.nmf_records.specs.{declared.frame.Frame.Frame, Records.IsRecordOf}
+use Rattle.nmf_records.specs.RecordFronts.{MayCome, text_limit}
 use Rattle.nmf_records.specs.declared.script.{Direction.Direction, Due.Due}
 use Rattle.nmf_records.specs.declared.script.Direction.TheVariants.{FromInitiator, FromReceiver}
 use Rattle.nmf_records.specs.Script.{behind_preamble, may_come}
 use Rattle.stream_reader.specs.Sessions.{AreChunks, Carried, CarriesAll, IsBare, IsEnvelopeIn}
 use Rattle.stream_reader.specs.Sessions.{IsFault, IsUnsized, joined}
 use Rattle.stream_reader.specs.Stream.{after, after_bare, after_record, behind_payload, chunk_due}
-use Rattle.stream_reader.specs.Stream.{chunked, direction_of, kind_of, last_chunk, mode_of}
+use Rattle.stream_reader.specs.Stream.{chunked, direction_of, kind_of, kind_of_type, last_chunk}
+use Rattle.stream_reader.specs.Stream.{mode_of, text_limits}
 use Rattle.stream_reader.specs.Stream.{offence_in, on_payload, OpenPayload, payload_begun}
 use Rattle.stream_reader.specs.Stream.{payload_by, payload_in, payload_open, reason_in, record_due}
 use Rattle.stream_reader.specs.Stream.{refusal_in, refused_payload, serves, Settings, Situation}
@@ -30,7 +32,8 @@ use Rattle.stream_reader.proofs.ProperStages.{ack_due, chunk_form, chunked_in, e
 use Rattle.stream_reader.proofs.ProperStages.{form_proper, FormIn, in_parts, InParts}
 use Rattle.stream_reader.proofs.ProperStages.{preamble_end_due, preamble_proper, ProperAt}
 use Rattle.stream_reader.proofs.ProperStages.{ProperDue, unsized_due}
-use Rattle.stream_reader.proofs.RightRecords.{right_encoding, right_mode, right_size, right_version}
+use Rattle.stream_reader.proofs.RightRecords.{right_encoding, right_mode, right_size, right_type}
+use Rattle.stream_reader.proofs.RightRecords.{right_version}
 use Rattle.stream_reader.proofs.ToSession.{Chunked, Closes, Closing, ends, faults, IsFrom}
 use Rattle.stream_reader.proofs.ToSession.{IsFromDue, may_carry, none_mapped, OpenRest, Rest}
 use Rattle.stream_reader.proofs.ToSession.{rest_behind, whole_payload}
@@ -66,7 +69,10 @@ module _ (x : Settings) where
       subst (ProperDue (direction_of x.side) z.mode) (via_due (direction_of x.side) due may) h
   record_proper z from due (frames.KnownEncoding encoding) text h may =
       subst (ProperDue (direction_of x.side) z.mode)
-      (encoding_due (direction_of x.side) due encoding may) h
+      (encoding_due (direction_of x.side) due (frames.KnownEncoding encoding) tt may) h
+  record_proper z from due frames.ExtensibleEncoding text h may =
+      subst (ProperDue (direction_of x.side) z.mode)
+      (encoding_due (direction_of x.side) due frames.ExtensibleEncoding tt may) h
   record_proper z from due frames.PreambleEnd text h may =
       preamble_proper (direction_of x.side) z.mode
   record_proper z from due frames.PreambleAck text h may =
@@ -240,7 +246,7 @@ module _ (x : Settings) (good : IsGood x.limits) (Stop : Type 0) where
 
     pub record_first : (read : Frame) (text : List ℕ)
         → MayCome (may_come (direction_of x.side) due) read → IsRecordOf read text t
-        → length text ≤ x.limits.via → reason_in x z.stage read text ≡ None
+        → length text ≤ text_limit (text_limits x) read → reason_in x z.stage read text ≡ None
         → on_payload (payload_by x z from read) (refused_payload x z) None ≡ None
         → IsFrom x Stop (after_record x z from read text) (after_record x z from read text).stage c
         → IsFromDue x Stop z due (t ++ c)
@@ -263,8 +269,15 @@ module _ (x : Settings) (good : IsGood x.limits) (Stop : Type 0) where
     record_first (frames.KnownEncoding encoding) text may is low none fine h =
         let b : IsBare (frames.KnownEncoding (kind_number (kind_of encoding))) t =
         (refl, is.1 ∙ ap (λ n. 3 ∷ n ∷ []) (right_encoding encoding _ refl none)) in
-        subst FromDue (sym (encoding_due (direction_of x.side) due encoding may))
-        (kind_of encoding, (t, c, b, refl, h))
+        subst FromDue
+        (sym (encoding_due (direction_of x.side) due (frames.KnownEncoding encoding) tt may))
+        (kind_of encoding, (t, c, inl b, refl, h))
+    record_first frames.ExtensibleEncoding text may is low none fine h =
+        let named : IsRecordOf frames.ExtensibleEncoding (content_type (kind_of_type text)) t =
+        subst (λ s. IsRecordOf frames.ExtensibleEncoding s t) (right_type text _ refl none) is in
+        subst FromDue
+        (sym (encoding_due (direction_of x.side) due frames.ExtensibleEncoding tt may))
+        (kind_of_type text, (t, c, inr named, refl, h))
     record_first frames.PreambleEnd text may is low none fine h =
         subst FromDue (sym (preamble_end_due (direction_of x.side) due may)) (
           t,

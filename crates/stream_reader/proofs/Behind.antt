@@ -4,9 +4,11 @@ use Rattle.std.proofs.Common.{if◌then◌else◌, ◌==◌, Some, None, Ok, Err
 use Rattle.std.proofs.Common.{sym, refl, ap, ◌∙◌, subst, arith}
 use Rattle.{std.specs.Option.option_or, nbfx_values.specs.QuotasOf.limits_of}
 use Rattle.nbfx_values.specs.declared.{refusals.Reason.Reason, session.Kind.Kind}
-use Rattle.nmf_records.specs.{declared.frame.Frame.Frame, RecordFronts.MayCome}
+use Rattle.nmf_records.specs.declared.{frame.Frame.Frame, reader.FrameReader.FrameReader}
+use Rattle.nmf_records.specs.{Reader.ShowsText as FramesShowText, Writing.has_text}
+use Rattle.nmf_records.specs.RecordFronts.{content_type, MayCome, text_kind}
 use Rattle.nmf_records.specs.declared.script.{Direction.Direction, Due.Due}
-use Rattle.nmf_records.specs.Script.{leads, may_come}
+use Rattle.nmf_records.specs.Script.{IsEncoding, leads, may_come}
 use Rattle.nbfx_decoder.specs.{declared.decoder.Decoder.Decoder, Payload.payload}
 use Rattle.nbfx_decoder.specs.DecoderState.{settings_of as decoder_settings}
 use Rattle.nbfx_decoder.specs.DecoderState.{StandsFor as DecoderStandsFor}
@@ -21,7 +23,9 @@ use Rattle.stream_reader.specs.Stepping.{HasDecoded, IsDue, IsMoved, joined_with
 use Rattle.stream_reader.specs.Stepping.{mode_after, step_of, with_size}
 use Rattle.stream_reader.specs.Stream.{after_bare, after_record, behind_payload, chunk_due, chunked}
 use Rattle.stream_reader.specs.Stream.{completed_bare, completed_payload, completed_record}
-use Rattle.stream_reader.specs.Stream.{direction_of, due_in, Form, is_over_in, kind_of, last_chunk}
+use Rattle.stream_reader.specs.Stream.{direction_of, due_in, Form, is_over_in, kind_of}
+use Rattle.stream_reader.specs.Stream.{kind_of_type}
+use Rattle.stream_reader.specs.Stream.{last_chunk}
 use Rattle.stream_reader.specs.Stream.{offence_at, on_payload, OpenPayload, payload_begun}
 use Rattle.stream_reader.specs.Stream.{payload_by, payload_open, payloads, reason_in, record_due}
 use Rattle.stream_reader.specs.Stream.{refused_payload, refused_record, Settings, Side, Situation}
@@ -46,6 +50,7 @@ pub record IsAs (mid r : StreamReader) : Type 0 where
   pub kind : mid.kind ≡ r.kind
   pub messages : mid.messages ≡ r.messages
   pub taken : mid.taken ≡ r.taken
+  pub frames : mid.frames ≡ r.frames
   pub decoder : mid.decoder ≡ r.decoder
 
 module _ (r : StreamReader) (x : Settings) (z : Situation) (f : Frame) (text : List ℕ)
@@ -97,7 +102,10 @@ module _ (r : StreamReader) (x : Settings) (z : Situation) (f : Frame) (text : L
       → KeepsAll (after_record x z from g text)
   refused_in (frames.KnownEncoding encoding) is why e =
       let at = no_size (λ size same. let two = sym is ∙ same in cc) in
-      (refl, ap (strings_at z) at ∙ h.no_strings encoding is)
+      (refl, ap (strings_at z) at ∙ h.no_strings (subst IsEncoding (sym is) tt))
+  refused_in frames.ExtensibleEncoding is why e =
+      let at = no_size (λ size same. let two = sym is ∙ same in cc) in
+      (refl, ap (strings_at z) at ∙ h.no_strings (subst IsEncoding (sym is) tt))
   refused_in (frames.SizedEnvelope size) is why e =
       let at = no_size (λ size same. let two = sym is ∙ same in cc) in
       keeps_open (payload_begun x z from size sized) (ap (strings_at z) at)
@@ -333,6 +341,7 @@ module _ (r : StreamReader) (x : Settings) (z : Situation) (f : Frame) (text : L
   bare_stage frames.Fault = refl
   bare_stage (frames.Mode byte) = refl
   bare_stage (frames.KnownEncoding encoding) = refl
+  bare_stage frames.ExtensibleEncoding = refl
   bare_stage g = refl
 
   bare_mode : (g : Frame) → mode_after z.mode g ≡ (after_bare x z g text).mode
@@ -340,6 +349,7 @@ module _ (r : StreamReader) (x : Settings) (z : Situation) (f : Frame) (text : L
   bare_mode frames.Fault = refl
   bare_mode (frames.Mode byte) = refl
   bare_mode (frames.KnownEncoding encoding) = refl
+  bare_mode frames.ExtensibleEncoding = refl
   bare_mode g = refl
 
   bare_messages : (g : Frame) → z.messages ≡ (after_bare x z g text).messages
@@ -347,6 +357,7 @@ module _ (r : StreamReader) (x : Settings) (z : Situation) (f : Frame) (text : L
   bare_messages frames.Fault = refl
   bare_messages (frames.Mode byte) = refl
   bare_messages (frames.KnownEncoding encoding) = refl
+  bare_messages frames.ExtensibleEncoding = refl
   bare_messages g = refl
 
   module _ (mid : StreamReader) (same_as : IsAs mid r) (side : side_of r.side ≡ x.side)
@@ -380,20 +391,30 @@ module _ (r : StreamReader) (x : Settings) (z : Situation) (f : Frame) (text : L
           decoder_there);
     }
 
-    reads_bare : (g : Frame) (new : StreamReader) → DecodesAfter mid g new
+    -- the content type that the reader of records shows is the record's
+    type_there : f ≡ frames.ExtensibleEncoding → FramesShowText content_type mid.frames text
+    type_there is =
+        subst (λ (t : FrameReader). FramesShowText content_type t text) (sym same_as.frames)
+        (subst (λ (g : Frame). FramesShowText (text_kind g) r.frames text) is
+        (h.shown (ap has_text is)))
+
+    reads_bare : (g : Frame) → f ≡ g → (new : StreamReader) → DecodesAfter mid g new
         → ReadsBare new (after_bare x z g text)
-    reads_bare (frames.KnownEncoding encoding) new (kind, stands, decodes) =
+    reads_bare (frames.KnownEncoding encoding) is new (kind, stands, decodes) =
         record { kind = kind; decodes = decodes ∙ sets (kind_of encoding); stands = stands }
-    reads_bare frames.Via new same = same_bare new _ refl refl same
-    reads_bare frames.Fault new same = same_bare new _ refl refl same
-    reads_bare (frames.Mode byte) new same = same_bare new _ refl refl same
-    reads_bare (frames.Version major minor) new same = same_bare new _ refl refl same
-    reads_bare frames.UnsizedEnvelope new same = same_bare new _ refl refl same
-    reads_bare (frames.Chunk size) new same = same_bare new _ refl refl same
-    reads_bare (frames.SizedEnvelope size) new same = same_bare new _ refl refl same
-    reads_bare frames.End new same = same_bare new _ refl refl same
-    reads_bare frames.PreambleAck new same = same_bare new _ refl refl same
-    reads_bare frames.PreambleEnd new same = same_bare new _ refl refl same
+    reads_bare frames.ExtensibleEncoding is new anew =
+        let a = anew text (type_there is) in
+        record { kind = a.0; decodes = a.2 ∙ sets (kind_of_type text); stands = a.1 }
+    reads_bare frames.Via is new same = same_bare new _ refl refl same
+    reads_bare frames.Fault is new same = same_bare new _ refl refl same
+    reads_bare (frames.Mode byte) is new same = same_bare new _ refl refl same
+    reads_bare (frames.Version major minor) is new same = same_bare new _ refl refl same
+    reads_bare frames.UnsizedEnvelope is new same = same_bare new _ refl refl same
+    reads_bare (frames.Chunk size) is new same = same_bare new _ refl refl same
+    reads_bare (frames.SizedEnvelope size) is new same = same_bare new _ refl refl same
+    reads_bare frames.End is new same = same_bare new _ refl refl same
+    reads_bare frames.PreambleAck is new same = same_bare new _ refl refl same
+    reads_bare frames.PreambleEnd is new same = same_bare new _ refl refl same
 
     says_bare : (g : Frame) (new : StreamReader) → new.mode ≡ mode_after mid.mode g
         → DecodesAfter mid g new → new.taken ≡ mid.taken
@@ -409,6 +430,7 @@ module _ (r : StreamReader) (x : Settings) (z : Situation) (f : Frame) (text : L
     says_bare (frames.Mode byte) new mode same taken = refl
     says_bare frames.Via new mode same taken = refl
     says_bare (frames.KnownEncoding encoding) new mode same taken = refl
+    says_bare frames.ExtensibleEncoding new mode same taken = refl
     says_bare frames.UnsizedEnvelope new mode same taken = refl
     says_bare (frames.Chunk size) new mode same taken = refl
     says_bare (frames.SizedEnvelope size) new mode same taken = refl
@@ -429,6 +451,7 @@ module _ (r : StreamReader) (x : Settings) (z : Situation) (f : Frame) (text : L
     recalls_bare (frames.Mode byte) is none over = cc
     recalls_bare frames.Via is none over = cc
     recalls_bare (frames.KnownEncoding encoding) is none over = cc
+    recalls_bare frames.ExtensibleEncoding is none over = cc
     recalls_bare frames.UnsizedEnvelope is none over = cc
     recalls_bare (frames.SizedEnvelope size) is none over = cc
     recalls_bare (frames.Chunk size) is none over =
@@ -438,7 +461,7 @@ module _ (r : StreamReader) (x : Settings) (z : Situation) (f : Frame) (text : L
     bare_in : (new : StreamReader) (step : StreamStep) → IsMoved mid f new step
         → IsIn new x (after_bare x z f text)
     bare_in new step m =
-        let reads = reads_bare f new m.decodes in
+        let reads = reads_bare f refl new m.decodes in
         let awaited : new.awaited
         ≡ awaits.Record (leads (direction_of x.side) z.mode (due_in z.stage) f)
         = m.awaited

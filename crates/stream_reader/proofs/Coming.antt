@@ -3,20 +3,21 @@ use Rattle.std.proofs.Common.{◌≡◌, ℕ, ◌≤◌, List, [], ◌∷◌, le
 use Rattle.unit_streams.specs.{Front.begun, Front.Front, Front.whole, Front.wrong, Parts.seen}
 use Rattle.nmf_records.proofs.{Frames.frames_front, Records.read_record}
 use Rattle.nmf_records.specs.declared.{frame.FrameFault.FrameFault, script.Due.Due}
-use Rattle.nmf_records.specs.RecordFronts.{frame_at, MayCome}
+use Rattle.nmf_records.specs.RecordFronts.{frame_at, MayCome, text_limit}
 use Rattle.nmf_records.specs.{Records.IsRecord, Records.Read, Script.may_come}
 use Rattle.stream_reader.specs.Stream.{chunk_due, direction_of, due_record_at, frame, offence_at}
 use Rattle.stream_reader.specs.Stream.{OpenPayload, payload_at, payload_byte, payload_open}
-use Rattle.stream_reader.specs.Stream.{reason_of, record_due, Settings, StreamUnit, unit_in}
+use Rattle.stream_reader.specs.Stream.{reason_of, record_due, Settings, StreamUnit}
+use Rattle.stream_reader.specs.Stream.{text_limits, unit_in}
 use Rattle.nmf_records.specs.declared.script.Due.TheVariants as dues
 
 -- the record that a unit is
 pub record Comes (x : Settings) (due : Due) (bytes : List ℕ) (read : Read) (n : ℕ) : Type 0 where
-  pub front : frame_at x.limits.via (may_come (direction_of x.side) due) bytes ≡ whole read n
+  pub front : frame_at (text_limits x) (may_come (direction_of x.side) due) bytes ≡ whole read n
   pub bytes_are : IsRecord read (take n bytes)
   pub may : MayCome (may_come (direction_of x.side) due) read.frame
   pub within : n ≤ length bytes
-  pub low : length read.text ≤ x.limits.via
+  pub low : length read.text ≤ text_limit (text_limits x) read.frame
 
 module _ (x : Settings) (from : ℕ) (bytes : List ℕ) (u : StreamUnit) (n : ℕ) where
   seen_whole : (due : Due) (v : Front Read FrameFault)
@@ -28,18 +29,19 @@ module _ (x : Settings) (from : ℕ) (bytes : List ℕ) (u : StreamUnit) (n : �
   seen_whole due (wrong fault k) e = cc
 
   due_comes : (due : Due) → seen frame (λ fault. offence_at from (reason_of due fault))
-      (frame_at x.limits.via (may_come (direction_of x.side) due) bytes) ≡ whole u n
+      (frame_at (text_limits x) (may_come (direction_of x.side) due) bytes) ≡ whole u n
       → (read : Read) × (u ≡ frame read) × Comes x due bytes read n
   due_comes due e =
-      let w = seen_whole due (frame_at x.limits.via (may_come (direction_of x.side) due) bytes) e in
-      let r = read_record x.limits.via (may_come (direction_of x.side) due) bytes w.0 n w.1 in (
+      let w = seen_whole due (frame_at (text_limits x) (may_come
+      (direction_of x.side) due) bytes) e in
+      let r = read_record (text_limits x) (may_come (direction_of x.side) due) bytes w.0 n w.1 in (
         w.0,
         w.2,
         record {
           front = w.1;
           bytes_are = r.0;
           may = r.1;
-          within = (frames_front x.limits.via (may_come (direction_of x.side) due)).whole_within
+          within = (frames_front (text_limits x) (may_come (direction_of x.side) due)).whole_within
               bytes w.0 n w.1;
           low = r.2;
         },

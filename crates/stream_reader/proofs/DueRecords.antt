@@ -3,12 +3,13 @@ use Rattle.std.proofs.Common.{◌≡◌, ℕ, ◌≤◌, false, List, length, re
 use Rattle.unit_streams.specs.{Front.whole, Parts.seen}
 use Rattle.nbfx_values.specs.declared.refusals.Offence.{Offence}
 use Rattle.nmf_records.{proofs.Records.record_read, specs.Records.IsRecord, specs.Records.Read}
-use Rattle.nmf_records.specs.{declared.frame.FrameFault.FrameFault, Script.may_come}
+use Rattle.nmf_records.specs.declared.frame.{Frame.Frame, FrameFault.FrameFault}
+use Rattle.nmf_records.specs.{RecordFronts.text_limit, Script.IsEncoding, Script.may_come}
 use Rattle.nmf_records.specs.declared.script.{Direction.Direction, Due.Due}
 use Rattle.nmf_records.specs.declared.script.Direction.TheVariants.{FromInitiator, FromReceiver}
 use Rattle.nmf_records.specs.RecordFronts.{frame_at, MayCome}
 use Rattle.stream_reader.specs.Stream.{direction_of, due_record_at, frame, is_over_in, offence_at}
-use Rattle.stream_reader.specs.Stream.{reason_of, record_due, Settings, unit_in}
+use Rattle.stream_reader.specs.Stream.{reason_of, record_due, Settings, text_limits, unit_in}
 use Rattle.nmf_records.specs.declared.frame.Frame.TheVariants as frames
 use Rattle.nmf_records.specs.declared.script.Due.TheVariants as dues
 
@@ -31,11 +32,14 @@ via_due direction dues.Via e = refl
 via_due FromInitiator _ e = cc
 via_due FromReceiver _ e = cc
 
-pub encoding_due : (direction : Direction) (due : Due) (encoding : ℕ)
-    → MayCome (may_come direction due) (frames.KnownEncoding encoding) → due ≡ dues.Encoding
-encoding_due direction dues.Encoding encoding e = refl
-encoding_due FromInitiator _ encoding e = cc
-encoding_due FromReceiver _ encoding e = cc
+pub encoding_due : (direction : Direction) (due : Due) (f : Frame) → IsEncoding f
+    → MayCome (may_come direction due) f → due ≡ dues.Encoding
+encoding_due direction dues.Encoding f is e = refl
+encoding_due FromInitiator _ (frames.KnownEncoding encoding) is e = cc
+encoding_due FromReceiver _ (frames.KnownEncoding encoding) is e = cc
+encoding_due FromInitiator _ frames.ExtensibleEncoding is e = cc
+encoding_due FromReceiver _ frames.ExtensibleEncoding is e = cc
+encoding_due direction _ f is e = absurd is
 
 pub envelope_due : (direction : Direction) (due : Due) (size : ℕ) → MayCome (may_come direction due)
     (frames.SizedEnvelope size) → due ≡ dues.Messages
@@ -68,10 +72,13 @@ pub chunk_comes : (direction : Direction) (size : ℕ) → MayCome (may_come dir
     (frames.Chunk size)
 chunk_comes direction size = refl
 
-pub encoding_comes : (direction : Direction) (encoding : ℕ)
-    → MayCome (may_come direction dues.Encoding) (frames.KnownEncoding encoding)
-encoding_comes FromInitiator encoding = refl
-encoding_comes FromReceiver encoding = refl
+pub encoding_comes : (direction : Direction) (f : Frame) → IsEncoding f
+    → MayCome (may_come direction dues.Encoding) f
+encoding_comes FromInitiator (frames.KnownEncoding encoding) is = refl
+encoding_comes FromReceiver (frames.KnownEncoding encoding) is = refl
+encoding_comes FromInitiator frames.ExtensibleEncoding is = refl
+encoding_comes FromReceiver frames.ExtensibleEncoding is = refl
+encoding_comes direction _ is = absurd is
 
 pub envelope_comes : (direction : Direction) (size : ℕ) → MayCome (may_come direction dues.Messages)
     (frames.SizedEnvelope size)
@@ -86,20 +93,23 @@ refusing from due fault = offence_at from (reason_of due fault)
 pub read_due : (x : Settings) (due : Due) (from : ℕ) (bytes : List ℕ) → is_over_in (record_due due)
     ≡ false
     → due_record_at x due from bytes ≡ seen frame (refusing from due)
-    (frame_at x.limits.via (may_come (direction_of x.side) due) bytes)
+    (frame_at (text_limits x) (may_come (direction_of x.side) due) bytes)
 read_due x dues.Over from bytes on = cc
 read_due x _ from bytes on = refl
 
 module _ (x : Settings) (due : Due) (bytes : List ℕ) (from : ℕ) where
   pub reads_due : is_over_in (record_due due) ≡ false → unit_in x (record_due due) from bytes
-      ≡ seen frame (refusing from due) (frame_at x.limits.via (may_come (direction_of x.side) due)
+      ≡ seen frame (refusing from due) (frame_at (text_limits x) (may_come
+      (direction_of x.side) due)
       bytes)
   unfolding unit_in
   reads_due on = read_due x due from bytes on
 
   -- a record that may come there is a unit
   pub record_unit : (read : Read) → is_over_in (record_due due) ≡ false → IsRecord read bytes
-      → MayCome (may_come (direction_of x.side) due) read.frame → length read.text ≤ x.limits.via
+      → MayCome (may_come (direction_of x.side) due) read.frame
+      → length read.text ≤ text_limit (text_limits x) read.frame
       → unit_in x (record_due due) from bytes ≡ whole (frame read) (length bytes)
   record_unit read on bytes_are may low = reads_due on ∙ ap (seen frame (refusing from due))
-      (record_read x.limits.via (may_come (direction_of x.side) due) read bytes bytes_are may low)
+      (record_read (text_limits x) (may_come (direction_of x.side) due) read bytes bytes_are may
+      low)

@@ -93,6 +93,7 @@ module _ (x : Settings) (z : Situation) where
   bare_goes_on from to (frames.Mode byte) text none on e = refl
   bare_goes_on from to frames.Via text none on e = refl
   bare_goes_on from to (frames.KnownEncoding encoding) text none on e = refl
+  bare_goes_on from to frames.ExtensibleEncoding text none on e = refl
   bare_goes_on from to frames.UnsizedEnvelope text none on e = cc
   bare_goes_on from to (frames.Chunk size) text none on e = chunk_goes_on z.stage size on
   bare_goes_on from to (frames.SizedEnvelope size) text none on e = cc

@@ -6,6 +6,7 @@ use Rattle.unit_streams.specs.{Grammar.standing, Judging.refusal_at}
 use Rattle.{string_tables.specs.SessionStrings.used_cost, nbfx_decoder.proofs.StandsFacts.stands_as}
 use Rattle.nmf_records.specs.declared.reader.FrameReader.{FrameReader}
 use Rattle.nmf_records.specs.Reader.{ShowsText as FramesShowText}
+use Rattle.nmf_records.specs.RecordFronts.{via_or_fault}
 use Rattle.nbfx_decoder.specs.declared.{decoder.Decoder.Decoder, faults.DecodeFault.DecodeFault}
 use Rattle.nbfx_decoder.specs.DecoderState.{FailedBehind as DecoderFailedBehind}
 use Rattle.nbfx_decoder.specs.DecoderState.{settings_of as decoder_settings, situation_of}
@@ -81,8 +82,9 @@ module _ (r : StreamReader) (x : Settings) (p : List ℕ) (h : Reached r x p) (b
   failed_with new told same failure frames messages fault count q b taken stays failed = record {
     failure = failure;
     taken_is = taken;
-    text = subst (λ (f : FrameReader). FramesShowText f (standing (stream x) q).situation.text)
-        (sym frames) (subst (FramesShowText r.frames) (sym stays.text) h.text);
+    text = subst (λ (f : FrameReader). FramesShowText via_or_fault f (standing
+        (stream x) q).situation.text)
+        (sym frames) (subst (FramesShowText via_or_fault r.frames) (sym stays.text) h.text);
     messages = messages ∙ h.at.messages ∙ sym stays.messages;
     strings = subst (ShowsTable new.decoder) (sym stays.strings)
         (shows_failed new.decoder fault b same failed);

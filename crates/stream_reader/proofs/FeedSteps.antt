@@ -13,6 +13,7 @@ use Rattle.unit_streams.specs.Judging.{offends, refusal_at, used}
 use Rattle.nbfx_values.specs.declared.refusals.{Offence.Offence, Reason.TheVariants.SessionTooLong}
 use Rattle.nmf_records.specs.declared.reader.FrameReader.{FrameReader}
 use Rattle.nmf_records.specs.Reader.{ShowsText as FramesShowText}
+use Rattle.nmf_records.specs.RecordFronts.{via_or_fault}
 use Rattle.nbfx_decoder.specs.declared.decoder.Decoder.{Decoder}
 use Rattle.stream_reader.specs.declared.reader.{ReadRefusal.ReadRefusal, StreamStep.StreamStep}
 use Rattle.stream_reader.specs.declared.reader.ReadRefusal.TheVariants.{Memory, Offence as Refused}
@@ -237,7 +238,8 @@ unfolding failure_of taken_of messages_of ShowsText ShowsStrings
 still_failed mid new x refusal taken now p kept failure taken_is h = record {
   failure = failure ∙ h.failure;
   taken_is = taken_is;
-  text = subst (λ (f : FrameReader). FramesShowText f (standing (stream x) p).situation.text)
+  text = subst (λ (f : FrameReader). FramesShowText via_or_fault f (standing
+      (stream x) p).situation.text)
       (sym kept.frames) h.text;
   messages = kept.messages ∙ h.messages;
   strings = subst (λ (d : Decoder). ShowsTable d (strings_in (standing (stream x) p).situation))

@@ -9,16 +9,18 @@ use Rattle.nbfx_values.specs.Session.{kind_number, mode_number}
 use Rattle.nmf_records.specs.declared.{frame.Frame.Frame, script.Direction.Direction}
 use Rattle.nmf_records.specs.declared.script.Direction.TheVariants.{FromInitiator, FromReceiver}
 use Rattle.nmf_records.specs.{Records.IsRecordOf, Script.IsUnsized as IsUnsizedScript}
-use Rattle.nmf_records.specs.Script.{AreEnvelopes, AreSized, IsInitiatorsScript, IsScript}
+use Rattle.nmf_records.specs.Script.{AreEnvelopes, AreSized, IsEncoding, IsInitiatorsScript}
+use Rattle.nmf_records.specs.Script.{IsScript}
 use Rattle.{nbfx_decoder.specs.Laws.IsWholePayload, stream_reader.proofs.ScriptParts.cut_envelopes}
 use Rattle.stream_reader.specs.Scripts.{BeginsWith, Context, first_context, HasScript, IsModeOf}
 use Rattle.stream_reader.specs.{Scripts.IsShort, Stream.serves, Stream.Settings, Stream.Side}
 use Rattle.stream_reader.specs.Sessions.{answer, AreChunks, broken_off, Carried, CarriesAll}
 use Rattle.stream_reader.specs.Sessions.{CarriesThen, conversation, HasParts, IsAckThen, IsBare}
 use Rattle.stream_reader.specs.Sessions.{IsEnvelopeIn, IsFault, IsSized, IsWithin, joined, lone_ack}
-use Rattle.stream_reader.specs.Sessions.{MayCarry, Parts, turned_down}
-use Rattle.stream_reader.specs.Stream.{direction_of, initiators, kind_of, payloads, receivers}
-use Rattle.stream_reader.proofs.RightRecords.{right_encoding, right_version, right_via}
+use Rattle.stream_reader.specs.Sessions.{MayCarry, NamesKind, Parts, turned_down}
+use Rattle.stream_reader.specs.Stream.{direction_of, initiators, kind_of, kind_of_type, payloads}
+use Rattle.stream_reader.specs.Stream.{receivers}
+use Rattle.stream_reader.proofs.RightRecords.{right_encoding, right_type, right_version, right_via}
 use Rattle.nmf_records.specs.declared.frame.Frame.TheVariants as frames
 
 -- what payloads are under a known encoding
@@ -37,6 +39,29 @@ module _ (x : Settings) where
   alone context frame Rest bytes h none =
       h.joined ∙ ap (λ c. (h.head ++ c) ++ h.rest) none
       ∙ ap (λ c. c ++ h.rest) (append-nil h.head)
+
+  -- an encoding's record names a kind, under which there are no strings
+  kind_named : (context : Context) (encoding : Frame) → IsEncoding encoding
+      → (Rest : Context → List ℕ → Type 0) (bytes : List ℕ)
+      (h : BeginsWith x context encoding Rest bytes) → (kind : Kind) × NamesKind kind h.head
+      × (h.payload ≡ []) × (h.then_context ≡ context_of kind [] [])
+  kind_named context (frames.KnownEncoding encoding) is Rest bytes h = (
+    kind_of encoding,
+    inl (
+      refl,
+      h.is_record.1 ∙ ap (λ n. 3 ∷ n ∷ []) (right_encoding encoding _ refl h.unrefused),
+    ),
+    h.followed.0,
+    h.followed.1,
+  )
+  kind_named context frames.ExtensibleEncoding is Rest bytes h = (
+    kind_of_type h.text,
+    inr (subst (λ t. IsRecordOf frames.ExtensibleEncoding t h.head)
+        (right_type h.text _ refl h.unrefused) h.is_record),
+    h.followed.0,
+    h.followed.1,
+  )
+  kind_named context _ is Rest bytes h = absurd is
 
   -- envelopes before other records
   record Envelopes (direction : Direction) (mode : Mode) (context : Context) (t : List Frame)
@@ -318,17 +343,17 @@ module _ (x : Settings) where
       → HasScript x (first_context (initiators endpoint)) script bytes
       → length bytes ≤ x.limits.session → Found (initiators endpoint) bytes
   initiators_found endpoint mode script bytes r has within =
-      by_records r.major r.minor r.encoding r.envelopes r.sent
+      by_records r.major r.minor r.encoding r.is_encoding r.envelopes r.sent
       (subst (λ (s : List Frame). HasScript x (first_context (initiators endpoint)) s bytes)
       r.joined has)
     where
-      by_records : (major minor encoding : ℕ) (envelopes : List Frame)
-          → AreEnvelopes FromInitiator mode envelopes
+      by_records : (major minor : ℕ) (encoding : Frame) → IsEncoding encoding
+          → (envelopes : List Frame) → AreEnvelopes FromInitiator mode envelopes
           → HasScript x (first_context (initiators endpoint))
           (frames.Version major minor ∷ frames.Mode (mode_number mode) ∷ frames.Via
-          ∷ frames.KnownEncoding encoding ∷ frames.PreambleEnd ∷ envelopes ++ frames.End ∷ []) bytes
+          ∷ encoding ∷ frames.PreambleEnd ∷ envelopes ++ frames.End ∷ []) bytes
           → Found (initiators endpoint) bytes
-      by_records major minor encoding envelopes are h =
+      by_records major minor encoding is_encoding envelopes are h =
           let named = h.next in
           let via = named.next in
           let known = via.next in
@@ -336,14 +361,15 @@ module _ (x : Settings) where
           let m = envelopes_script FromInitiator mode envelopes end.then_context (frames.End ∷ [])
           end.rest are end.next in
           let version_is = right_version major minor _ refl h.unrefused in
-          let kind : Kind = kind_of encoding in
-          let told : end.then_context ≡ context_of kind [] [] = end.followed.1 ∙ known.followed.1 in
+          let named_kind = kind_named _ encoding is_encoding _ _ known in
+          let kind : Kind = named_kind.0 in
+          let told : end.then_context ≡ context_of kind [] [] = end.followed.1 ∙ named_kind.3 in
           let preamble : List ℕ = h.head ++ named.head ++ via.head ++ known.head ++ end.head in
           let parts : bytes ≡ preamble ++ end.rest =
           alone _ _ _ bytes h h.followed.0
           ∙ ap (λ c. h.head ++ c) (alone _ _ _ h.rest named named.followed.0
           ∙ ap (λ c. named.head ++ c) (alone _ _ _ named.rest via via.followed.0
-          ∙ ap (λ c. via.head ++ c) (alone _ _ _ via.rest known known.followed.0
+          ∙ ap (λ c. via.head ++ c) (alone _ _ _ via.rest known named_kind.2
           ∙ ap (λ c. known.head ++ c) (alone _ _ _ known.rest end end.followed.0))))
           ∙ simp append_assoc in (
             conversation mode kind via.text m.carried,
@@ -367,11 +393,7 @@ module _ (x : Settings) where
                 is_via = via.is_record;
                 via_within = via.text_within;
                 served = right_via (serves x.side via.text) via.unrefused;
-                is_encoding = (
-                  refl,
-                  known.is_record.1
-                      ∙ ap (λ n. 3 ∷ n ∷ []) (right_encoding encoding _ refl known.unrefused),
-                );
+                is_encoding = named_kind.1;
                 is_end = (refl, end.is_record.1);
               },
               carries_then FromInitiator mode kind end.then_context (frames.End ∷ []) end.rest

@@ -1,17 +1,17 @@
 -- A session is whole units, which bring its events.
 use Rattle.std.proofs.Common.{◌≡◌, ℕ, ◌+◌, ◌≤◌, Bool, true, false, List, [], ◌∷◌, ◌++◌, length}
 use Rattle.std.proofs.Common.{if◌then◌else◌, Some, None, Option, option_map, sym, refl, ap, ◌∙◌}
-use Rattle.std.proofs.Common.{subst, append-nil, arith}
+use Rattle.std.proofs.Common.{subst, inl, inr, append-nil, arith}
 use Rattle.{std.specs.Option.option_or, nbfx_decoder.proofs.PayloadLaws.payloads_are_accepted}
 use Rattle.unit_streams.proofs.Along.{Passes, passes_none, passes_then, passes_unit}
 use Rattle.unit_streams.{proofs.Offences.no_offence, specs.Grammar.standing}
 use Rattle.string_tables.specs.{SessionStrings.used_cost, StaticStrings.Entry}
 use Rattle.nbfx_values.specs.declared.{content.Item.Item, session.Mode.Mode}
-use Rattle.nbfx_values.specs.declared.refusals.Reason.TheVariants.{EndpointNotFound}
+use Rattle.nbfx_values.specs.declared.refusals.Reason.TheVariants.{BadEncoding, EndpointNotFound}
 use Rattle.nbfx_values.specs.declared.session.Kind.{Kind, TheVariants.Plain, TheVariants.Session}
 use Rattle.nbfx_values.specs.declared.session.Mode.TheVariants.{Duplex, Simplex, Singleton}
 use Rattle.nbfx_values.specs.Limits.{IsGood, Limits}
-use Rattle.nbfx_values.specs.Session.{kind_number, mode_number}
+use Rattle.nbfx_values.specs.Session.{content_type, mode_number}
 use Rattle.nmf_records.specs.declared.script.{Direction.Direction, Due.Due}
 use Rattle.nmf_records.specs.declared.script.Direction.TheVariants.{FromInitiator, FromReceiver}
 use Rattle.nmf_records.specs.RecordFronts.{bare, comes, MayCome, with_text}
@@ -19,12 +19,13 @@ use Rattle.nmf_records.specs.{Records.IsRecordOf, Script.behind_preamble, Script
 use Rattle.nbfx_decoder.specs.Laws.{IsDecoded, IsWholePayload}
 use Rattle.stream_reader.specs.Sessions.{Carried, CarriesAll, envelope_of, IsBare, IsEnvelopeIn}
 use Rattle.stream_reader.specs.Sessions.{IsFault, IsPreamble, IsSized, IsUnsized, joined, MayCarry}
-use Rattle.stream_reader.specs.Sessions.{message_events}
+use Rattle.stream_reader.specs.Sessions.{message_events, NamesKind}
 use Rattle.stream_reader.specs.Stream.{after, beginning, completed, direction_of, ended, frame}
 use Rattle.stream_reader.specs.Stream.{initiators, is_over_in, message, offence_at, opened}
 use Rattle.stream_reader.specs.Stream.{payload_in, payloads, peer_fault, record_due, refused}
 use Rattle.stream_reader.specs.Stream.{serves, Settings, Situation, Stage, stream}
 use Rattle.stream_reader.proofs.{DueRecords.record_unit, Grammar.readable}
+use Rattle.stream_reader.proofs.RightRecords.{known_type, type_kind, type_short}
 use Rattle.stream_reader.proofs.Envelopes.{IsClean, sized_passes, unsized_passes}
 use Rattle.nmf_records.specs.declared.frame.Frame.TheVariants as frames
 use Rattle.nmf_records.specs.declared.script.Due.TheVariants as dues
@@ -293,24 +294,33 @@ module _ (endpoint : Option (List ℕ)) (statics : List Entry) (l : Limits) (goo
       (if b then None else Some EndpointNotFound)) None) served)
 
   encoding_passes : (mode : Mode) (from : ℕ) (via : List ℕ) (kind : Kind) (b : List ℕ)
-      → IsBare (frames.KnownEncoding (kind_number kind)) b
+      → NamesKind kind b
       → Passes (stream x) (at (record_due dues.Encoding) mode Session via 0 []) from b
       (at (record_due dues.PreambleEnd) mode kind via 0 []) []
   unfolding after completed refused
-  encoding_passes mode from via Plain b is =
+  encoding_passes mode from via Plain b (inl is) =
       passes_unit (stream x) (readable x) (at (record_due dues.Encoding) mode Session via 0 []) from
       b
       (frame (bare (frames.KnownEncoding 7)))
       (record_unit x dues.Encoding b from (bare (frames.KnownEncoding 7)) refl is refl
       (omega arith))
       refl
-  encoding_passes mode from via Session b is =
+  encoding_passes mode from via Session b (inl is) =
       passes_unit (stream x) (readable x) (at (record_due dues.Encoding) mode Session via 0 []) from
       b
       (frame (bare (frames.KnownEncoding 8)))
       (record_unit x dues.Encoding b from (bare (frames.KnownEncoding 8)) refl is refl
       (omega arith))
       refl
+  encoding_passes mode from via kind b (inr is) =
+      subst (λ k. Passes (stream x) (at (record_due dues.Encoding) mode Session via 0 []) from b
+      (at (record_due dues.PreambleEnd) mode k via 0 []) []) (type_kind kind)
+      (passes_unit (stream x) (readable x) (at (record_due dues.Encoding) mode Session via 0 [])
+      from b (frame (with_text frames.ExtensibleEncoding (content_type kind)))
+      (record_unit x dues.Encoding b from
+      (with_text frames.ExtensibleEncoding (content_type kind)) refl is refl (type_short kind))
+      (ap (λ (b : Bool). option_or (option_map (offence_at from)
+      (if b then None else Some BadEncoding)) None) (known_type kind)))
 
   preamble_end_passes : (mode : Mode) (from : ℕ) (via : List ℕ) (kind : Kind) (b : List ℕ)
       → IsBare frames.PreambleEnd b

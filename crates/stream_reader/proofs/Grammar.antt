@@ -9,6 +9,7 @@ use Rattle.unit_streams.specs.Grammar.{IsQuietWhenOver, IsReadable}
 use Rattle.nbfx_values.specs.declared.refusals.{Offence.Offence, Reason.TheVariants.SessionTooLong}
 use Rattle.nmf_records.proofs.Frames.{frame_peels, frames_front}
 use Rattle.nmf_records.specs.{declared.script.Due.Due, RecordFronts.frame_at, Script.may_come}
+use Rattle.stream_reader.specs.Stream.{text_limits}
 use Rattle.stream_reader.specs.Stream.{chunk_due, cut_off, direction_of, due_record_at, frame}
 use Rattle.stream_reader.specs.Stream.{is_over_in, offence_at, open_from, payload_at, payload_byte}
 use Rattle.stream_reader.specs.Stream.{payload_open, reason_of, record_due, Settings, Stage, stream}
@@ -27,15 +28,15 @@ module _ (x : Settings) where
   -- a record that is due
   reads_due : (due : Due) (from : ℕ)
       → ReadsFront (λ bytes. seen frame (λ fault. offence_at from (reason_of due fault))
-      (frame_at x.limits.via (may_come (direction_of x.side) due) bytes))
+      (frame_at (text_limits x) (may_come (direction_of x.side) due) bytes))
   reads_due due from = reads_seen frame (λ fault. offence_at from (reason_of due fault))
-      (frame_at x.limits.via (may_come (direction_of x.side) due))
-      (frames_front x.limits.via (may_come (direction_of x.side) due))
+      (frame_at (text_limits x) (may_come (direction_of x.side) due))
+      (frames_front (text_limits x) (may_come (direction_of x.side) due))
 
   nothing_due : (due : Due) (from : ℕ) → seen frame (λ fault. offence_at from (reason_of due fault))
-      (frame_at x.limits.via (may_come (direction_of x.side) due) []) ≡ begun
+      (frame_at (text_limits x) (may_come (direction_of x.side) due) []) ≡ begun
   nothing_due due from = ap (seen frame (λ fault. offence_at from (reason_of due fault)))
-      (frame_peels x.limits.via (may_come (direction_of x.side) due)).nothing
+      (frame_peels (text_limits x) (may_come (direction_of x.side) due)).nothing
 
   reads_record : (due : Due) (from : ℕ) → ReadsFront (due_record_at x due from)
   reads_record dues.Over from = reads_nothing

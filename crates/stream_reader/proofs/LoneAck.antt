@@ -91,6 +91,7 @@ module _ (x : Settings) (mode : Mode) (z : Situation) (h : KeepsMode mode z) whe
       (mode_due (direction_of x.side) (due_in z.stage) byte may) (due_keeps z.stage h.1))
   bare_keeps frames.Via text may = (h.0, tt)
   bare_keeps (frames.KnownEncoding encoding) text may = (h.0, tt)
+  bare_keeps frames.ExtensibleEncoding text may = (h.0, tt)
   bare_keeps frames.PreambleEnd text may = (h.0, preamble_behind (direction_of x.side) z.mode)
   bare_keeps frames.PreambleAck text may = (h.0, preamble_behind (direction_of x.side) z.mode)
   bare_keeps frames.UnsizedEnvelope text may = (h.0, tt)
@@ -163,6 +164,7 @@ module _ (x : Settings) (kind : Kind) (side : x.side ≡ receivers Simplex kind)
     goes_one_way dues.Over (frames.Mode byte) text at h may is = cc
     goes_one_way dues.Over frames.Via text at h may is = cc
     goes_one_way dues.Over (frames.KnownEncoding encoding) text at h may is = cc
+    goes_one_way dues.Over frames.ExtensibleEncoding text at h may is = cc
     goes_one_way dues.Over frames.UnsizedEnvelope text at h may is = cc
     goes_one_way dues.Over (frames.Chunk size) text at h may is = cc
     goes_one_way dues.Over (frames.SizedEnvelope size) text at h may is = cc

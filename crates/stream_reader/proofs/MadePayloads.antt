@@ -5,6 +5,7 @@ use Rattle.{std.proofs.Common.ltb-true, unit_streams.specs.Grammar.at_start}
 use Rattle.nbfx_values.specs.declared.{limits.Quotas.Quotas, refusals.Reason.Reason}
 use Rattle.nbfx_values.specs.{declared.session.Kind.TheVariants.Session, Limits.Limits}
 use Rattle.nbfx_values.specs.QuotasOf.{limits_of}
+use Rattle.nmf_records.specs.Writing.{has_text}
 use Rattle.nmf_records.specs.{declared.frame.Frame.Frame, RecordFronts.MayCome, Script.may_come}
 use Rattle.nmf_records.specs.declared.script.{Direction.Direction, Due.Due}
 use Rattle.nbfx_decoder.specs.{declared.decoder.Decoder.Decoder, Payload.payload}
@@ -60,6 +61,7 @@ only_size direction (frames.Version major minor) may = cc
 only_size direction (frames.Mode mode) may = cc
 only_size direction frames.Via may = cc
 only_size direction (frames.KnownEncoding encoding) may = cc
+only_size direction frames.ExtensibleEncoding may = cc
 only_size direction frames.UnsizedEnvelope may = cc
 only_size direction (frames.SizedEnvelope size) may = cc
 only_size direction frames.End may = cc
@@ -88,7 +90,7 @@ any_stage x (awaits.Payload p) =
 pub bounded_made : (d : Decoder) (quotas : Quotas) (x : Settings) (a : Awaited) (from : ℕ)
     (f : Frame)
     (q : PayloadLeft) → x.limits ≡ limits_of quotas
-    → ((stage : Stage) (text : List ℕ) → Awaits a stage → (f ≡ frames.Via → ⊥)
+    → ((stage : Stage) (text : List ℕ) → Awaits a stage → (has_text f ≡ true → ⊥)
     → reason_in x stage f text ≡ None)
     → MakesPayload a from f (Some q) → IsBounded d quotas a → IsBounded d quotas (awaits.Payload q)
 bounded_made d quotas x a from f q limits good makes b = by_awaited a good makes b where
@@ -96,7 +98,8 @@ bounded_made d quotas x a from f q limits good makes b = by_awaited a good makes
   most = ap (λ (l : Limits). l.payload) limits
 
   by_head : (g : Frame) (due : Due) → Some q ≡ begun_by from g
-      → ((stage : Stage) (text : List ℕ) → Awaits (awaits.Record due) stage → (g ≡ frames.Via → ⊥)
+      → ((stage : Stage) (text : List ℕ) → Awaits (awaits.Record due) stage → (has_text g ≡ true
+      → ⊥)
       → reason_in x stage g text ≡ None)
       → IsBounded d quotas (awaits.Record due) → IsBounded d quotas (awaits.Payload q)
   by_head (frames.SizedEnvelope size) due makes good b =
@@ -112,7 +115,7 @@ bounded_made d quotas x a from f q limits good makes b = by_awaited a good makes
   by_head g due makes good b = cc
 
   by_size : (p : PayloadLeft) (g : Frame) → MakesPayload (awaits.Chunk p) from g (Some q)
-      → ((stage : Stage) (text : List ℕ) → Awaits (awaits.Chunk p) stage → (g ≡ frames.Via → ⊥)
+      → ((stage : Stage) (text : List ℕ) → Awaits (awaits.Chunk p) stage → (has_text g ≡ true → ⊥)
       → reason_in x stage g text ≡ None)
       → IsBounded d quotas (awaits.Chunk p) → IsBounded d quotas (awaits.Payload q)
   by_size p (frames.Chunk size) makes good b =
@@ -127,7 +130,7 @@ bounded_made d quotas x a from f q limits good makes b = by_awaited a good makes
   by_size p g makes good b = cc
 
   by_awaited : (a : Awaited)
-      → ((stage : Stage) (text : List ℕ) → Awaits a stage → (f ≡ frames.Via → ⊥)
+      → ((stage : Stage) (text : List ℕ) → Awaits a stage → (has_text f ≡ true → ⊥)
       → reason_in x stage f text ≡ None)
       → MakesPayload a from f (Some q) → IsBounded d quotas a → IsBounded d quotas
       (awaits.Payload q)

@@ -54,6 +54,10 @@ preamble = with_encoding 8 ++ 12 ∷ []
 abbrev pub plain_preamble : List ℕ
 plain_preamble = with_encoding 7 ++ 12 ∷ []
 
+-- with its encoding spelled out
+abbrev pub spelled_preamble : List ℕ
+spelled_preamble = with_via ++ 4 ∷ 30 ∷ codes "application/soap+msbinsession1" ++ 12 ∷ []
+
 -- a document of one element, behind no strings
 abbrev pub element : List ℕ
 element = 0 ∷ 64 ∷ 1 ∷ 120 ∷ 1 ∷ []

@@ -10,6 +10,7 @@ use Rattle.unit_streams.specs.Judging.{ending_at, event_at, goes_on, is_over_at,
 use Rattle.nmf_records.specs.declared.{frame.Expect.Expect, reader.FrameReader.FrameReader}
 use Rattle.nmf_records.specs.declared.script.Direction.{Direction}
 use Rattle.nmf_records.specs.Reader.{ShowsText as FramesShowText, StandsFor as FrameStandsFor}
+use Rattle.nmf_records.specs.RecordFronts.{via_or_fault}
 use Rattle.nbfx_decoder.specs.declared.faults.DecodeFault.{DecodeFault}
 use Rattle.nbfx_decoder.specs.DecoderState.{FailedBehind as DecoderFailedBehind, FailedWithin}
 use Rattle.nbfx_decoder.specs.DecoderState.{FeedAnswers, settings_of as decoder_settings}
@@ -28,6 +29,7 @@ use Rattle.stream_reader.specs.Stream.{payloads, PayloadStanding, peer_fault, re
 use Rattle.stream_reader.specs.Stream.{refusal_in, refused_payload, Settings, Situation, Stage}
 use Rattle.stream_reader.specs.Stream.{stream, StreamEvent, strings_at, strings_in}
 use Rattle.stream_reader.specs.StreamReaderState.{Awaits, DecideNothing, Failed, failure_of}
+use Rattle.stream_reader.specs.StreamReaderState.{ShowsType}
 use Rattle.stream_reader.specs.StreamReaderState.{form_of, HasBegun, HasPart, HasPayloads, IsIn}
 use Rattle.stream_reader.specs.StreamReaderState.{messages_of, Reached, ReadsPayload, ShowsStrings}
 use Rattle.stream_reader.specs.StreamReaderState.{ShowsTable, ShowsText, taken_of}
@@ -246,9 +248,10 @@ module _ (r : StreamReader) (x : Settings) (p : List ℕ) (h : Reached r x p) (l
                   (sym begun_there) (none_begun (direction_of x.side) new.awaited new.frames
                   (λ next. subst (λ (f : FrameReader). FrameStandsFor f next []) (sym frames)
                   (no_record next)));
-              text = subst (λ (f : FrameReader). FramesShowText f
+              text = subst (λ (f : FrameReader). FramesShowText via_or_fault f
                   (standing (stream x) (p ++ take k c)).situation.text) (sym frames)
-                  (subst (FramesShowText r.frames) (sym text_there) h.text);
+                  (subst (FramesShowText via_or_fault r.frames) (sym text_there) h.text);
+              type = subst ShowsType (sym frames) h.type;
               closing = λ over. let on = still_on in let bad = sym on ∙ over in cc;
               unit_from = omega (arith, unit_from, h.taken, from_there, long);
               taken = omega (arith, taken_is, h.taken, long);
@@ -306,9 +309,9 @@ module _ (r : StreamReader) (x : Settings) (p : List ℕ) (h : Reached r x p) (l
           refused_so new (Refused offence) why refuses (ap Refused a.0) (record {
             failure = failure;
             taken_is = omega (arith, taken_is, h.taken);
-            text = subst (λ (f : FrameReader). FramesShowText f
+            text = subst (λ (f : FrameReader). FramesShowText via_or_fault f
                 (standing (stream x) (p ++ take k c)).situation.text) (sym frames)
-                (subst (FramesShowText r.frames) (sym text_there) h.text);
+                (subst (FramesShowText via_or_fault r.frames) (sym text_there) h.text);
             messages = subst (λ (s : Situation). new.messages ≡ s.messages) (sym situation_there)
                 a.1.messages;
             strings = subst (λ (s : Situation). ShowsTable new.decoder (strings_in s))

@@ -17,6 +17,7 @@ use Rattle.nbfx_decoder.proofs.{PayloadAnswers.nothing_is_refused, PayloadReason
 use Rattle.nbfx_decoder.specs.Payload.{Refusal, refusal}
 use Rattle.stream_reader.specs.Reasons.{HasPayload, IsPart, ShowsInPayload}
 use Rattle.stream_reader.{specs.Sessions.IsBare, proofs.Reasons.apart, proofs.Reasons.some_mapped}
+use Rattle.stream_reader.specs.Stream.{text_limits}
 use Rattle.stream_reader.specs.Stream.{chunk_due, chunked, direction_of, due_record_at, frame}
 use Rattle.stream_reader.specs.Stream.{is_chunked, is_over_in, is_whole, last_chunk, offence_at}
 use Rattle.stream_reader.specs.Stream.{offence_in, on_open, on_payload, open_from, OpenPayload}
@@ -376,7 +377,8 @@ record_apart : (x : Settings) (due : Due) (from : ℕ) (bytes : List ℕ) (numbe
     (n : ℕ) → due_record_at x due from bytes ≡ wrong (offence_in number r) n → ⊥
 record_apart x dues.Over from bytes number r n e = cc
 record_apart x due from bytes number r n e =
-    seen_apart due from number r (frame_at x.limits.via (may_come (direction_of x.side) due) bytes)
+    seen_apart due from number r (frame_at (text_limits x) (may_come
+    (direction_of x.side) due) bytes)
     n e
 
 bytes_apart : (x : Settings) (stage : Stage) (from : ℕ) (bytes : List ℕ) (number : ℕ) (r : Refusal)

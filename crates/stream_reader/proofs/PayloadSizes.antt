@@ -75,6 +75,7 @@ module _ (x : Settings) (z : Situation) where
   bare_none frames.Fault text = refl
   bare_none (frames.Mode byte) text = refl
   bare_none (frames.KnownEncoding encoding) text = refl
+  bare_none frames.ExtensibleEncoding text = refl
   bare_none read text = refl
 
   bare_untold : (to : ℕ) (read : Frame) (text : List ℕ) (e : Envelope)

@@ -393,6 +393,7 @@ module _ (x : Settings) (p bytes : List ℕ) (units : AreUnits (stream x) p) whe
   record_traced due frames.Fault text at may is leads = tt
   record_traced due (frames.Mode byte) text at may is leads = tt
   record_traced due (frames.KnownEncoding encoding) text at may is leads = tt
+  record_traced due frames.ExtensibleEncoding text at may is leads = tt
   record_traced due read text at may is leads = tt
 
   size_traced : (o : OpenPayload) (read : Frame) (text : List ℕ)

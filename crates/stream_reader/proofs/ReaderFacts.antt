@@ -9,6 +9,7 @@ use Rattle.nbfx_values.specs.declared.{limits.Quotas.Quotas, session.Mode.Mode}
 use Rattle.nbfx_values.specs.{declared.refusals.Reason.TheVariants.Truncated, QuotasOf.limits_of}
 use Rattle.nmf_records.specs.declared.{reader.FrameReader.FrameReader, script.Due.Due}
 use Rattle.nmf_records.specs.Reader.{ShowsText as FramesShowText}
+use Rattle.nmf_records.specs.RecordFronts.{via_or_fault}
 use Rattle.nbfx_decoder.proofs.{Readable.readable as payload_readable, Sound.keeps_within}
 use Rattle.nbfx_decoder.specs.declared.{decoder.Decoder.Decoder, faults.DecodeFault.DecodeFault}
 use Rattle.nbfx_decoder.specs.DecoderState.{begun_of, FailedBehind as DecoderFailedBehind}
@@ -296,7 +297,8 @@ unfolding failure_of taken_of messages_of ShowsText ShowsStrings
 refused_shows old new x p refusal taken h failure taken_is kept = record {
   failure = failure;
   taken_is = taken_is;
-  text = subst (λ (f : FrameReader). FramesShowText f (standing (stream x) p).situation.text)
+  text = subst (λ (f : FrameReader). FramesShowText via_or_fault f (standing
+      (stream x) p).situation.text)
       (sym kept.frames) h.text;
   messages = kept.messages ∙ h.at.messages;
   strings = subst (λ (d : Decoder). ShowsTable d (strings_in (standing (stream x) p).situation))

@@ -16,9 +16,11 @@ use Rattle.nbfx_values.specs.declared.refusals.Place.TheVariants.{Payload as InP
 use Rattle.nmf_records.proofs.{Causes.fault_cause, Faults.fault_comes}
 use Rattle.nmf_records.specs.declared.frame.{Frame.Frame, FrameFault.FrameFault}
 use Rattle.nmf_records.specs.{declared.script.Due.Due, Script.may_come}
+use Rattle.nmf_records.specs.RecordFronts.{text_limit}
 use Rattle.nmf_records.specs.RecordFronts.{frame_at, MayCome}
 use Rattle.nmf_records.specs.Records.{IsRecord, IsRecordOf, Read}
 use Rattle.stream_reader.specs.Reasons.{IsTooLong, Shows, ShowsFrom, ShowsIn}
+use Rattle.stream_reader.specs.Stream.{text_limits}
 use Rattle.stream_reader.specs.Stream.{chunk_due, direction_of, due_record_at, frame, is_over_in}
 use Rattle.stream_reader.specs.Stream.{offence_at, offence_in, on_open, on_payload, open_from}
 use Rattle.stream_reader.specs.Stream.{OpenPayload, payload_at, payload_by, payload_byte}
@@ -199,7 +201,8 @@ module _ (x : Settings) (p before bytes : List ℕ) (joined : p ≡ before ++ by
       (ap (λ (s : Stage). unit_in x s (standing (stream x) before).from bytes) at ∙ e) (λ h. cc) in
       let reads : is_over_in (record_due due) ≡ false =
       going (sym (ap is_over_in at) ∙ over_stage on) in
-      let w = seen_wrong due at' (frame_at x.limits.via (may_come (direction_of x.side) due) bytes)
+      let w = seen_wrong due at' (frame_at (text_limits x) (may_come
+      (direction_of x.side) due) bytes)
       (offence_at from reason) n
       (sym (read_due x due at' bytes reads) ∙ sym is_record ∙ e) in
       let is : offence_at at' (reason_of due w.0) ≡ offence_at from reason = sym w.2 in
@@ -208,7 +211,7 @@ module _ (x : Settings) (p before bytes : List ℕ) (joined : p ≡ before ++ by
       (shows reason (subst (λ (r : Reason). Shows x due (size_before stage) bytes r)
       (same_reason at' from (reason_of due w.0) reason is)
       (shows_fault x due (size_before stage) bytes w.0 n
-      (fault_cause x.limits.via (may_come (direction_of x.side) due) bytes w.0 n w.1)))))
+      (fault_cause (text_limits x) (may_come (direction_of x.side) due) bytes w.0 n w.1)))))
 
   of_bytes : (stage : Stage) (from n : ℕ) (reason : Reason)
       → (standing (stream x) before).situation.stage ≡ stage
@@ -240,7 +243,7 @@ module _ (x : Settings) (p before bytes : List ℕ) (joined : p ≡ before ++ by
     reads = ap (λ (s : Stage). unit_in x s (standing (stream x) before).from bytes) at
         ∙ is_record ∙ read_due x due (standing (stream x) before).from bytes on
         ∙ ap (seen frame (refusing (standing (stream x) before).from due))
-        (fault_comes x.limits.via (may_come (direction_of x.side) due) bytes fault n cause)
+        (fault_comes (text_limits x) (may_come (direction_of x.side) due) bytes fault n cause)
         ∙ ap (λ r. wrong (offence_at (standing (stream x) before).from r) n) is;
   }
 
@@ -248,7 +251,7 @@ module _ (x : Settings) (p before bytes : List ℕ) (joined : p ≡ before ++ by
       → (standing (stream x) before).situation.stage ≡ stage
       → ((read : Read) → IsRecord read bytes → MayCome (may_come (direction_of x.side) due)
       read.frame
-      → length read.text ≤ x.limits.via
+      → length read.text ≤ text_limit (text_limits x) read.frame
       → unit_in x stage (standing (stream x) before).from bytes ≡ whole (frame read) (length bytes))
       → IsSaid x stage due bytes reason
       → IsRefusedByUnit (stream x) p (offence_at (standing (stream x) before).from reason)

@@ -1,4 +1,5 @@
--- What a record leads to that is read, and what its reader answers, by the limit and what may come.
+-- What a record leads to that is read, and what its reader answers, by the limits and what may
+-- come.
 use Rattle.std.proofs.Common.{◌≡◌, ℕ, ◌+◌, ◌<◌, ◌≤◌, Bool, true, false, List, [], ◌++◌, length}
 use Rattle.std.proofs.Common.{if◌then◌else◌, ◌==◌, Some, None, Ok, Err, Option, option_map, sym}
 use Rattle.std.proofs.Common.{refl, subst, arith}
@@ -13,7 +14,7 @@ use Rattle.nmf_records.specs.declared.script.{Direction.Direction, Due.Due}
 use Rattle.nmf_records.specs.declared.script.Direction.TheVariants.{FromInitiator, FromReceiver}
 use Rattle.nmf_records.specs.Reader.{AfterPiece, FrameAnswers, shown_behind}
 use Rattle.nmf_records.specs.Reader.{ShowsText as FramesShowText, StandsFor as FrameStandsFor}
-use Rattle.nmf_records.specs.RecordFronts.{frame_at, MayCome, with_text}
+use Rattle.nmf_records.specs.RecordFronts.{frame_at, MayCome, TextKind, TextLimits, with_text}
 use Rattle.stream_reader.specs.{declared.awaited.Awaited.Awaited, Stepping.due_of}
 use Rattle.stream_reader.specs.Stream.{after, after_record, chunk_due, completed_bare}
 use Rattle.stream_reader.specs.Stream.{completed_payload, completed_record, direction_of}
@@ -132,27 +133,31 @@ module _ (x : Settings) (z : Situation) (from to : ℕ) (f : Frame) (text : List
       by_frame (frames.Mode mode) is may none has = absurd has
       by_frame frames.Via is may none has = absurd has
       by_frame (frames.KnownEncoding encoding) is may none has = absurd has
+      by_frame frames.ExtensibleEncoding is may none has = absurd has
       by_frame frames.End is may none has = cc
       by_frame frames.Fault is may none has = cc
       by_frame frames.PreambleEnd is may none has = cc
       by_frame frames.PreambleAck is may none has = cc
 
--- what a reader of records answers and shows, by the limit and what may come
-module _ (limit via : ℕ) (expect other : Expect) (l : limit ≡ via) (m : expect ≡ other)
+-- what a reader of records answers and shows, by the limits and what may come
+module _ (limits there : TextLimits) (expect other : Expect) (l : limits ≡ there) (m : expect
+    ≡ other)
     (new : FrameReader) (b y : List ℕ) where
-  by_same : (P : ℕ → Expect → Type 0) → P limit expect → P via other
-  by_same P h = subst (λ (n : ℕ). P n other) l (subst (P limit) m h)
+  by_same : (P : TextLimits → Expect → Type 0) → P limits expect → P there other
+  by_same P h = subst (λ (n : TextLimits). P n other) l (subst (P limits) m h)
 
-  pub shown_so : (s : List ℕ) → FramesShowText new (shown_behind limit expect (b ++ y) s)
-      → FramesShowText new (shown_behind via other (b ++ y) s)
-  shown_so s = by_same (λ n e. FramesShowText new (shown_behind n e (b ++ y) s))
+  pub shown_so : (kind : TextKind) (s : List ℕ)
+      → FramesShowText kind new (shown_behind kind limits expect (b ++ y) s)
+      → FramesShowText kind new (shown_behind kind there other (b ++ y) s)
+  shown_so kind s = by_same (λ n e. FramesShowText kind new (shown_behind kind n e (b ++ y) s))
 
   pub more_so : (n : ℕ) (step : FrameStep) → step ≡ More
-      → FrameAnswers limit expect b y (Ok (n, step)) → AfterPiece new expect (b ++ y) (Ok (n, step))
-      → (n ≡ length y) × (frame_at via other (b ++ y) ≡ begun) × FrameStandsFor new other (b ++ y)
+      → FrameAnswers limits expect b y (Ok (n, step)) → AfterPiece new expect (b ++ y) (Ok
+      (n, step))
+      → (n ≡ length y) × (frame_at there other (b ++ y) ≡ begun) × FrameStandsFor new other (b ++ y)
   more_so n step is said after =
-      let a : FrameAnswers limit expect b y (Ok (n, More)) =
-      subst (λ (t : FrameStep). FrameAnswers limit expect b y (Ok (n, t))) is said in
+      let a : FrameAnswers limits expect b y (Ok (n, More)) =
+      subst (λ (t : FrameStep). FrameAnswers limits expect b y (Ok (n, t))) is said in
       let f : FrameStandsFor new expect (b ++ y) =
       subst (λ (t : FrameStep). AfterPiece new expect (b ++ y) (Ok (n, t))) is after in (
         a.0,
@@ -161,19 +166,20 @@ module _ (limit via : ℕ) (expect other : Expect) (l : limit ≡ via) (m : expe
       )
 
   pub done_so : (n : ℕ) (step : FrameStep) (f : Frame) → step ≡ Done f
-      → FrameAnswers limit expect b y (Ok (n, step)) → AfterPiece new expect (b ++ y) (Ok (n, step))
-      → (text : List ℕ) × (frame_at via other (b ++ y) ≡ whole (with_text f text) (length b + n))
+      → FrameAnswers limits expect b y (Ok (n, step)) → AfterPiece new expect (b ++ y) (Ok
+      (n, step))
+      → (text : List ℕ) × (frame_at there other (b ++ y) ≡ whole (with_text f text) (length b + n))
       × ((next : Expect) → FrameStandsFor new next [])
   done_so n step f is said after =
-      let a : FrameAnswers limit expect b y (Ok (n, Done f)) =
-      subst (λ (t : FrameStep). FrameAnswers limit expect b y (Ok (n, t))) is said in (
+      let a : FrameAnswers limits expect b y (Ok (n, Done f)) =
+      subst (λ (t : FrameStep). FrameAnswers limits expect b y (Ok (n, t))) is said in (
         a.0,
         by_same (λ k e. frame_at k e (b ++ y) ≡ whole (with_text f a.0) (length b + n)) a.1,
         subst (λ (t : FrameStep). AfterPiece new expect (b ++ y) (Ok (n, t))) is after,
       )
 
-  pub wrong_so : (refusal : FrameRefusal) → FrameAnswers limit expect b y (Err refusal)
-      → frame_at via other (b ++ y) ≡ wrong refusal.fault refusal.shown_by
+  pub wrong_so : (refusal : FrameRefusal) → FrameAnswers limits expect b y (Err refusal)
+      → frame_at there other (b ++ y) ≡ wrong refusal.fault refusal.shown_by
   wrong_so refusal = by_same (λ k e. frame_at k e (b ++ y) ≡ wrong refusal.fault refusal.shown_by)
 
 -- the reader of records has the bytes of what is due, as it is awaited

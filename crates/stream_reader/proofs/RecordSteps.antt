@@ -18,7 +18,9 @@ use Rattle.nmf_records.specs.declared.frame.{Expect.Expect, Frame.Frame, FrameFa
 use Rattle.nmf_records.specs.declared.{reader.FrameReader.FrameReader, script.Due.Due}
 use Rattle.nmf_records.specs.Reader.{shown_behind, ShowsText as FramesShowText}
 use Rattle.nmf_records.specs.Reader.{StandsFor as FrameStandsFor, text_after}
-use Rattle.nmf_records.specs.RecordFronts.{frame_at, MayCome, with_text}
+use Rattle.nmf_records.specs.RecordFronts.{frame_at, MayCome, text_kind, TextKind}
+use Rattle.nmf_records.specs.RecordFronts.{via_or_fault, with_text}
+use Rattle.nmf_records.specs.{Script.IsEncoding, Writing.has_text}
 use Rattle.nbfx_decoder.specs.declared.decoder.Decoder.{Decoder}
 use Rattle.nbfx_decoder.specs.DecoderState.{settings_of as decoder_settings}
 use Rattle.stream_reader.specs.declared.{awaited.Awaited.Awaited, reader.StreamReader.StreamReader}
@@ -30,16 +32,17 @@ use Rattle.stream_reader.specs.Stream.{completed_record, direction_of, ended, fr
 use Rattle.stream_reader.specs.Stream.{message, offence_at, opened, OpenPayload, peer_fault}
 use Rattle.stream_reader.specs.Stream.{reason_of, record_due, refused, refused_record, Settings}
 use Rattle.stream_reader.specs.Stream.{Situation, stream, StreamEvent, StreamUnit, strings_in}
+use Rattle.stream_reader.specs.Stream.{text_limits}
 use Rattle.stream_reader.specs.StreamReaderState.{Awaits, failure_of, HasBegun, HasPayloads, IsIn}
 use Rattle.stream_reader.specs.StreamReaderState.{messages_of, Reached, ReadsPayload, Recalls}
-use Rattle.stream_reader.specs.StreamReaderState.{ShowsStrings, ShowsTable, ShowsText, taken_of}
+use Rattle.stream_reader.specs.StreamReaderState.{ShowsStrings, ShowsTable, ShowsText, ShowsType}
+use Rattle.stream_reader.specs.StreamReaderState.{taken_of}
 use Rattle.stream_reader.proofs.DueRecords.{encoding_due, read_due, refusing}
 use Rattle.stream_reader.proofs.{Grammar.readable, Grammar.short_enough, PayloadFeeds.none_begun}
 use Rattle.stream_reader.proofs.{MadePayloads.reads_at, ReaderFacts.shows_in}
 use Rattle.stream_reader.proofs.RecordFacts.{begun_awaited, begun_due, quiet_payloads, refused_none}
-use Rattle.stream_reader.proofs.Texts.{before_encoding, begun_text, early, reads_record, reads_size}
-use Rattle.stream_reader.proofs.Texts.{ReadsDue, whole_text, wrong_text}
-use Rattle.nmf_records.specs.declared.frame.Frame.TheVariants as frames
+use Rattle.stream_reader.proofs.Texts.{before_encoding, begun_text, early, own_text, reads_record}
+use Rattle.stream_reader.proofs.Texts.{reads_size, ReadsDue, whole_text, wrong_text}
 use Rattle.nmf_records.specs.declared.script.Due.TheVariants as dues
 use Rattle.stream_reader.specs.declared.reader.StreamStep.TheVariants as steps
 
@@ -75,7 +78,7 @@ module _ (r : StreamReader) (x : Settings) (p c : List ℕ) (due : Due)
 
   front_is : (bytes : List ℕ) → front bytes
       ≡ seen frame (refusing from_here due)
-      (frame_at x.limits.via (may_come (direction_of x.side) due) bytes)
+      (frame_at (text_limits x) (may_come (direction_of x.side) due) bytes)
   unfolding unit_in
   front_is bytes =
       elim due_here [
@@ -85,7 +88,7 @@ module _ (r : StreamReader) (x : Settings) (p c : List ℕ) (due : Due)
         | reads_size o at same ↦
             ap (λ s. unit_in x s from_here bytes) at
             ∙ ap (λ n. seen frame (refusing from_here n)
-            (frame_at x.limits.via (may_come (direction_of x.side) n) bytes)) (sym same)
+            (frame_at (text_limits x) (may_come (direction_of x.side) n) bytes)) (sym same)
       ]
 
   close : (i : ℕ) → i < length c → (stream x).at_length situation_here from_here (length p + i)
@@ -106,18 +109,19 @@ module _ (r : StreamReader) (x : Settings) (p c : List ℕ) (due : Due)
 
   -- a record that is begun still
   pub record_more : (new : StreamReader) (k : ℕ) → 0 < k → k ≡ length c
-      → frame_at x.limits.via (may_come (direction_of x.side) due)
+      → frame_at (text_limits x) (may_come (direction_of x.side) due)
       ((standing (stream x) p).begun ++ c) ≡ begun
       → new.awaited ≡ r.awaited → new.mode ≡ r.mode → new.kind ≡ r.kind → new.messages ≡ r.messages
       → new.decoder ≡ r.decoder → new.unit_from ≡ r.unit_from → new.taken ≡ r.taken + k
       → new.failure ≡ r.failure
       → FrameStandsFor new.frames (may_come (direction_of x.side) due)
       ((standing (stream x) p).begun ++ c)
-      → FramesShowText new.frames (shown_behind x.limits.via (may_come (direction_of x.side) due)
+      → FramesShowText via_or_fault new.frames (shown_behind via_or_fault (text_limits x)
+      (may_come (direction_of x.side) due)
       ((standing (stream x) p).begun ++ c) (standing (stream x) p).situation.text)
-      → UnitAnswers x p c new (Ok (k, steps.More))
+      → ShowsType new.frames → UnitAnswers x p c new (Ok (k, steps.More))
   record_more new k some all read awaited mode kind messages decoder unit_from taken failure
-      frames_stand shown =
+      frames_stand shown type =
       let still : front (begun_here ++ c) ≡ begun =
       front_is (begun_here ++ c) ∙ ap (seen frame (refusing from_here due)) read in
       let leaves = left_begun front ((readable x).reads situation_here from_here) begun_here c
@@ -152,9 +156,10 @@ module _ (r : StreamReader) (x : Settings) (p c : List ℕ) (due : Due)
               frames_stand));
           text =
               rw there
-              (subst (FramesShowText new.frames)
-              (ap (text_after situation_here.text expected (begun_here ++ c)) read
+              (subst (FramesShowText via_or_fault new.frames)
+              (ap (text_after via_or_fault situation_here.text expected (begun_here ++ c)) read
               ∙ begun_text x situation_here due due_here (early x p) (begun_here ++ c)) shown);
+          type = type;
           closing = λ over.
               let same = over_there k there over in let bad = sym stage_on ∙ same in cc;
           unit_from = rw there (unit_from ∙ h.unit_from);
@@ -175,7 +180,7 @@ module _ (r : StreamReader) (x : Settings) (p c : List ℕ) (due : Due)
 
   -- a record that is whole
   module _ (f : Frame) (text : List ℕ) (n : ℕ)
-      (read : frame_at x.limits.via (may_come (direction_of x.side) due)
+      (read : frame_at (text_limits x) (may_come (direction_of x.side) due)
       ((standing (stream x) p).begun ++ c) ≡ whole (with_text f text)
       (length (standing (stream x) p).begun + n)) where
     abbrev unit : StreamUnit
@@ -183,18 +188,19 @@ module _ (r : StreamReader) (x : Settings) (p c : List ℕ) (due : Due)
 
     pub may_come_so : MayCome (may_come (direction_of x.side) due) f
     may_come_so =
-        (read_record x.limits.via expected (begun_here ++ c) (with_text f text)
+        (read_record (text_limits x) expected (begun_here ++ c) (with_text f text)
         (length begun_here + n) read).1
 
     shown_there : (mid : FrameReader)
-        → FramesShowText mid (shown_behind x.limits.via (may_come (direction_of x.side) due)
+        → FramesShowText via_or_fault mid (shown_behind via_or_fault (text_limits x)
+        (may_come (direction_of x.side) due)
         ((standing (stream x) p).begun ++ c) (standing (stream x) p).situation.text)
-        → FramesShowText mid (after_record x (standing (stream x) p).situation
+        → FramesShowText via_or_fault mid (after_record x (standing (stream x) p).situation
         (standing (stream x) p).from f text).text
     shown_there mid shown =
-        subst (FramesShowText mid)
-        (ap (text_after situation_here.text expected (begun_here ++ c)) read
-        ∙ whole_text x situation_here x.limits.via expected from_here (begun_here ++ c)
+        subst (FramesShowText via_or_fault mid)
+        (ap (text_after via_or_fault situation_here.text expected (begun_here ++ c)) read
+        ∙ whole_text x situation_here (text_limits x) expected from_here (begun_here ++ c)
         (with_text f text) (length begun_here + n) read) shown
 
     -- that of the encoding comes before any strings
@@ -205,21 +211,21 @@ module _ (r : StreamReader) (x : Settings) (p c : List ℕ) (due : Due)
           | reads_size o at size ↦ let bad = sym size ∙ same in cc
         ]
 
-    pub none_before : (encoding : ℕ) → f ≡ frames.KnownEncoding encoding
-        → (standing (stream x) p).situation.strings ≡ []
-    none_before encoding e =
-        let may : MayCome (may_come (direction_of x.side) due) (frames.KnownEncoding encoding) =
-        subst (λ (g : Frame). MayCome (may_come (direction_of x.side) due) g) e may_come_so in
-        (early x p).strings (before_there (encoding_due (direction_of x.side) due encoding may))
+    pub none_before : IsEncoding f → (standing (stream x) p).situation.strings ≡ []
+    none_before is = (early x p).strings
+        (before_there (encoding_due (direction_of x.side) due f is may_come_so))
 
-    -- a Via shows its text
-    pub shown_via : (mid : FrameReader)
-        → FramesShowText mid (shown_behind x.limits.via (may_come (direction_of x.side) due)
-        ((standing (stream x) p).begun ++ c) (standing (stream x) p).situation.text)
-        → f ≡ frames.Via → FramesShowText mid text
-    shown_via mid shown e =
-        subst (λ (g : Frame). FramesShowText mid (after_record x (standing (stream x) p).situation
-        (standing (stream x) p).from g text).text) e (shown_there mid shown)
+    -- a record with a text shows it
+    pub shown_text : (mid : FrameReader) (kind : TextKind) (s : List ℕ) → kind ≡ text_kind f
+        → has_text f ≡ true
+        → FramesShowText kind mid (shown_behind kind (text_limits x)
+        (may_come (direction_of x.side) due) ((standing (stream x) p).begun ++ c) s)
+        → FramesShowText kind mid text
+    shown_text mid kind s same has shown =
+        subst (FramesShowText kind mid)
+        (ap (text_after kind s expected (begun_here ++ c)) read
+        ∙ own_text (text_limits x) expected kind s (begun_here ++ c) (with_text f text)
+        (length begun_here + n) same has read) shown
 
     front_whole : front (begun_here ++ c) ≡ whole unit (length begun_here + n)
     front_whole = front_is (begun_here ++ c) ∙ ap (seen frame (refusing from_here due)) read
@@ -286,13 +292,15 @@ module _ (r : StreamReader) (x : Settings) (p c : List ℕ) (due : Due)
     low o at = (subst (ReadsPayload r.decoder x situation_here) at h.at.payload).1.within
 
     module _ (new : StreamReader) (mid : FrameReader) (same : new.frames ≡ mid)
-        (shown : FramesShowText mid (shown_behind x.limits.via (may_come (direction_of x.side) due)
+        (shown : FramesShowText via_or_fault mid (shown_behind via_or_fault (text_limits x)
+        (may_come (direction_of x.side) due)
         ((standing (stream x) p).begun ++ c) (standing (stream x) p).situation.text))
-        (taken : new.taken ≡ r.taken + n) where
-      text_there : FramesShowText new.frames (standing (stream x) (p ++ take n c)).situation.text
+        (type : ShowsType mid) (taken : new.taken ≡ r.taken + n) where
+      text_there : FramesShowText via_or_fault new.frames (standing (stream x)
+          (p ++ take n c)).situation.text
       text_there =
           rw same
-          (subst (λ (s : Situation). FramesShowText mid s.text) (sym situation_there)
+          (subst (λ (s : Situation). FramesShowText via_or_fault mid s.text) (sym situation_there)
           (shown_there mid shown))
 
       -- and isn't refused
@@ -328,6 +336,7 @@ module _ (r : StreamReader) (x : Settings) (p c : List ℕ) (due : Due)
                     (λ next. subst (λ (g : FrameReader). FrameStandsFor g next []) (sym same)
                     (fresh next)));
                 text = text_there;
+                type = subst ShowsType (sym same) type;
                 closing = λ over. subst (Recalls new.closing) (sym event) (recalls (over_so over));
                 unit_from = omega (arith, unit_from, h.taken, place, between.place);
                 taken = omega (arith, taken, h.taken, len);
@@ -442,10 +451,11 @@ module _ (r : StreamReader) (x : Settings) (p c : List ℕ) (due : Due)
 
   -- a record that is wrong
   pub record_wrong : (new : StreamReader) (fault : FrameFault) (k : ℕ) (told : ReadRefusal)
-      → frame_at x.limits.via (may_come (direction_of x.side) due)
+      → frame_at (text_limits x) (may_come (direction_of x.side) due)
       ((standing (stream x) p).begun ++ c) ≡ wrong fault k
       → told ≡ Refused (offence_at (standing (stream x) p).from (reason_of due fault))
-      → FramesShowText new.frames (shown_behind x.limits.via (may_come (direction_of x.side) due)
+      → FramesShowText via_or_fault new.frames (shown_behind via_or_fault (text_limits x)
+      (may_come (direction_of x.side) due)
       ((standing (stream x) p).begun ++ c) (standing (stream x) p).situation.text)
       → new.taken ≡ (standing (stream x) p).from + k → new.failure ≡ Some told
       → new.messages ≡ r.messages → new.decoder ≡ r.decoder → UnitAnswers x p c new (Err told)
@@ -477,8 +487,8 @@ module _ (r : StreamReader) (x : Settings) (p c : List ℕ) (due : Due)
           taken_is = omega (arith, taken, place, later);
           text =
               rw there
-              (subst (FramesShowText new.frames)
-              (ap (text_after situation_here.text expected (begun_here ++ c)) read
+              (subst (FramesShowText via_or_fault new.frames)
+              (ap (text_after via_or_fault situation_here.text expected (begun_here ++ c)) read
               ∙ wrong_text x situation_here due due_here (early x p) (begun_here ++ c) fault k)
               shown);
           messages = rw there (messages ∙ h.at.messages);

@@ -10,6 +10,7 @@ use Rattle.unit_streams.specs.{Going.IsQuiet, Going.IsQuietBefore, Grammar.stand
 use Rattle.unit_streams.specs.Judging.{event_at, goes_on, is_over_at, offends, refusal_at}
 use Rattle.nmf_records.specs.{declared.reader.FrameReader.FrameReader, Script.may_come}
 use Rattle.nmf_records.specs.Reader.{ShowsText as FramesShowText, StandsFor as FrameStandsFor}
+use Rattle.nmf_records.specs.RecordFronts.{via_or_fault}
 use Rattle.nbfx_decoder.specs.DecoderState.{FailedBehind as DecoderFailedBehind, FailedWithin}
 use Rattle.nbfx_decoder.specs.DecoderState.{FeedAnswers, settings_of as decoder_settings}
 use Rattle.nbfx_decoder.specs.DecoderState.{StandsFor as DecoderStandsFor}
@@ -25,6 +26,7 @@ use Rattle.stream_reader.specs.Stream.{is_over_in, last_chunk, offence_in, OpenP
 use Rattle.stream_reader.specs.Stream.{payload_open, PayloadStanding, record_due, Settings}
 use Rattle.stream_reader.specs.Stream.{Situation, sized, Stage, stream, StreamEvent, strings_at}
 use Rattle.stream_reader.specs.StreamReaderState.{Awaits, Failed, form_of, HasBegun, HasPart}
+use Rattle.stream_reader.specs.StreamReaderState.{ShowsType}
 use Rattle.stream_reader.specs.StreamReaderState.{HasPayloads, IsIn, IsOpenSo, Reached}
 use Rattle.stream_reader.specs.StreamReaderState.{ReadsPayload}
 use Rattle.stream_reader.proofs.{ChunkBytes.between, ChunkBytes.IsBetween, PayloadBytes.units_place}
@@ -311,10 +313,11 @@ module _ (r : StreamReader) (x : Settings) (p : List ℕ) (h : Reached r x p) (l
                   (subst (λ (a : Awaited). HasBegun (direction_of x.side) a new.frames [])
                   (sym awaited) frames_none);
               text =
-                  subst (λ (f : FrameReader). FramesShowText f
+                  subst (λ (f : FrameReader). FramesShowText via_or_fault f
                   (standing (stream x) (p ++ chunks_of contents)).situation.text) (sym frames)
-                  (subst (FramesShowText r.frames)
+                  (subst (FramesShowText via_or_fault r.frames)
                   (sym (ap (λ (s : Situation). s.text) behind.situation)) h.text);
+              type = subst ShowsType (sym frames) h.type;
               closing = λ over. let none = over_not in let bad = sym none ∙ over in cc;
               unit_from = let before = h.taken in omega (arith, unit_from, before, place, further);
               taken = let before = h.taken in omega (arith, taken, before, further);

@@ -160,6 +160,8 @@ sound_bare : (x : Settings) (z : Situation) (from k : ℕ) (read : Frame) (text 
     → IsSound x (after_bare x z read text) (from + k)
 sound_bare x z from k (frames.KnownEncoding encoding) text some h low =
     record { messages_within = omega arith; dictionary = omega arith; payload = tt }
+sound_bare x z from k frames.ExtensibleEncoding text some h low =
+    record { messages_within = omega arith; dictionary = omega arith; payload = tt }
 sound_bare x z from k frames.Via text some h low =
     record { messages_within = omega arith; dictionary = low; payload = tt }
 sound_bare x z from k frames.Fault text some h low =

@@ -6,23 +6,27 @@ use Rattle.std.proofs.Common.{subst, inl, inr, take-append-drop, eqb-true}
 use Rattle.std.proofs.lemmas.Bool.{and_left, cases_Bool}
 use Rattle.unit_streams.proofs.Standing.{standing_keeps}
 use Rattle.unit_streams.specs.{Front.begun, Front.Front, Front.whole, Front.wrong, Grammar.standing}
-use Rattle.nbfx_values.specs.declared.session.Mode.{Mode}
+use Rattle.nbfx_values.specs.declared.session.{Kind.Kind, Mode.Mode}
 use Rattle.nbfx_values.specs.declared.session.Mode.TheVariants.{Duplex, Simplex, Singleton}
-use Rattle.nmf_records.proofs.{Records.read_record, Showing.plain_head}
+use Rattle.nmf_records.proofs.{Records.read_record, Showing.no_text, Showing.plain_head}
 use Rattle.nmf_records.specs.declared.frame.Expect.{Expect, TheVariants.Chunk, TheVariants.Types}
 use Rattle.nmf_records.specs.declared.frame.{Frame.Frame, FrameFault.FrameFault}
-use Rattle.nmf_records.specs.declared.record_types.TheConstants.{END, FAULT, KNOWN_ENCODING, MODE}
+use Rattle.nmf_records.specs.declared.record_types.TheConstants.{END, EXTENSIBLE_ENCODING, FAULT}
+use Rattle.nmf_records.specs.declared.record_types.TheConstants.{KNOWN_ENCODING, MODE}
 use Rattle.nmf_records.specs.declared.record_types.TheConstants.{PREAMBLE_ACK, PREAMBLE_END}
 use Rattle.nmf_records.specs.declared.record_types.TheConstants.{SIZED_ENVELOPE, UNSIZED_ENVELOPE}
 use Rattle.nmf_records.specs.declared.record_types.TheConstants.{VERSION, VIA}
 use Rattle.nmf_records.specs.declared.script.{Direction.Direction, Due.Due}
 use Rattle.nmf_records.specs.declared.script.Direction.TheVariants.{FromInitiator, FromReceiver}
 use Rattle.nmf_records.specs.{Reader.text_after, Reader.text_read, Records.IsRecordOf, Records.Read}
-use Rattle.nmf_records.specs.RecordFronts.{allows, begins_text, frame_at, MayCome}
+use Rattle.nmf_records.specs.RecordFronts.{allows, begins_text, content_type, frame_at}
+use Rattle.nmf_records.specs.RecordFronts.{has_text_of, MayCome, text_kind, TextKind, TextLimits}
+use Rattle.nmf_records.specs.{RecordFronts.via_or_fault, Writing.has_text}
 use Rattle.nmf_records.specs.Script.{behind_preamble, first, may_come}
 use Rattle.stream_reader.specs.Stream.{after, after_bare, after_record, beginning, behind_payload}
 use Rattle.stream_reader.specs.Stream.{chunk_due, chunked, direction_of, due_behind, due_in, Form}
-use Rattle.stream_reader.specs.Stream.{is_over_in, last_chunk, mode_of, on_open, on_payload}
+use Rattle.stream_reader.specs.Stream.{is_over_in, kind_of, kind_of_type, last_chunk, mode_of}
+use Rattle.stream_reader.specs.Stream.{on_open, on_payload}
 use Rattle.stream_reader.specs.Stream.{OpenPayload, payload_begun, payload_by, payload_open}
 use Rattle.stream_reader.specs.Stream.{record_due, Settings, Situation, sized, Stage, stream}
 use Rattle.stream_reader.specs.Stream.{StreamUnit, unit_in, with_byte}
@@ -104,6 +108,7 @@ due_on direction dues.Over (frames.Version major minor) may = cc
 due_on direction dues.Over (frames.Mode mode) may = cc
 due_on direction dues.Over frames.Via may = cc
 due_on direction dues.Over (frames.KnownEncoding encoding) may = cc
+due_on direction dues.Over frames.ExtensibleEncoding may = cc
 due_on direction dues.Over frames.UnsizedEnvelope may = cc
 due_on direction dues.Over (frames.Chunk size) may = cc
 due_on direction dues.Over (frames.SizedEnvelope size) may = cc
@@ -186,6 +191,17 @@ module _ (x : Settings) (z : Situation) (h : IsEarly (direction_of x.side) z) wh
             absurd (never (ap (λ n. before_encoding (record_due n)) same ∙ early)
             (receivers_alone (direction_of x.side) next is e))
 
+    -- behind the encoding's record
+    encoding_early : (kind : Kind) → due ≡ dues.Encoding → IsEarly (direction_of x.side)
+        (record z { stage = record_due dues.PreambleEnd; kind = kind; strings = [] })
+    encoding_early kind same =
+        let here = ap (λ n. before_encoding (record_due n)) same in
+        record {
+          text = λ e. absurd (never here (receivers_alone d dues.PreambleEnd refl e));
+          strings = λ e. refl;
+          late = λ is. refl;
+        }
+
     going : (f : Frame) → MayCome (may_come (direction_of x.side) due) f → is_over_in z.stage
         ≡ false
     going f may = ap is_over_in at ∙ due_on d due f may
@@ -205,12 +221,10 @@ module _ (x : Settings) (z : Situation) (h : IsEarly (direction_of x.side) z) wh
     early_bare from frames.Via text may none =
         preamble_early dues.Via dues.Encoding text z.mode (via_due d due may) refl (λ e. cc)
     early_bare from (frames.KnownEncoding encoding) text may none =
-        let here = ap (λ n. before_encoding (record_due n)) (encoding_due d due encoding may) in
-        record {
-          text = λ e. absurd (never here (receivers_alone d dues.PreambleEnd refl e));
-          strings = λ e. refl;
-          late = λ is. refl;
-        }
+        encoding_early (kind_of encoding) (encoding_due d due
+        (frames.KnownEncoding encoding) tt may)
+    early_bare from frames.ExtensibleEncoding text may none =
+        encoding_early (kind_of_type text) (encoding_due d due frames.ExtensibleEncoding tt may)
     early_bare from frames.End text may none =
         early_at d z _ (on_again d z.stage (record_due dues.Over) refl (going frames.End may)) refl
         h
@@ -265,6 +279,7 @@ chunk_made x z from o (frames.Version major minor) at may e = cc
 chunk_made x z from o (frames.Mode mode) at may e = cc
 chunk_made x z from o frames.Via at may e = cc
 chunk_made x z from o (frames.KnownEncoding encoding) at may e = cc
+chunk_made x z from o frames.ExtensibleEncoding at may e = cc
 chunk_made x z from o frames.UnsizedEnvelope at may e = cc
 chunk_made x z from o (frames.SizedEnvelope size) at may e = cc
 chunk_made x z from o frames.End at may e = cc
@@ -306,62 +321,81 @@ module _ (x : Settings) where
       standing_keeps (stream x) (readable x) (λ z from. IsEarly (direction_of x.side) z) early_first
       (λ z from b u k e some h. early_unit z.stage z from b u k refl e h) p
 
--- the text behind a record, where s was shown before
-abbrev pub kept_by : Frame → List ℕ → List ℕ → List ℕ
-kept_by frames.Via text s = text
-kept_by frames.Fault text s = text
-kept_by f text s = s
+-- the text of this kind behind a record, where s was shown before
+abbrev pub kept_by : Frame → TextKind → List ℕ → List ℕ → List ℕ
+kept_by frames.Via via_or_fault text s = text
+kept_by frames.Fault via_or_fault text s = text
+kept_by frames.ExtensibleEncoding content_type text s = text
+kept_by f kind text s = s
 
-module _ (expect : Expect) (k : ℕ) (b text s : List ℕ) where
-  first_byte : (kind : ℕ) (rest : List ℕ) → take k b ≡ kind ∷ rest → b ≡ kind ∷ (rest ++ drop k b)
-  first_byte kind rest e = sym (take-append-drop k b) ∙ ap (λ d. d ++ drop k b) e
+module _ (kind : TextKind) (expect : Expect) (k : ℕ) (b text s : List ℕ) where
+  first_byte : (type : ℕ) (rest : List ℕ) → take k b ≡ type ∷ rest → b ≡ type ∷ (rest ++ drop k b)
+  first_byte type rest e = sym (take-append-drop k b) ∙ ap (λ d. d ++ drop k b) e
 
   abbrev shows : Bool → List ℕ
   shows t = if t then text else s
 
-  plain : (kind : ℕ) (rest : List ℕ) → ((kind == VIA) || (kind == FAULT)) ≡ false
-      → take k b ≡ kind ∷ rest → (if begins_text expect b then text else s) ≡ s
-  plain kind rest is e =
-      ap (λ c. shows (begins_text expect c)) (first_byte kind rest e)
-      ∙ ap shows (plain_head expect kind (rest ++ drop k b) is)
+  plain : (type : ℕ) (rest : List ℕ) → has_text_of kind type ≡ false
+      → take k b ≡ type ∷ rest → (if begins_text kind expect b then text else s) ≡ s
+  plain type rest is e =
+      ap (λ c. shows (begins_text kind expect c)) (first_byte type rest e)
+      ∙ ap shows (plain_head kind expect type (rest ++ drop k b) is)
 
-  texted : (kind : ℕ) (rest : List ℕ) → ((kind == VIA) || (kind == FAULT)) ≡ true → (types : ℕ)
-      → expect ≡ Types types → allows types kind ≡ true → take k b ≡ kind ∷ rest
-      → (if begins_text expect b then text else s) ≡ text
-  texted kind rest is types same may e =
-      ap (λ c. shows (begins_text expect c)) (first_byte kind rest e) ∙ rw (same, may, is) refl
+  texted : (type : ℕ) (rest : List ℕ) → has_text_of kind type ≡ true → (types : ℕ)
+      → expect ≡ Types types → allows types type ≡ true → take k b ≡ type ∷ rest
+      → (if begins_text kind expect b then text else s) ≡ text
+  texted type rest is types same may e =
+      ap (λ c. shows (begins_text kind expect c)) (first_byte type rest e) ∙ rw (same, may, is) refl
+
+-- a record without a text shows what was shown
+bare_shown : (kind : TextKind) (expect : Expect) (k : ℕ) (b text s : List ℕ) (type : ℕ)
+    (rest : List ℕ) → (type == VIA) ≡ false → (type == FAULT) ≡ false
+    → (type == EXTENSIBLE_ENCODING) ≡ false → take k b ≡ type ∷ rest
+    → (if begins_text kind expect b then text else s) ≡ s
+bare_shown kind expect k b text s type rest via fault encoding e =
+    plain kind expect k b text s type rest (no_text kind type via fault encoding) e
 
 -- a record that may come shows its text
-whole_shown : (expect : Expect) (k : ℕ) (b s : List ℕ) (f : Frame) (text : List ℕ)
-    → IsRecordOf f text (take k b) → MayCome expect f
-    → (if begins_text expect b then text else s) ≡ kept_by f text s
-whole_shown (Types types) k b s frames.Via text is may =
-    texted (Types types) k b text s VIA is.0 refl types refl may is.2
-whole_shown (Types types) k b s frames.Fault text is may =
-    texted (Types types) k b text s FAULT is.0 refl types refl may is.2
-whole_shown Chunk k b s frames.Via text is may = cc
-whole_shown Chunk k b s frames.Fault text is may = cc
-whole_shown expect k b s (frames.Version major minor) text is may =
-    plain expect k b text s VERSION (major ∷ minor ∷ []) refl is.1
-whole_shown expect k b s (frames.Mode mode) text is may =
-    plain expect k b text s MODE (mode ∷ []) refl is.1
-whole_shown expect k b s (frames.KnownEncoding encoding) text is may =
-    plain expect k b text s KNOWN_ENCODING (encoding ∷ []) refl is.1
-whole_shown expect k b s frames.UnsizedEnvelope text is may =
-    plain expect k b text s UNSIZED_ENVELOPE [] refl is.1
-whole_shown expect k b s (frames.SizedEnvelope size) text is may =
-    plain expect k b text s SIZED_ENVELOPE is.1 refl is.3
-whole_shown expect k b s frames.End text is may = plain expect k b text s END [] refl is.1
-whole_shown expect k b s frames.PreambleAck text is may =
-    plain expect k b text s PREAMBLE_ACK [] refl is.1
-whole_shown expect k b s frames.PreambleEnd text is may =
-    plain expect k b text s PREAMBLE_END [] refl is.1
-whole_shown Chunk k b s (frames.Chunk size) text is may = refl
-whole_shown (Types types) k b s (frames.Chunk size) text is may = cc
+whole_shown : (kind : TextKind) (expect : Expect) (k : ℕ) (b s : List ℕ) (f : Frame)
+    (text : List ℕ) → IsRecordOf f text (take k b) → MayCome expect f
+    → (if begins_text kind expect b then text else s) ≡ kept_by f kind text s
+whole_shown via_or_fault (Types types) k b s frames.Via text is may =
+    texted via_or_fault (Types types) k b text s VIA is.0 refl types refl may is.2
+whole_shown via_or_fault (Types types) k b s frames.Fault text is may =
+    texted via_or_fault (Types types) k b text s FAULT is.0 refl types refl may is.2
+whole_shown via_or_fault (Types types) k b s frames.ExtensibleEncoding text is may =
+    plain via_or_fault (Types types) k b text s EXTENSIBLE_ENCODING is.0 refl is.2
+whole_shown content_type (Types types) k b s frames.Via text is may =
+    plain content_type (Types types) k b text s VIA is.0 refl is.2
+whole_shown content_type (Types types) k b s frames.Fault text is may =
+    plain content_type (Types types) k b text s FAULT is.0 refl is.2
+whole_shown content_type (Types types) k b s frames.ExtensibleEncoding text is may =
+    texted content_type (Types types) k b text s EXTENSIBLE_ENCODING is.0 refl types refl may is.2
+whole_shown kind Chunk k b s frames.Via text is may = cc
+whole_shown kind Chunk k b s frames.Fault text is may = cc
+whole_shown kind Chunk k b s frames.ExtensibleEncoding text is may = cc
+whole_shown kind expect k b s (frames.Version major minor) text is may = bare_shown kind expect k b
+    text s VERSION (major ∷ minor ∷ []) refl refl refl is.1
+whole_shown kind expect k b s (frames.Mode mode) text is may = bare_shown kind expect k b
+    text s MODE (mode ∷ []) refl refl refl is.1
+whole_shown kind expect k b s (frames.KnownEncoding encoding) text is may = bare_shown kind expect k
+    b text s KNOWN_ENCODING (encoding ∷ []) refl refl refl is.1
+whole_shown kind expect k b s frames.UnsizedEnvelope text is may = bare_shown kind expect k b
+    text s UNSIZED_ENVELOPE [] refl refl refl is.1
+whole_shown kind expect k b s (frames.SizedEnvelope size) text is may = bare_shown kind expect k b
+    text s SIZED_ENVELOPE is.1 refl refl refl is.3
+whole_shown kind expect k b s frames.End text is may = bare_shown kind expect k b text s END []
+    refl refl refl is.1
+whole_shown kind expect k b s frames.PreambleAck text is may = bare_shown kind expect k b text s
+    PREAMBLE_ACK [] refl refl refl is.1
+whole_shown kind expect k b s frames.PreambleEnd text is may = bare_shown kind expect k b text s
+    PREAMBLE_END [] refl refl refl is.1
+whole_shown kind Chunk k b s (frames.Chunk size) text is may = refl
+whole_shown kind (Types types) k b s (frames.Chunk size) text is may = cc
 
 -- the situation behind a record has that text
 kept_text : (x : Settings) (z : Situation) (from : ℕ) (f : Frame) (text : List ℕ)
-    → kept_by f text z.text ≡ (after_record x z from f text).text
+    → kept_by f via_or_fault text z.text ≡ (after_record x z from f text).text
 kept_text x z from frames.Via text = refl
 kept_text x z from frames.Fault text = refl
 kept_text x z from (frames.SizedEnvelope size) text =
@@ -377,7 +411,7 @@ kept_text x z from f text = refl
 
 -- no text begins where none may come
 never_begins : (types : ℕ) → allows types VIA ≡ false → allows types FAULT ≡ false → (b : List ℕ)
-    → begins_text (Types types) b ≡ false
+    → begins_text via_or_fault (Types types) b ≡ false
 never_begins types e f [] = refl
 never_begins types e f (kind ∷ rest) =
     elim (cases_Bool (kind == VIA)) [
@@ -388,17 +422,18 @@ never_begins types e f (kind ∷ rest) =
         | inl t ↦
             let is : kind ≡ FAULT = eqb-true kind FAULT t in
             and_left (allows types kind) ((kind == VIA) || (kind == FAULT)) (rw is f)
-        | inr m ↦ plain_head (Types types) kind rest (rw (n, m) refl)
+        | inr m ↦ plain_head via_or_fault (Types types) kind rest (rw (n, m) refl)
       ]
     ]
 
 none_begins : (types : ℕ) → allows types VIA ≡ false → allows types FAULT ≡ false → (b : List ℕ)
-    → begins_text (Types types) b ≡ true → ⊥
+    → begins_text via_or_fault (Types types) b ≡ true → ⊥
 none_begins types e f b begins = let none = never_begins types e f b in cc
 
 -- an initiator's text begins where its Via is due, a receiver's in place of any record
 begins_where : (direction : Direction) (due : Due) (b : List ℕ)
-    → begins_text (may_come direction due) b ≡ true → wants_text direction (record_due due) ≡ true
+    → begins_text via_or_fault (may_come direction due) b ≡ true
+    → wants_text direction (record_due due) ≡ true
 begins_where FromInitiator dues.Version b e = refl
 begins_where FromInitiator dues.Mode b e = refl
 begins_where FromInitiator dues.Via b e = refl
@@ -415,7 +450,8 @@ pub data ReadsDue (stage : Stage) (due : Due) : Type 0 where
 module _ (x : Settings) (z : Situation) (due : Due) (at : ReadsDue z.stage due)
     (h : IsEarly (direction_of x.side) z) where
   -- where a text begins there was none before
-  none_shown : (b : List ℕ) → begins_text (may_come (direction_of x.side) due) b ≡ true → z.text
+  none_shown : (b : List ℕ) → begins_text via_or_fault (may_come (direction_of x.side) due) b
+      ≡ true → z.text
       ≡ []
   none_shown b begins =
       elim at [
@@ -423,37 +459,56 @@ module _ (x : Settings) (z : Situation) (due : Due) (at : ReadsDue z.stage due)
             (ap (wants_text (direction_of x.side)) is ∙ begins_where (direction_of x.side) due b
             begins)
         | reads_size o is same ↦
-            let bad = subst (λ (n : Due). begins_text (may_come (direction_of x.side) n) b ≡ true)
+            let bad = subst (λ (n : Due). begins_text via_or_fault (may_come
+            (direction_of x.side) n) b ≡ true)
             same begins in cc
       ]
 
   -- of bytes without a whole text the same text is shown
   same_shown : (b : List ℕ) (reading : Front Read FrameFault) → text_read reading ≡ []
-      → text_after z.text (may_come (direction_of x.side) due) b reading ≡ z.text
+      → text_after via_or_fault z.text (may_come (direction_of x.side) due) b reading ≡ z.text
   same_shown b reading nothing =
-      go (begins_text (may_come (direction_of x.side) due) b) refl
+      go (begins_text via_or_fault (may_come (direction_of x.side) due) b) refl
     where
-      go : (t : Bool) → begins_text (may_come (direction_of x.side) due) b ≡ t
+      go : (t : Bool) → begins_text via_or_fault (may_come (direction_of x.side) due) b ≡ t
           → (if t then text_read reading else z.text) ≡ z.text
       go true is = nothing ∙ sym (none_shown b is)
       go false is = refl
 
   -- a record that has begun
   pub begun_text : (b : List ℕ)
-      → text_after z.text (may_come (direction_of x.side) due) b begun ≡ z.text
+      → text_after via_or_fault z.text (may_come (direction_of x.side) due) b begun ≡ z.text
   begun_text b = same_shown b begun refl
 
   -- a wrong record
   pub wrong_text : (b : List ℕ) (fault : FrameFault) (k : ℕ)
-      → text_after z.text (may_come (direction_of x.side) due) b (wrong fault k) ≡ z.text
+      → text_after via_or_fault z.text (may_come (direction_of x.side) due) b (wrong fault k)
+      ≡ z.text
   wrong_text b fault k = same_shown b (wrong fault k) refl
 
 -- a record that is whole
-pub whole_text : (x : Settings) (z : Situation) (limit : ℕ) (expect : Expect) (from : ℕ)
-    (b : List ℕ)
-    (read : Read) (k : ℕ) → frame_at limit expect b ≡ whole read k
-    → text_after z.text expect b (whole read k) ≡ (after_record x z from read.frame read.text).text
-whole_text x z limit expect from b read k e =
-    let r = read_record limit expect b read k e in
-    whole_shown expect k b z.text read.frame read.text r.0 r.1
+pub whole_text : (x : Settings) (z : Situation) (limits : TextLimits) (expect : Expect) (from : ℕ)
+    (b : List ℕ) (read : Read) (k : ℕ) → frame_at limits expect b ≡ whole read k
+    → text_after via_or_fault z.text expect b (whole read k)
+    ≡ (after_record x z from read.frame read.text).text
+whole_text x z limits expect from b read k e =
+    let r = read_record limits expect b read k e in
+    whole_shown via_or_fault expect k b z.text read.frame read.text r.0 r.1
     ∙ kept_text x z from read.frame read.text
+
+-- one with a text shows that
+pub own_text : (limits : TextLimits) (expect : Expect) (kind : TextKind) (s b : List ℕ)
+    (read : Read) (k : ℕ) → kind ≡ text_kind read.frame → has_text read.frame ≡ true
+    → frame_at limits expect b ≡ whole read k
+    → text_after kind s expect b (whole read k) ≡ read.text
+own_text limits expect kind s b read k same has e =
+    let r = read_record limits expect b read k e in
+    whole_shown kind expect k b s read.frame read.text r.0 r.1
+    ∙ ap (λ n. kept_by read.frame n read.text s) same ∙ kept_own read.frame read.text s has
+  where
+    kept_own : (f : Frame) (text s : List ℕ) → has_text f ≡ true
+        → kept_by f (text_kind f) text s ≡ text
+    kept_own frames.Via text s has = refl
+    kept_own frames.Fault text s has = refl
+    kept_own frames.ExtensibleEncoding text s has = refl
+    kept_own f text s has = cc

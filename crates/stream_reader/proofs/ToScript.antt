@@ -6,20 +6,23 @@ use Rattle.std.proofs.lemmas.List.Elements.{All-cons, All-nil}
 use Rattle.nbfx_values.specs.declared.{content.Item.Item, session.Mode.Mode}
 use Rattle.nbfx_values.specs.declared.session.Kind.{Kind, TheVariants.Plain, TheVariants.Session}
 use Rattle.nbfx_values.specs.declared.session.Mode.TheVariants.{Duplex, Simplex, Singleton}
-use Rattle.nbfx_values.specs.Session.{kind_number, mode_number}
+use Rattle.nbfx_values.specs.Session.{content_type, kind_number, mode_number}
 use Rattle.nmf_records.specs.declared.{frame.Frame.Frame, script.Direction.Direction}
 use Rattle.nmf_records.specs.declared.script.Direction.TheVariants.{FromInitiator, FromReceiver}
 use Rattle.{nmf_records.specs.Records.IsRecordOf, nbfx_decoder.specs.Laws.IsWholePayload}
-use Rattle.nmf_records.specs.Script.{AreEnvelopes, IsScript, IsUnsized as IsUnsizedScript}
+use Rattle.nmf_records.specs.RecordFronts.{text_limit}
+use Rattle.nmf_records.specs.Script.{AreEnvelopes, IsEncoding, IsScript}
+use Rattle.nmf_records.specs.Script.{IsUnsized as IsUnsizedScript}
 use Rattle.stream_reader.specs.Scripts.{BeginsWith, Context, first_context, HasScript, IsFollowedBy}
 use Rattle.stream_reader.specs.Scripts.{IsModeOf, IsShort, refused_there}
 use Rattle.stream_reader.specs.Sessions.{answer, AreChunks, broken_off, Carried, CarriesAll}
 use Rattle.stream_reader.specs.Sessions.{CarriesThen, conversation, HasParts, IsAckThen, IsBare}
 use Rattle.stream_reader.specs.Sessions.{IsEnvelopeIn, IsFault, IsSized, IsWithin, joined, lone_ack}
-use Rattle.stream_reader.specs.Sessions.{MayCarry, Parts, turned_down}
+use Rattle.stream_reader.specs.Sessions.{MayCarry, NamesKind, Parts, turned_down}
 use Rattle.stream_reader.specs.Stream.{direction_of, initiators, payloads, reason_in, receivers}
-use Rattle.stream_reader.specs.Stream.{record_due, serves, Settings, Side, too_large}
+use Rattle.stream_reader.specs.Stream.{record_due, serves, Settings, Side, text_limits, too_large}
 use Rattle.stream_reader.proofs.FromScript.{context_of, kind_is}
+use Rattle.stream_reader.proofs.RightRecords.{known_type, type_kind, type_short}
 use Rattle.nmf_records.specs.declared.frame.Frame.TheVariants as frames
 use Rattle.nmf_records.specs.declared.script.Due.TheVariants as dues
 
@@ -29,6 +32,10 @@ known_mode : (x : Settings) (mode : Mode)
 known_mode x Singleton = refl
 known_mode x Duplex = refl
 known_mode x Simplex = refl
+
+known_content_type : (x : Settings) (kind : Kind)
+    → reason_in x (record_due dues.Over) frames.ExtensibleEncoding (content_type kind) ≡ None
+known_content_type x kind = rw (known_type kind) refl
 
 known_encoding : (x : Settings) (kind : Kind)
     → reason_in x (record_due dues.Over) (frames.KnownEncoding (kind_number kind)) [] ≡ None
@@ -44,8 +51,9 @@ module _ (x : Settings) where
   -- a record that nothing stands behind
   in_front : (context then_context : Context) (frame : Frame) (text head rest : List ℕ)
       (Rest : Context → List ℕ → Type 0) → IsRecordOf frame text head
-      → refused_there x context frame text ≡ None → length text ≤ x.limits.via
-      → IsFollowedBy x context frame [] then_context → Rest then_context rest
+      → refused_there x context frame text ≡ None
+      → length text ≤ text_limit (text_limits x) frame
+      → IsFollowedBy x context frame text [] then_context → Rest then_context rest
       → BeginsWith x context frame Rest (head ++ rest)
   in_front context then_context frame text head rest Rest is none low followed next = record {
     text = text;
@@ -60,6 +68,25 @@ module _ (x : Settings) where
     followed = followed;
     next = next;
   }
+
+  -- either record that names the encoding
+  encoding_front : (context : Context) (kind : Kind) (bytes rest : List ℕ)
+      (Rest : Context → List ℕ → Type 0) → NamesKind kind bytes → Rest (context_of kind [] []) rest
+      → (f : Frame) × IsEncoding f × BeginsWith x context f Rest (bytes ++ rest)
+  encoding_front context kind bytes rest Rest (inl is) next = (
+    frames.KnownEncoding (kind_number kind),
+    tt,
+    in_front context (context_of kind [] []) (frames.KnownEncoding (kind_number kind)) [] bytes rest
+        Rest is (known_encoding x kind) (omega arith)
+        (refl, ap (λ k. context_of k [] []) (sym (kind_is kind))) next,
+  )
+  encoding_front context kind bytes rest Rest (inr is) next = (
+    frames.ExtensibleEncoding,
+    tt,
+    in_front context (context_of kind [] []) frames.ExtensibleEncoding (content_type kind) bytes
+        rest Rest is (known_content_type x kind) (type_short kind)
+        (refl, ap (λ k. context_of k [] []) (sym (type_kind kind))) next,
+  )
 
   fits : (size : ℕ) → size ≤ x.limits.payload → too_large x size ≡ None
   fits size le = rw (le-ltb x.limits.payload size le) refl
@@ -259,8 +286,13 @@ module _ (x : Settings) where
       (ends_bare kind end is_end) in
       let first : Context = first_context (initiators endpoint) in
       let so : Context = context_of kind [] [] in
+      let e = encoding_front first kind p.encoding (p.end ++ (envelopes ++ end))
+      (λ then_context rest. HasScript x then_context
+      (frames.PreambleEnd ∷ w.0 ++ frames.End ∷ []) rest) p.is_encoding
+      (in_front so so frames.PreambleEnd [] p.end _ _ p.is_end refl (omega arith) (refl, refl) w.2)
+      in
       let script : List Frame = frames.Version 1 0 ∷ frames.Mode (mode_number mode) ∷ frames.Via
-      ∷ frames.KnownEncoding (kind_number kind) ∷ frames.PreambleEnd ∷ w.0 ++ frames.End ∷ [] in
+      ∷ e.0 ∷ frames.PreambleEnd ∷ w.0 ++ frames.End ∷ [] in
       let parts : p.version
       ++ (p.mode_record ++ (p.via_record ++ (p.encoding ++ (p.end ++ (envelopes ++ end)))))
       ≡ bytes =
@@ -272,26 +304,21 @@ module _ (x : Settings) where
         record {
           major = 1;
           minor = 0;
-          encoding = kind_number kind;
+          encoding = e.0;
+          is_encoding = e.1;
           envelopes = w.0;
           sent = w.1;
           joined = refl;
         },
         subst (λ c. HasScript x (first_context (initiators endpoint)) (frames.Version 1 0
-            ∷ frames.Mode (mode_number mode) ∷ frames.Via ∷ frames.KnownEncoding (kind_number kind)
+            ∷ frames.Mode (mode_number mode) ∷ frames.Via ∷ e.0
             ∷ frames.PreambleEnd ∷ w.0 ++ frames.End ∷ []) c) parts
             (in_front first first (frames.Version 1 0) [] p.version _ _ p.is_version refl
             (omega arith) (refl, refl)
             (in_front first first (frames.Mode (mode_number mode)) [] p.mode_record _ _ p.is_mode
             (known_mode x mode) (omega arith) (refl, refl)
             (in_front first first frames.Via via p.via_record _ _ p.is_via (served_so p.served)
-            p.via_within (refl, refl)
-            (in_front first so (frames.KnownEncoding (kind_number kind)) [] p.encoding _ _
-            p.is_encoding
-            (known_encoding x kind) (omega arith)
-            (refl, ap (λ k. context_of k [] []) (sym (kind_is kind)))
-            (in_front so so frames.PreambleEnd [] p.end _ _ p.is_end refl (omega arith) (refl, refl)
-            w.2))))),
+            p.via_within (refl, refl) e.2))),
         (within, λ e. cc),
       )
     where

@@ -11,7 +11,7 @@ use Rattle.unit_streams.specs.Judging.{ending_at, refusal_at}
 use Rattle.{string_tables.specs.SessionStrings.used_cost, stream_reader.specs.Stream.with_byte}
 use Rattle.nbfx_values.specs.{declared.content.Item.Item, Limits.IsGood}
 use Rattle.nbfx_values.specs.declared.session.{Kind.Kind, Mode.Mode, Mode.TheVariants.Simplex}
-use Rattle.nbfx_values.specs.Session.{kind_number, mode_number}
+use Rattle.nbfx_values.specs.Session.{mode_number}
 use Rattle.nmf_records.specs.declared.script.{Direction.TheVariants.FromReceiver, Due.Due}
 use Rattle.nmf_records.specs.{Records.IsRecordOf, Script.behind_preamble}
 use Rattle.nbfx_decoder.proofs.PayloadAnswers.{finished_where_whole, nothing_is_refused}
@@ -20,6 +20,7 @@ use Rattle.nbfx_decoder.specs.DecoderState.{situation_of}
 use Rattle.nbfx_decoder.specs.Laws.{IsUnrefused, IsWholePayload, MayBegin, ShowsNothing}
 use Rattle.nbfx_decoder.specs.Payload.{NoEvent, PayloadUnit, Refusal, Situation as PayloadSituation}
 use Rattle.stream_reader.specs.Sessions.{AreChunks, Carried, CarriesAll, IsBare, IsFault, joined}
+use Rattle.stream_reader.specs.Sessions.{NamesKind}
 use Rattle.stream_reader.specs.Stream.{behind_payload, chunk_due, chunked, direction_of, due_behind}
 use Rattle.stream_reader.specs.Stream.{Form, is_chunked, last_chunk, OpenPayload, payload_in}
 use Rattle.stream_reader.specs.Stream.{payload_open, payloads, PayloadStanding, record_due}
@@ -110,7 +111,7 @@ module _ (x : Settings) (Stop : Type 0) where
 
   abbrev pub AtEncoding : Mode → List ℕ → Type 0
   AtEncoding mode c = (kind : Kind)
-      × Then (IsBare (frames.KnownEncoding (kind_number kind))) (AtPreambleEnd mode kind []) c
+      × Then (NamesKind kind) (AtPreambleEnd mode kind []) c
 
   abbrev pub AtVia : Mode → List ℕ → Type 0
   AtVia mode c = (via : List ℕ) × (length via ≤ x.limits.via) × (serves x.side via ≡ true)

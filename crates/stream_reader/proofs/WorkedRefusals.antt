@@ -1,7 +1,7 @@
 -- A worked stream for each refusal of a record, and of a stream's length and end, by computation:
 -- its
 -- place, and the byte that shows it.
-use Rattle.std.proofs.Common.{◌≡◌, ℕ, ◌^◌, List, [], ◌∷◌, ◌++◌, length, Some, None, refl}
+use Rattle.std.proofs.Common.{◌≡◌, ℕ, ◌^◌, List, [], ◌∷◌, ◌++◌, length, Some, None, codes, refl}
 use Rattle.{unit_streams.specs.Judging.events, nbfx_values.specs.declared.refusals.Reason.Reason}
 use Rattle.stream_reader.specs.{Judging.offence, Stream.offence_at, Stream.Settings, Stream.stream}
 use Rattle.stream_reader.proofs.OnLiterals.{element, of_session, preamble, set_to}
@@ -66,13 +66,12 @@ types_out_of_order :
 unfolding streams_on_literals
 types_out_of_order = (refl, refl, refl, refl, refl, refl, refl, refl, refl, refl, (refl, refl))
 
--- an encoding that is spelled out, an upgrade, and its answer
+-- an upgrade, and its answer
 types_without_a_record :
-    Refuses usual (with_via ++ 4 ∷ []) 20 reasons.BadEncoding
-    × Refuses usual (with_encoding 8 ++ 9 ∷ []) 22 reasons.UpgradeRefused
+    Refuses usual (with_encoding 8 ++ 9 ∷ []) 22 reasons.UpgradeRefused
     × Refuses usual (with_encoding 8 ++ 10 ∷ []) 22 reasons.OutOfOrder
 unfolding streams_on_literals
-types_without_a_record = (refl, refl, refl)
+types_without_a_record = (refl, refl)
 
 -- a version other than 1.0, at the byte that makes it whole
 other_versions :
@@ -101,6 +100,24 @@ other_encodings :
     × Refuses usual (with_encoding 8) 22 reasons.Truncated
 unfolding streams_on_literals
 other_encodings = (refl, refl, refl, refl, refl)
+
+-- a content type of another encoding, one above 256 bytes at its length, whatever the quota on
+-- Vias, one that isn't UTF-8, and one where none is due
+other_types :
+    Refuses usual (with_via ++ 4 ∷ []) 20 reasons.Truncated
+    × Refuses usual (with_via ++ 4 ∷ 28 ∷ codes "application/soap+msbin1+gzip") 20
+    reasons.BadEncoding
+    × Refuses usual (with_via ++ 4 ∷ 0 ∷ []) 20 reasons.BadEncoding
+    × Refuses usual (with_via ++ 4 ∷ 23 ∷ codes "application/soap+msbin1") 45 reasons.Truncated
+    × Refuses of_short_via (with_via ++ 4 ∷ 30 ∷ codes "application/soap+msbinsession1") 52
+    reasons.Truncated
+    × Refuses usual (with_via ++ 4 ∷ 129 ∷ 2 ∷ []) 20 reasons.ContentTypeTooLong
+    × Refuses usual (with_via ++ 4 ∷ 128 ∷ 2 ∷ []) 20 reasons.Truncated
+    × Refuses usual (with_via ++ 4 ∷ 1 ∷ 255 ∷ []) 20 reasons.TextNotUtf8
+    × Refuses usual (with_mode ++ 4 ∷ []) 5 reasons.OutOfOrder
+    × Refuses usual (with_encoding 8 ++ 4 ∷ []) 22 reasons.OutOfOrder
+unfolding streams_on_literals
+other_types = (refl, refl, refl, refl, refl, refl, refl, refl, refl, refl)
 
 -- a Via above its quota, at its length
 long_vias :

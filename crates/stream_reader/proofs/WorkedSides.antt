@@ -186,7 +186,9 @@ refusals : AllTell ((
     (any, with_mode 2 ++ 2 ∷ 129 ∷ 16 ∷ [], [], Some (offence_at 5 reasons.TextTooLong)) ∷
     (any, with_mode 2 ++ 2 ∷ 1 ∷ 255 ∷ [], [], Some (offence_at 5 reasons.TextNotUtf8)) ∷
     (only (codes "net.tcp://h/x"), with_via 2, [], Some (offence_at 5 reasons.EndpointNotFound)) ∷
-    (any, with_via 2 ++ 4 ∷ [], [], Some (offence_at 20 reasons.BadEncoding)) ∷
+    (any, with_via 2 ++ 4 ∷ 2 ∷ 104 ∷ 105 ∷ [], [], Some (offence_at 20 reasons.BadEncoding)) ∷
+    (any, with_via 2 ++ 4 ∷ 129 ∷ 2 ∷ [], [], Some (offence_at 20 reasons.ContentTypeTooLong)) ∷
+    (any, with_via 2 ++ 4 ∷ 1 ∷ 255 ∷ [], [], Some (offence_at 20 reasons.TextNotUtf8)) ∷
     (any, with_encoding 2 9, [], Some (offence_at 20 reasons.BadEncoding)) ∷
     (any, with_encoding 2 8 ++ 9 ∷ [], [], Some (offence_at 22 reasons.UpgradeRefused)) ∷ (
       any,

@@ -10,7 +10,8 @@ use Rattle.nbfx_values.specs.Measures.{content_of, depth_of}
 use Rattle.{nbfx_decoder.specs.Payload.refusal, stream_reader.specs.Judging.offence}
 use Rattle.stream_reader.specs.Stream.{accepted, ended, Envelope, message, offence_at, offence_in}
 use Rattle.stream_reader.specs.Stream.{opened, peer_fault, stream, StreamEvent}
-use Rattle.stream_reader.proofs.OnLiterals.{plain_preamble, preamble, streams_on_literals, usual}
+use Rattle.stream_reader.proofs.OnLiterals.{plain_preamble, preamble, spelled_preamble}
+use Rattle.stream_reader.proofs.OnLiterals.{streams_on_literals, usual}
 use Rattle.nbfx_values.specs.declared.refusals.Reason.TheVariants as reasons
 
 -- what is shown of an event: of a message its number, the size of its payload, items, nesting,
@@ -47,7 +48,8 @@ in_payload number at reason = offence_in number (refusal at reason)
 sessions : AllTell (
     ([], [], Some (offence_at 0 reasons.Truncated)) ∷
     (preamble ++ 7 ∷ [], preamble_whole ∷ session_whole 24 ∷ [], None) ∷
-    (plain_preamble ++ 7 ∷ [], preamble_whole ∷ session_whole 24 ∷ [], None) ∷ (
+    (plain_preamble ++ 7 ∷ [], preamble_whole ∷ session_whole 24 ∷ [], None) ∷
+    (spelled_preamble ++ 7 ∷ [], preamble_whole ∷ session_whole 54 ∷ [], None) ∷ (
       plain_preamble ++ 6 ∷ 7 ∷ 64 ∷ 1 ∷ 120 ∷ 153 ∷ 2 ∷ 104 ∷ 105 ∷ 7 ∷ [],
       preamble_whole ∷ envelope_whole 0 7 3 1 3 [] ∷ session_whole 33 ∷ [],
       None,

@@ -14,7 +14,8 @@ use Rattle.stream_reader.specs.Stream.{Situation, stream, strings_in}
 use Rattle.stream_reader.specs.StreamReaderState.{begun_in, content_held_of, FailedBehind, FailsBy}
 use Rattle.stream_reader.specs.StreamReaderState.{failure_of, HasPayloads, held_of, items_in}
 use Rattle.stream_reader.specs.StreamReaderState.{settings_of, ShowsStrings, ShowsText, StandsFor}
-use Rattle.stream_reader.specs.StreamReaderState.{taken_of, WhereItFailed, WhereItStands}
+use Rattle.stream_reader.specs.StreamReaderState.{taken_of, texts_within, WhereItFailed}
+use Rattle.stream_reader.specs.StreamReaderState.{WhereItStands}
 use Rattle.stream_reader.specs.declared.reader.ReadRefusal.TheVariants as refusals
 
 -- the situation behind the bytes p
@@ -91,7 +92,7 @@ pub record HasStrings (r : StreamReader) (strings : List (List ℕ)) : Type 0 wh
 -- what is held is within the quotas
 abbrev pub IsHeldWithin : StreamReader → Kept → Type 0
 IsHeldWithin r kept =
-    (kept.raw ≤ (settings_of r).limits.payload + (settings_of r).limits.via)
+    (kept.raw ≤ (settings_of r).limits.payload + texts_within (settings_of r).limits)
     × (kept.content ≤ (settings_of r).limits.content)
 
 -- what it holds of the input
@@ -99,7 +100,7 @@ pub record Holds (r : StreamReader) (kept : Kept) : Type 0 where
   pub held : kept.raw ≡ held_of r
   pub content_held : kept.content ≡ content_held_of r
   pub raw : WhereItStands r (λ p. kept.raw
-      ≤ length (begun_in (situation_at r p).stage) + (settings_of r).limits.via)
+      ≤ length (begun_in (situation_at r p).stage) + texts_within (settings_of r).limits)
   pub content : WhereItStands r (λ p. kept.content
       ≡ content_of (items_in (situation_at r p).stage))
   pub within : WhereItStands r (λ p. IsHeldWithin r kept)

@@ -8,19 +8,23 @@ use Rattle.multibyte_ints.specs.{Integer.Spells, Laws.FifthIsAbove}
 use Rattle.nbfx_values.specs.declared.refusals.Reason.{Reason}
 use Rattle.nbfx_values.specs.declared.session.Kind.{Kind, TheVariants.Plain, TheVariants.Session}
 use Rattle.nbfx_values.specs.declared.session.Mode.TheVariants.{Duplex, Simplex, Singleton}
-use Rattle.nbfx_values.specs.Session.{kind_number, mode_number}
-use Rattle.nmf_records.specs.declared.frame.Frame.TheVariants.{Chunk, SizedEnvelope}
+use Rattle.nbfx_values.specs.Session.{content_type, kind_number, mode_number}
+use Rattle.nmf_records.specs.declared.frame.Frame.TheVariants.{Chunk, ExtensibleEncoding}
+use Rattle.nmf_records.specs.declared.frame.Frame.TheVariants.{SizedEnvelope}
 use Rattle.nmf_records.specs.declared.frame.Frame.TheVariants.{UnsizedEnvelope, Via}
 use Rattle.nmf_records.specs.declared.record_types.TheConstants.{KNOWN_ENCODING, MODE, PREAMBLE_ACK}
 use Rattle.nmf_records.specs.declared.record_types.TheConstants.{SIZED_ENVELOPE, VERSION}
 use Rattle.nmf_records.specs.{declared.script.Due.Due, Records.IsRecordOf, Script.may_come}
 use Rattle.nmf_records.specs.Laws.{BeginsUnexpected, BeginsUnknown, HasBadText, HasLongText}
-use Rattle.nmf_records.specs.{Laws.IntegerComes, RecordFronts.MayCome}
+use Rattle.nmf_records.specs.{Laws.IntegerComes, declared.reader.TheConstants.CONTENT_TYPE_LIMIT}
+use Rattle.nmf_records.specs.RecordFronts.{content_type as content_type_text}
+use Rattle.nmf_records.specs.RecordFronts.{MayCome, via_or_fault}
 use Rattle.nbfx_decoder.specs.{Laws.ShowsNothing, Payload.Settings as PayloadSettings}
 use Rattle.nbfx_decoder.specs.Reasons.{IsCutAt, ShowsFrom as ShowsAt}
 use Rattle.stream_reader.specs.{Sessions.IsBare, Sessions.joined, Stream.stream, Stream.unexpected}
 use Rattle.stream_reader.specs.Stream.{chunk_due, direction_of, initiators, open_from, payload_open}
 use Rattle.stream_reader.specs.Stream.{payloads, receivers, record_due, Settings, Situation, Stage}
+use Rattle.stream_reader.specs.Stream.{text_limits}
 use Rattle.nbfx_values.specs.declared.refusals.Reason.TheVariants as reasons
 use Rattle.nmf_records.specs.declared.script.Due.TheVariants as dues
 
@@ -55,6 +59,13 @@ IsOtherEncoding due bytes =
     (encoding : ℕ) × (due ≡ dues.Encoding) × (bytes ≡ KNOWN_ENCODING ∷ encoding ∷ [])
     × (encoding ≢ kind_number Plain) × (encoding ≢ kind_number Session)
 
+-- a content type other than those of the binary encodings
+abbrev pub IsOtherType : Due → List ℕ → Type 0
+IsOtherType due bytes =
+    (type : List ℕ) × (due ≡ dues.Encoding) × IsRecordOf ExtensibleEncoding type bytes
+    × (length type ≤ CONTENT_TYPE_LIMIT)
+    × (type ≢ content_type Plain) × (type ≢ content_type Session)
+
 -- the head of an envelope with a payload above the quota
 abbrev pub IsLargeHead : Settings → Due → List ℕ → Type 0
 IsLargeHead x due bytes =
@@ -77,16 +88,20 @@ Shows x due before bytes reasons.OutOfOrder = BeginsOtherwise x due bytes reason
 Shows x due before bytes reasons.BadVersion = IsOtherVersion due bytes
 Shows x due before bytes reasons.BadMode = IsOtherMode due bytes
 Shows x due before bytes reasons.TextTooLong =
-    (n : ℕ) × HasLongText x.limits.via (may_come (direction_of x.side) due) bytes n
+    (n : ℕ) × HasLongText via_or_fault (text_limits x)
+    (may_come (direction_of x.side) due) bytes n
 Shows x due before bytes reasons.TextNotUtf8 =
-    (n : ℕ) × HasBadText x.limits.via (may_come (direction_of x.side) due) bytes n
+    (n : ℕ) × HasBadText (text_limits x) (may_come (direction_of x.side) due) bytes n
 Shows x due before bytes reasons.EndpointNotFound = IsOtherVia x due bytes
 Shows x due before bytes reasons.BadEncoding =
-    IsOtherEncoding due bytes ⊎ BeginsOtherwise x due bytes reasons.BadEncoding
+    IsOtherEncoding due bytes ⊎ IsOtherType due bytes
 Shows x due before bytes reasons.UpgradeRefused =
     BeginsOtherwise x due bytes reasons.UpgradeRefused
 Shows x due before bytes reasons.MessageTooLarge =
     IsLargeHead x due bytes ⊎ IsLargeChunk x due before bytes
+Shows x due before bytes reasons.ContentTypeTooLong =
+    (n : ℕ) × HasLongText content_type_text (text_limits x)
+    (may_come (direction_of x.side) due) bytes n
 Shows x due before bytes _ = ⊥
 
 -- bytes that show the reason at this stage, where a record or a chunk's size is read

@@ -5,11 +5,14 @@ use Rattle.std.specs.Prelude.{None, Option, ⊤}
 use Rattle.nbfx_values.specs.declared.{content.Item.Item, refusals.Reason.Reason}
 use Rattle.nbfx_values.specs.declared.session.{Kind.Kind, Mode.Mode}
 use Rattle.nmf_records.specs.{declared.frame.Frame.Frame, Records.IsRecordOf, Script.IsScript}
-use Rattle.nmf_records.specs.declared.frame.Frame.TheVariants.{Chunk, KnownEncoding, PreambleAck}
+use Rattle.nmf_records.specs.RecordFronts.{text_limit}
+use Rattle.nmf_records.specs.declared.frame.Frame.TheVariants.{Chunk, ExtensibleEncoding}
+use Rattle.nmf_records.specs.declared.frame.Frame.TheVariants.{KnownEncoding, PreambleAck}
 use Rattle.nmf_records.specs.declared.frame.Frame.TheVariants.{SizedEnvelope, UnsizedEnvelope}
 use Rattle.nbfx_decoder.specs.Laws.{IsWholePayload}
 use Rattle.stream_reader.specs.Sessions.{IsSession, Parts}
-use Rattle.stream_reader.specs.Stream.{direction_of, first_kind, initiators, kind_of, payloads}
+use Rattle.stream_reader.specs.Stream.{direction_of, first_kind, initiators, kind_of, kind_of_type}
+use Rattle.stream_reader.specs.Stream.{payloads, text_limits}
 use Rattle.stream_reader.specs.Stream.{reason_in, receivers, record_due, Settings, Side, too_large}
 use Rattle.nmf_records.specs.declared.script.Due.TheVariants as dues
 
@@ -31,20 +34,22 @@ EndsPayload x context payload then_context =
     × IsWholePayload (payloads x context.kind) context.strings own items payload
     × (then_context ≡ record context { strings = context.strings ++ own; so_far = [] })
 
--- the bytes that stand behind a record before the next, and the context then
-abbrev pub IsFollowedBy : Settings → Context → Frame → List ℕ → Context → Type 0
-IsFollowedBy x context (SizedEnvelope size) bytes then_context =
+-- the bytes that stand behind a record of this text before the next, and the context then
+abbrev pub IsFollowedBy : Settings → Context → Frame → List ℕ → List ℕ → Context → Type 0
+IsFollowedBy x context (SizedEnvelope size) text bytes then_context =
     (length bytes ≡ size) × EndsPayload x context bytes then_context
-IsFollowedBy x context UnsizedEnvelope bytes then_context =
+IsFollowedBy x context UnsizedEnvelope text bytes then_context =
     (bytes ≡ []) × (then_context ≡ record context { so_far = [] })
-IsFollowedBy x context (Chunk zero) bytes then_context =
+IsFollowedBy x context (Chunk zero) text bytes then_context =
     (bytes ≡ []) × EndsPayload x context context.so_far then_context
-IsFollowedBy x context (Chunk (suc size)) bytes then_context =
+IsFollowedBy x context (Chunk (suc size)) text bytes then_context =
     (length bytes ≡ suc size)
     × (then_context ≡ record context { so_far = context.so_far ++ bytes })
-IsFollowedBy x context (KnownEncoding encoding) bytes then_context =
+IsFollowedBy x context (KnownEncoding encoding) text bytes then_context =
     (bytes ≡ []) × (then_context ≡ record { kind = kind_of encoding; strings = []; so_far = [] })
-IsFollowedBy x context frame bytes then_context = (bytes ≡ []) × (then_context ≡ context)
+IsFollowedBy x context ExtensibleEncoding text bytes then_context =
+    (bytes ≡ []) × (then_context ≡ record { kind = kind_of_type text; strings = []; so_far = [] })
+IsFollowedBy x context frame text bytes then_context = (bytes ≡ []) × (then_context ≡ context)
 
 -- why what a record says is refused there
 abbrev pub refused_there : Settings → Context → Frame → List ℕ → Option Reason
@@ -63,8 +68,8 @@ pub record BeginsWith (x : Settings) (context : Context) (frame : Frame)
   pub joined : bytes ≡ head ++ payload ++ rest
   pub is_record : IsRecordOf frame text head
   pub unrefused : refused_there x context frame text ≡ None
-  pub text_within : length text ≤ x.limits.via
-  pub followed : IsFollowedBy x context frame payload then_context
+  pub text_within : length text ≤ text_limit (text_limits x) frame
+  pub followed : IsFollowedBy x context frame text payload then_context
   pub next : Rest then_context rest
 
 -- the bytes are these records, one behind the other, each with what stands behind it

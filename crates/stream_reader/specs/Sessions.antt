@@ -1,12 +1,14 @@
 -- The sessions of MC-NMF in each direction and mode, as a grammar: an initiator's preamble or a
 -- receiver's Ack, envelopes whose payloads are documents, each under the strings that the ones
 -- before left, and what closes the session; and the events that these parts are.
-use Rattle.std.specs.Prelude.{◌≡◌, ℕ, ◌+◌, ◌<◌, ◌≤◌, true, ◌↔◌, List, [], ◌∷◌, ◌++◌, length, None}
+use Rattle.std.specs.Prelude.{◌≡◌, ℕ, ◌+◌, ◌<◌, ◌≤◌, true, ◌⊎◌, ◌↔◌, List, [], ◌∷◌, ◌++◌, length}
+use Rattle.std.specs.Prelude.{None}
 use Rattle.{std.specs.Prelude.⊤, nmf_records.specs.Records.IsRecordOf}
 use Rattle.unit_streams.specs.Judging.{history, offence as offence_by}
 use Rattle.nbfx_values.specs.declared.{content.Item.Item, session.Kind.Kind, session.Mode.Mode}
 use Rattle.nbfx_values.specs.declared.session.Mode.TheVariants.{Simplex, Singleton}
-use Rattle.nbfx_values.specs.{Limits.IsGood, Session.kind_number, Session.mode_number}
+use Rattle.nbfx_values.specs.Limits.{IsGood}
+use Rattle.nbfx_values.specs.Session.{content_type, kind_number, mode_number}
 use Rattle.nmf_records.specs.declared.{frame.Frame.Frame, script.Direction.Direction}
 use Rattle.nmf_records.specs.declared.script.Direction.TheVariants.{FromInitiator, FromReceiver}
 use Rattle.nbfx_decoder.specs.Laws.{IsWholePayload}
@@ -19,7 +21,12 @@ use Rattle.nmf_records.specs.declared.frame.Frame.TheVariants as frames
 abbrev pub IsBare : Frame → List ℕ → Type 0
 IsBare frame bytes = IsRecordOf frame [] bytes
 
--- Version 1.0, a mode, a Via that is served, a known encoding, and the preamble's end
+-- an encoding's record: by its number, or by its content type
+abbrev pub NamesKind : Kind → List ℕ → Type 0
+NamesKind kind bytes = IsBare (frames.KnownEncoding (kind_number kind)) bytes
+    ⊎ IsRecordOf frames.ExtensibleEncoding (content_type kind) bytes
+
+-- Version 1.0, a mode, a Via that is served, an encoding, and the preamble's end
 pub record IsPreamble (x : Settings) (mode : Mode) (kind : Kind) (via bytes : List ℕ)
     : Type 0 where
   pub version : List ℕ
@@ -33,7 +40,7 @@ pub record IsPreamble (x : Settings) (mode : Mode) (kind : Kind) (via bytes : Li
   pub is_via : IsRecordOf frames.Via via via_record
   pub via_within : length via ≤ x.limits.via
   pub served : serves x.side via ≡ true
-  pub is_encoding : IsBare (frames.KnownEncoding (kind_number kind)) encoding
+  pub is_encoding : NamesKind kind encoding
   pub is_end : IsBare frames.PreambleEnd end
 
 -- chunks that carry these bytes, of which none is empty, and the size 0 that ends them

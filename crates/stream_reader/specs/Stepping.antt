@@ -4,11 +4,13 @@ use Rattle.std.specs.Prelude.{length, take, if◌then◌else◌, ◌==◌, Some,
 use Rattle.{std.specs.Prelude.Result, nbfx_values.specs.QuotasOf.limits_of}
 use Rattle.unit_streams.specs.{Going.IsQuiet, Going.IsQuietBefore, Grammar.standing}
 use Rattle.unit_streams.specs.Judging.{event_at, refusal_at}
-use Rattle.nbfx_values.specs.declared.{refusals.Offence.Offence, session.Mode.Mode}
-use Rattle.nmf_records.specs.{declared.frame.Frame.Frame, RecordFronts.MayCome}
+use Rattle.nbfx_values.specs.declared.refusals.Offence.{Offence}
+use Rattle.nbfx_values.specs.declared.session.{Kind.Kind, Mode.Mode}
+use Rattle.nmf_records.specs.{declared.frame.Frame.Frame, Writing.has_text}
+use Rattle.nmf_records.specs.RecordFronts.{content_type, MayCome, text_kind}
 use Rattle.nmf_records.specs.declared.script.{Direction.Direction, Due.Due}
 use Rattle.nmf_records.specs.Reader.{ShowsText as FramesShowText}
-use Rattle.nmf_records.specs.Script.{leads, may_come, may_end}
+use Rattle.nmf_records.specs.Script.{IsEncoding, leads, may_come, may_end}
 use Rattle.nbfx_decoder.specs.{declared.faults.DecodeFault.DecodeFault, Payload.refusal}
 use Rattle.nbfx_decoder.specs.DecoderState.{settings_of as decoder_settings}
 use Rattle.nbfx_decoder.specs.DecoderState.{StandsFor as DecoderStandsFor}
@@ -19,7 +21,8 @@ use Rattle.stream_reader.specs.declared.reader.ReadRefusal.TheVariants.{Memory, 
 use Rattle.stream_reader.specs.{declared.reader.StreamReader.StreamReader, Sides.side_of}
 use Rattle.stream_reader.specs.Saying.{step_for}
 use Rattle.stream_reader.specs.Stream.{after_record, completed_record, direction_of, due_behind}
-use Rattle.stream_reader.specs.Stream.{is_chunked, is_over_in, kind_of, mode_of, offence_in}
+use Rattle.stream_reader.specs.Stream.{is_chunked, is_over_in, kind_of, kind_of_type}
+use Rattle.stream_reader.specs.Stream.{mode_of, offence_in}
 use Rattle.stream_reader.specs.Stream.{OpenPayload, payloads, refused_record, Settings, Situation}
 use Rattle.stream_reader.specs.Stream.{stream, StreamEvent, strings_in}
 use Rattle.stream_reader.specs.StreamReaderState.{DecideNothing, Failed, form_of, HasPart}
@@ -111,14 +114,19 @@ bare_step r frames.Fault = steps.PeerFault r.taken
 bare_step r frame = steps.More
 
 -- an encoding makes the decoder of payloads anew
-abbrev pub DecodesAfter : StreamReader → Frame → StreamReader → Type 0
-DecodesAfter old (frames.KnownEncoding encoding) new = (new.kind ≡ kind_of encoding)
-    × DecoderStandsFor new.decoder [] []
+abbrev pub DecodesAnew : StreamReader → Kind → StreamReader → Type 0
+DecodesAnew old kind new = (new.kind ≡ kind) × DecoderStandsFor new.decoder [] []
     × (decoder_settings new.decoder ≡ record {
       statics = old.statics.now;
-      kind = kind_of encoding;
+      kind = kind;
       limits = limits_of old.quotas;
     })
+
+abbrev pub DecodesAfter : StreamReader → Frame → StreamReader → Type 0
+DecodesAfter old (frames.KnownEncoding encoding) new = DecodesAnew old (kind_of encoding) new
+DecodesAfter old frames.ExtensibleEncoding new =
+    (type : List ℕ) → FramesShowText content_type old.frames type
+    → DecodesAnew old (kind_of_type type) new
 DecodesAfter old frame new = (new.kind ≡ old.kind) × (new.decoder ≡ old.decoder)
 
 -- another record is due where one was
@@ -224,8 +232,8 @@ pub record IsDue (r : StreamReader) (x : Settings) (z : Situation) (frame : Fram
   pub due_is : due_of r.awaited ≡ Some due
   pub may : MayCome (may_come (direction_of x.side) due) frame
   pub few : z.messages + 1 < 2 ^ 64
-  pub no_strings : (encoding : ℕ) → frame ≡ frames.KnownEncoding encoding → z.strings ≡ []
-  pub shown : frame ≡ frames.Via → FramesShowText r.frames text
+  pub no_strings : IsEncoding frame → z.strings ≡ []
+  pub shown : has_text frame ≡ true → FramesShowText (text_kind frame) r.frames text
 
 -- what it shows of a situation in which it has failed
 pub record IsRefusedIn (r : StreamReader) (x : Settings) (z : Situation) : Type 0 where

@@ -7,19 +7,21 @@ use Rattle.std.specs.{Prelude.bytes_eq, Option.option_or}
 use Rattle.unit_streams.specs.{Front.begun, Front.Front, Judging.refusal_of}
 use Rattle.unit_streams.specs.Grammar.{at_start, Grammar, resumed, Standing}
 use Rattle.unit_streams.specs.Parts.{a_byte, seen}
-use Rattle.{string_tables.specs.StaticStrings.Entry, nmf_records.specs.RecordFronts.frame_at}
+use Rattle.string_tables.specs.StaticStrings.{Entry}
+use Rattle.nmf_records.specs.RecordFronts.{frame_at, limits_within, TextLimits}
 use Rattle.nbfx_values.specs.declared.{content.Item.Item, session.Mode.Mode}
 use Rattle.nbfx_values.specs.declared.refusals.{Offence.Offence, Reason.Reason}
 use Rattle.nbfx_values.specs.declared.session.Kind.{Kind, TheVariants.Plain, TheVariants.Session}
 use Rattle.nbfx_values.specs.declared.session.Mode.TheVariants.{Duplex, Simplex, Singleton}
-use Rattle.nbfx_values.specs.{Limits.Limits, Session.kind_number, Session.mode_number}
+use Rattle.nbfx_values.specs.Limits.{Limits}
+use Rattle.nbfx_values.specs.Session.{content_type, kind_number, mode_number}
 use Rattle.nmf_records.specs.declared.frame.{Frame.Frame, FrameFault.FrameFault}
-use Rattle.nmf_records.specs.declared.frame.Frame.TheVariants.{Chunk, End, Fault, KnownEncoding}
+use Rattle.nmf_records.specs.declared.frame.Frame.TheVariants.{Chunk, End, ExtensibleEncoding}
+use Rattle.nmf_records.specs.declared.frame.Frame.TheVariants.{Fault, KnownEncoding}
 use Rattle.nmf_records.specs.declared.frame.Frame.TheVariants.{Mode as ModeRecord, PreambleAck}
 use Rattle.nmf_records.specs.declared.frame.Frame.TheVariants.{PreambleEnd, SizedEnvelope}
 use Rattle.nmf_records.specs.declared.frame.Frame.TheVariants.{UnsizedEnvelope, Version, Via}
-use Rattle.nmf_records.specs.{declared.record_types.TheConstants.EXTENSIBLE_ENCODING, Records.Read}
-use Rattle.nmf_records.specs.declared.record_types.TheConstants.{UPGRADE_REQUEST}
+use Rattle.nmf_records.specs.{declared.record_types.TheConstants.UPGRADE_REQUEST, Records.Read}
 use Rattle.nmf_records.specs.declared.script.{Direction.Direction, Due.Due}
 use Rattle.nmf_records.specs.declared.script.Direction.TheVariants.{FromInitiator, FromReceiver}
 use Rattle.nmf_records.specs.Script.{first, leads, may_come, may_end}
@@ -47,6 +49,10 @@ pub record Settings : Type 0 where
   -- the strings that both ends have
   pub statics : List Entry
   pub limits : Limits
+
+-- how long its records' texts may be
+abbrev pub text_limits : Settings → TextLimits
+text_limits x = limits_within x.limits.via
 
 -- an initiator's stream, to any Via
 abbrev pub any_initiators : List Entry → Limits → Settings
@@ -99,7 +105,7 @@ pub record Situation : Type 0 where
   pub stage : Stage
   -- of an initiator's Mode record, duplex until there is one; a receiver's is the settings'
   pub mode : Mode
-  -- of an initiator's Known Encoding record, a session's until there is one
+  -- of an initiator's Known Encoding or Extensible Encoding record, a session's until there is one
   pub kind : Kind
   -- of the last Via or Fault; empty until there is one
   pub text : List ℕ
@@ -155,8 +161,6 @@ pub data StreamEvent : Type 0 where
 
 -- why a type byte may not come
 abbrev pub unexpected : Due → ℕ → Reason
-unexpected dues.Encoding byte =
-    if byte == EXTENSIBLE_ENCODING then reasons.BadEncoding else reasons.OutOfOrder
 unexpected dues.PreambleEnd byte =
     if byte == UPGRADE_REQUEST then reasons.UpgradeRefused else reasons.OutOfOrder
 unexpected _ byte = reasons.OutOfOrder
@@ -166,6 +170,7 @@ reason_of due faults.UnknownRecord = reasons.UnknownRecord
 reason_of due (faults.Unexpected byte) = unexpected due byte
 reason_of due faults.BadInt = reasons.BadInt
 reason_of due faults.TextTooLong = reasons.TextTooLong
+reason_of due faults.TypeTooLong = reasons.ContentTypeTooLong
 reason_of due faults.TextNotUtf8 = reasons.TextNotUtf8
 
 -- the modes that there are, and the one that a byte names
@@ -184,6 +189,13 @@ is_binary encoding = (encoding == kind_number Plain) || (encoding == kind_number
 -- what payloads are under it
 abbrev pub kind_of : ℕ → Kind
 kind_of encoding = if encoding == kind_number Plain then Plain else Session
+
+-- a content type is that of one of these, and what payloads are under it
+abbrev pub is_binary_type : List ℕ → Bool
+is_binary_type type = bytes_eq (content_type Plain) type || bytes_eq (content_type Session) type
+
+abbrev pub kind_of_type : List ℕ → Kind
+kind_of_type type = if bytes_eq (content_type Plain) type then Plain else Session
 
 -- the Via is served
 abbrev pub serves : Side → List ℕ → Bool
@@ -208,6 +220,8 @@ reason_in x stage Via text =
     if serves x.side text then None else Some reasons.EndpointNotFound
 reason_in x stage (KnownEncoding encoding) text =
     if is_binary encoding then None else Some reasons.BadEncoding
+reason_in x stage ExtensibleEncoding text =
+    if is_binary_type text then None else Some reasons.BadEncoding
 reason_in x stage (SizedEnvelope size) text = too_large x size
 reason_in x stage (Chunk size) text = too_large x (size_before stage + size)
 reason_in x stage read text = None
@@ -233,7 +247,7 @@ abbrev pub due_record_at : Settings → Due → ℕ → List ℕ → Front Strea
 due_record_at x dues.Over from bytes = begun
 due_record_at x due from bytes =
     seen frame (λ fault. offence_at from (reason_of due fault))
-    (frame_at x.limits.via (may_come (direction_of x.side) due) bytes)
+    (frame_at (text_limits x) (may_come (direction_of x.side) due) bytes)
 
 abbrev pub payload_at : List ℕ → Front StreamUnit Offence
 payload_at bytes = seen payload_byte (λ o. o) (a_byte bytes)
@@ -359,6 +373,11 @@ after_bare x z (ModeRecord byte) text = record z {
 after_bare x z (KnownEncoding encoding) text = record z {
   stage = record_due (led x z.mode z.stage (KnownEncoding encoding));
   kind = kind_of encoding;
+  strings = [];
+}
+after_bare x z ExtensibleEncoding text = record z {
+  stage = record_due (led x z.mode z.stage ExtensibleEncoding);
+  kind = kind_of_type text;
   strings = [];
 }
 after_bare x z read text = record z { stage = record_due (led x z.mode z.stage read) }

@@ -6,11 +6,13 @@ use Rattle.unit_streams.specs.{Going.IsGoing, Going.IsQuiet, Grammar.standing}
 use Rattle.unit_streams.specs.Judging.{Answer, event_at, is_over_at, refusal_at, used}
 use Rattle.string_tables.specs.SessionStrings.{used_cost}
 use Rattle.nbfx_values.specs.declared.{content.Item.Item, refusals.Offence.Offence}
-use Rattle.nbfx_values.specs.{Limits.IsGood, QuotasOf.limits_of}
+use Rattle.nbfx_values.specs.{Limits.IsGood, Limits.Limits, QuotasOf.limits_of}
 use Rattle.nmf_records.specs.declared.{frame.Expect.Expect, reader.FrameReader.FrameReader}
 use Rattle.nmf_records.specs.{declared.script.Direction.Direction, Script.may_come}
 use Rattle.nmf_records.specs.Reader.{held_of as frames_held_of, ShowsText as FramesShowText}
 use Rattle.nmf_records.specs.Reader.{StandsFor as FrameStandsFor}
+use Rattle.nmf_records.specs.{declared.reader.TheConstants.CONTENT_TYPE_LIMIT}
+use Rattle.nmf_records.specs.RecordFronts.{content_type, via_or_fault}
 use Rattle.nbfx_decoder.specs.declared.{decoder.Decoder.Decoder, faults.DecodeFault.DecodeFault}
 use Rattle.nbfx_decoder.specs.DecoderState.{content_held_of as decoder_content_held_of}
 use Rattle.nbfx_decoder.specs.DecoderState.{FailedBehind as DecoderFailedBehind}
@@ -62,7 +64,15 @@ content_held_of r = decoder_content_held_of r.decoder
 
 -- the text that it shows
 unfoldable pub ShowsText : StreamReader → List ℕ → Type 0
-ShowsText r text = FramesShowText r.frames text
+ShowsText r text = FramesShowText via_or_fault r.frames text
+
+-- the bytes that texts may have: a Via or a Fault, and a content type
+abbrev pub texts_within : Limits → ℕ
+texts_within limits = limits.via + CONTENT_TYPE_LIMIT
+
+-- the reader of records shows some content type, that of the last Extensible Encoding
+abbrev pub ShowsType : FrameReader → Type 0
+ShowsType frames = (type : List ℕ) × FramesShowText content_type frames type
 
 -- how a payload goes on
 abbrev pub form_of : FormRead → Form
@@ -126,7 +136,8 @@ pub record IsIn (r : StreamReader) (x : Settings) (z : Situation) : Type 0 where
 pub record Reached (r : StreamReader) (x : Settings) (p : List ℕ) : Type 0 where
   pub at : IsIn r x (standing (stream x) p).situation
   pub frames : HasBegun (direction_of x.side) r.awaited r.frames (standing (stream x) p).begun
-  pub text : FramesShowText r.frames (standing (stream x) p).situation.text
+  pub text : FramesShowText via_or_fault r.frames (standing (stream x) p).situation.text
+  pub type : ShowsType r.frames
   pub closing : is_over_at (stream x) p ≡ true → Recalls r.closing (event_at (stream x) p)
   pub unit_from : r.unit_from ≡ (standing (stream x) p).from
   pub taken : r.taken ≡ length p

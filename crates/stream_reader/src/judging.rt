@@ -1,12 +1,12 @@
 //! Why a record is refused: by where it comes in the stream of either side, or by what it says.
 
 ghost use Rattle.std.specs.Prelude.{◌≡◌, ◌==◌, ◌||◌, Some, None, if◌then◌else◌};
-ghost use Rattle.stream_reader.specs.Stream.{Settings, reason_of, unexpected, is_binary, is_mode, mode_of, kind_of, too_large};
+ghost use Rattle.stream_reader.specs.Stream.{Settings, reason_of, unexpected, is_binary, is_binary_type, is_mode, mode_of, kind_of, kind_of_type, too_large};
 ghost use Rattle.nbfx_values.specs.QuotasOf.{limits_of};
 ghost use Rattle.nbfx_values.specs.Session.{kind_number, mode_number};
 
 use nbfx_values::{Kind, Mode, Quotas, Reason};
-use nmf_records::record_types::{EXTENSIBLE_ENCODING, UPGRADE_REQUEST};
+use nmf_records::record_types::UPGRADE_REQUEST;
 use nmf_records::{Due, FrameFault};
 
 /// The reason to refuse bytes that can't be what is due here.
@@ -18,6 +18,7 @@ pub(crate) fn reason_of(due: Due, fault: FrameFault) -> Reason
         FrameFault::Unexpected(kind) => unexpected(due, kind),
         FrameFault::BadInt => Reason::BadInt,
         FrameFault::TextTooLong => Reason::TextTooLong,
+        FrameFault::TypeTooLong => Reason::ContentTypeTooLong,
         FrameFault::TextNotUtf8 => Reason::TextNotUtf8,
     }
 }
@@ -26,13 +27,6 @@ fn unexpected(due: Due, kind: u8) -> Reason
     ensures { result ≡ unexpected due kind }
 {
     match due {
-        Due::Encoding => {
-            if kind == EXTENSIBLE_ENCODING {
-                Reason::BadEncoding
-            } else {
-                Reason::OutOfOrder
-            }
-        }
         Due::PreambleEnd => {
             if kind == UPGRADE_REQUEST {
                 Reason::UpgradeRefused
@@ -87,6 +81,28 @@ pub(crate) fn kind_of(encoding: u8) -> Kind
     ensures { result ≡ kind_of encoding }
 {
     if encoding == Kind::Plain.number() {
+        Kind::Plain
+    } else {
+        Kind::Session
+    }
+}
+
+/// The reason to refuse an Extensible Encoding Record with this content type, if it is refused.
+pub(crate) fn bad_content_type(content_type: &str) -> Option<Reason>
+    ensures { result ≡ (if is_binary_type content_type.now then None else Some Reason.BadEncoding) }
+{
+    if Kind::Plain.content_type() == content_type || Kind::Session.content_type() == content_type {
+        None
+    } else {
+        Some(Reason::BadEncoding)
+    }
+}
+
+/// The encoding that an Extensible Encoding Record with this content type names.
+pub(crate) fn kind_of_type(content_type: &str) -> Kind
+    ensures { result ≡ kind_of_type content_type.now }
+{
+    if Kind::Plain.content_type() == content_type {
         Kind::Plain
     } else {
         Kind::Session

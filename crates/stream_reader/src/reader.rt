@@ -5,7 +5,8 @@ ghost use Rattle.unit_streams.specs.Grammar.{standing};
 ghost use Rattle.unit_streams.specs.Judging.{answer, event_at, is_over_at, ending_at};
 ghost use Rattle.nbfx_values.specs.Measures.{content_of};
 ghost use Rattle.nbfx_values.specs.QuotasOf.{limits_of};
-ghost use Rattle.nmf_records.specs.Reader.{limit_of};
+ghost use Rattle.nmf_records.specs.Reader.{limits_of as text_limits_of};
+ghost use Rattle.nmf_records.specs.RecordFronts.{limits_within};
 ghost use Rattle.stream_reader.specs.Bounds.{IsBounded};
 ghost use Rattle.string_tables.specs.SessionStrings.{used_cost};
 ghost use Rattle.stream_reader.specs.Sides.{side_of};
@@ -30,7 +31,7 @@ pub enum StreamStep {
     Opened {
         /// Of the Mode Record.
         mode: Mode,
-        /// Of the Known Encoding Record.
+        /// Of the Known Encoding or Extensible Encoding Record.
         kind: Kind,
     },
     /// A receiver's Preamble Ack Record.
@@ -92,14 +93,14 @@ pub struct StreamReader<'s> {
     /// The offset at which the unit begins that is read.
     pub(crate) unit_from: u64,
     pub(crate) failure: Option<ReadRefusal>,
-    ghost limit: { limit_of frames ≡ quotas.via },
+    ghost limits: { text_limits_of frames ≡ limits_within quotas.via },
     ghost bounded: { ∥ IsBounded decoder quotas awaited ∥₁ },
 }
 
 impl<'s> StreamReader<'s> {
     ghost use Rattle.stream_reader.specs.declared.reader.ReadRefusal.{ReadRefusal as Failure};
     ghost use Rattle.stream_reader.specs.Saying.{Says, Repeats, said_at_end};
-    ghost use Rattle.stream_reader.specs.StreamReaderState.{settings_of, taken_of, held_of, content_held_of, messages_of, failure_of, StandsFor, FailedBehind, ShowsText, ShowsStrings, WhereItStands, WhereItFailed, FailsBy, HasPayloads, begun_in, items_in};
+    ghost use Rattle.stream_reader.specs.StreamReaderState.{settings_of, taken_of, held_of, content_held_of, messages_of, failure_of, StandsFor, FailedBehind, ShowsText, ShowsStrings, texts_within, WhereItStands, WhereItFailed, FailsBy, HasPayloads, begun_in, items_in};
 
     /// A reader before the first byte. It allocates all that it needs before the first envelope,
     /// and fails without that memory.
@@ -292,7 +293,7 @@ impl<'s> StreamReader<'s> {
         self.decoder.table()
     }
 
-    /// What it holds of the input: the bytes of a framing record's text and of the payload's
+    /// What it holds of the input: the bytes of the framing records' texts and of the payload's
     /// incomplete record, and the content of the document so far.
     #[tactic(auto, unfolding(crate::specs::StreamReaderState::held_of, crate::specs::StreamReaderState::content_held_of))]
     pub fn kept(&self) -> Kept
@@ -300,14 +301,14 @@ impl<'s> StreamReader<'s> {
         ensures content_held { result.content ≡ content_held_of self.now }
         ensures raw { WhereItStands self.now (λ p. result.raw
             ≤ length (begun_in (standing (stream (settings_of self.now)) p).situation.stage)
-            + (settings_of self.now).limits.via) }
+            + texts_within (settings_of self.now).limits) }
         ensures content { WhereItStands self.now (λ p. result.content
             ≡ content_of (items_in (standing (stream (settings_of self.now)) p).situation.stage)) }
         ensures within { WhereItStands self.now (λ p. (result.raw
-            ≤ (settings_of self.now).limits.payload + (settings_of self.now).limits.via)
+            ≤ (settings_of self.now).limits.payload + texts_within (settings_of self.now).limits)
             × (result.content ≤ (settings_of self.now).limits.content)) }
         ensures failed { WhereItFailed self.now (λ refusal taken p. (result.raw
-            ≤ (settings_of self.now).limits.payload + (settings_of self.now).limits.via)
+            ≤ (settings_of self.now).limits.payload + texts_within (settings_of self.now).limits)
             × (result.content ≤ (settings_of self.now).limits.content)) }
     {
         let payload = self.decoder.kept();

@@ -17,6 +17,7 @@ impl<'s> StreamReader<'s> {
     ghost use Rattle.nbfx_decoder.specs.DecoderState.{settings_of as decoder_settings, StandsFor as DecoderStandsFor};
     ghost use Rattle.nmf_records.specs.declared.frame.Frame.{Frame as Record};
     ghost use Rattle.nmf_records.specs.Reader.{ShowsText as FramesShowText};
+    ghost use Rattle.nmf_records.specs.{RecordFronts.text_kind, Writing.has_text};
     ghost use Rattle.stream_reader.specs.Sides.{side_of};
     ghost use Rattle.stream_reader.specs.StreamReaderState.{settings_of, failure_of, Awaits, WhereItStands};
     ghost use Rattle.stream_reader.specs.Stepping.{UnitAnswers, BehindAnswers, HasDecoded, IsDue, DecodesAfter, IsMoved, KeepsFraming, KeepsParts, KeepsShown, MakesPayload, RecordAnswers, awaited_after, bare_step, begun_by, closing_after, closing_step, is_chunked_form, mode_after, due_of, has_ended, may_end_at, opened_at, size_before_of, taken_since, refusal_told};
@@ -314,7 +315,7 @@ impl<'s> StreamReader<'s> {
     // Why what a whole record says is refused.
     fn reason_in(&self, frame: Frame) -> Option<Reason>
         ensures { (stage : Stage) (text : List ℕ) → Awaits self.now.awaited stage
-            → (frame ≡ Frame.Via → FramesShowText self.now.frames text)
+            → (has_text frame ≡ true → FramesShowText (text_kind frame) self.now.frames text)
             → result ≡ reason_in (settings_of self.now) stage frame text }
     {
         match frame {
@@ -324,6 +325,7 @@ impl<'s> StreamReader<'s> {
             Frame::Via if self.side.serves(self.frames.text()) => None,
             Frame::Via => Some(Reason::EndpointNotFound),
             Frame::KnownEncoding(encoding) => judging::bad_encoding(encoding),
+            Frame::ExtensibleEncoding => judging::bad_content_type(self.frames.content_type()),
             Frame::SizedEnvelope(size) => judging::too_large(&self.quotas, u64::from(size)),
             Frame::Chunk(size) => {
                 let size = u64::from(self.size_before()) + u64::from(size);
@@ -405,6 +407,10 @@ impl<'s> StreamReader<'s> {
         match frame {
             Frame::Mode(byte) => self.mode = judging::mode_of(byte),
             Frame::KnownEncoding(encoding) => self.set_kind(judging::kind_of(encoding)),
+            Frame::ExtensibleEncoding => {
+                let kind = judging::kind_of_type(self.frames.content_type());
+                self.set_kind(kind);
+            }
             Frame::End => self.closing = Closing::End,
             Frame::Fault => self.closing = Closing::Fault,
             _ => {}

@@ -1,8 +1,10 @@
-use Rattle.std.proofs.Common.{◌≡◌, ℕ, ◌^◌, ◌<◌, List, Some, None, Ok, Err, Option, Result, sym}
+use Rattle.std.proofs.Common.{◌≡◌, ℕ, ◌^◌, ◌<◌, true, List, Some, None, Ok, Err, Option, Result}
+use Rattle.std.proofs.Common.{sym}
 use Rattle.std.proofs.{Common.refl, Common.◌∙◌, Common.subst, Common.arith, Math.Logic.∥∥₁_map}
 use Rattle.nbfx_values.specs.declared.{refusals.Reason.Reason, session.Kind.Kind}
 use Rattle.{nbfx_values.specs.QuotasOf.limits_of, stream_reader.proofs.MadePayloads.bounded_made}
 use Rattle.nmf_records.specs.{declared.frame.Frame.Frame, Reader.ShowsText as FramesShowText}
+use Rattle.nmf_records.specs.{RecordFronts.text_kind, Writing.has_text}
 use Rattle.stream_reader.specs.{declared.awaited.PayloadLeft.PayloadLeft, Sides.side_of}
 use Rattle.stream_reader.specs.declared.reader.{ReadRefusal.ReadRefusal, StreamStep.StreamStep}
 use Rattle.stream_reader.specs.{declared.reader.StreamReader.StreamReader, Bounds.IsBounded}
@@ -11,7 +13,6 @@ use Rattle.stream_reader.specs.Stream.{payloads, reason_in, Settings, Situation,
 use Rattle.stream_reader.specs.StreamReaderState.{Awaits, failure_of, settings_of}
 use Rattle.stream_reader.proofs.Behind.{bare_answers, behind_refusal, made_answers, made_decoded}
 use Rattle.stream_reader.proofs.Behind.{made_none, made_some, no_payload}
-use Rattle.nmf_records.specs.declared.frame.Frame.TheVariants as frames
 use Rattle.stream_reader.proofs.reader.StreamReader.behind.Goals as goal
 
 -- what it is set to
@@ -53,10 +54,10 @@ returns-in-Some-clause-answers c = λ read z text same here.
 -- a record that is refused for nothing
 unrefused : (r : StreamReader) (f : Frame) (told : Option Reason)
     → ((stage : Stage) (text : List ℕ) → Awaits r.awaited stage
-    → (f ≡ frames.Via → FramesShowText r.frames text)
+    → (has_text f ≡ true → FramesShowText (text_kind f) r.frames text)
     → told ≡ reason_in (settings_of r) stage f text)
     → told ≡ None → (stage : Stage) (text : List ℕ) → Awaits r.awaited stage
-    → (f ≡ frames.Via → ⊥) → reason_in (settings_of r) stage f text ≡ None
+    → (has_text f ≡ true → ⊥) → reason_in (settings_of r) stage f text ≡ None
 unrefused r f told h none stage text awaits never =
     sym (h stage text awaits (λ e. absurd (never e))) ∙ none
 
@@ -122,6 +123,7 @@ returns-clause-answers c = λ read z text same here.
       kind = refl;
       messages = refl;
       taken = refl;
+      frames = refl;
       decoder = refl;
     }) (side_is r) refl (payloads_are r)
     (no_payload r x z c.args.frame text h r.unit_from r.taken none) c.after_bare_record.new.self

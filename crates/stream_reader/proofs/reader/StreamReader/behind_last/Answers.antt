@@ -10,7 +10,7 @@ use Rattle.stream_reader.proofs.reader.StreamReader.behind_last.Goals as goal
 
 pub invariant_of-self : goal.invariant_of-self
 invariant_of-self c = record {
-  limit = c.args.self.now.limit;
+  limits = c.args.self.now.limits;
   bounded =
       ∥∥₁_map c.args.self.now.bounded
       (λ (b : IsBounded _ _ _). bounded_refused _ _ _ _ c.finish.ensures.settings b c.finish.result

@@ -37,7 +37,7 @@ feed-requires c = λ none.
 
 pub invariant_of-self : goal.invariant_of-self
 invariant_of-self c = record {
-  limit = c.args.self.now.limit;
+  limits = c.args.self.now.limits;
   bounded =
       ∥∥₁_map c.args.self.now.bounded
       (λ (b : IsBounded _ _ _). bounded_refused _ _ _ _ c.feed.ensures.settings b c.feed.result
@@ -65,7 +65,7 @@ invariant_of-self-2 c =
     let small = c.args.self.now.quotas.good.payload_most in
     let now_is = c.with_more.ensures (omega (arith, c.requires.room, small)) in
     record {
-      limit = c.args.self.now.limit;
+      limits = c.args.self.now.limits;
       bounded =
           ∥∥₁_map c.args.self.now.bounded
           (λ (b : IsBounded _ _ _). bounded_fed _ _ _ _ c.feed.ensures.settings

@@ -1,6 +1,9 @@
 use Rattle.std.proofs.Common.{◌≡◌, ℕ, ◌+◌, ◌≤◌, ◌⊎◌, List, length, ap, ◌∙◌, inl, inr, arith}
 use Rattle.std.proofs.Math.{Bridge.le_prop, Logic.∥∥₁_elim}
 use Rattle.nbfx_values.specs.{declared.limits.Kept.Kept, Limits.Limits, Measures.content_of}
+use Rattle.nmf_records.specs.declared.reader.TheConstants.{CONTENT_TYPE_LIMIT}
+use Rattle.nmf_records.specs.{Reader.limits_of as text_limits_of, RecordFronts.TextLimits}
+use Rattle.stream_reader.specs.declared.reader.StreamReader.{StreamReader}
 use Rattle.nbfx_decoder.specs.declared.{decoder.Decoder.Decoder, faults.DecodeFault.DecodeFault}
 use Rattle.nbfx_decoder.specs.DecoderState.{FailedBehind as DecoderFailedBehind}
 use Rattle.nbfx_decoder.specs.DecoderState.{settings_of as decoder_settings}
@@ -9,10 +12,17 @@ use Rattle.nbfx_decoder.specs.DecoderState.{WhereItFailed as WhereDecoderFailed}
 use Rattle.nbfx_decoder.specs.DecoderState.{WhereItStands as WhereDecoderStands}
 use Rattle.stream_reader.specs.Bounds.{IsBounded}
 use Rattle.stream_reader.specs.StreamReaderState.{FailedBehind, held_of, settings_of, ShowsStrings}
-use Rattle.stream_reader.specs.StreamReaderState.{ShowsTable, StandsFor}
+use Rattle.stream_reader.specs.StreamReaderState.{ShowsTable, StandsFor, texts_within}
 use Rattle.stream_reader.proofs.ReaderFacts.{comes_in, shows_in}
 use Rattle.stream_reader.proofs.reader.StreamReader.kept.Goals.{After-saturating_add}
 use Rattle.stream_reader.proofs.reader.StreamReader.kept.Goals as goal
+
+-- how long its texts may be
+text_limit_is : (r : StreamReader) → (text_limits_of r.frames).text ≡ r.quotas.via
+text_limit_is r = ap (λ (l : TextLimits). l.text) r.limits
+
+type_limit_is : (r : StreamReader) → (text_limits_of r.frames).content_type ≡ CONTENT_TYPE_LIMIT
+type_limit_is r = ap (λ (l : TextLimits). l.content_type) r.limits
 
 pub returns-clause-raw : goal.returns-clause-raw
 unfolding StandsFor settings_of
@@ -25,7 +35,8 @@ returns-clause-raw c = λ p h.
       ap length come.begun,
       c.saturating_add.ensures,
       c.held.ensures.within,
-      c.args.self.now.limit,
+      text_limit_is c.args.self.now,
+      type_limit_is c.args.self.now,
     )
 
 pub returns-clause-content : goal.returns-clause-content
@@ -57,20 +68,22 @@ kept_within d kept stands failed strings h = by_there h.there where
 module _ (c : After-saturating_add) where
   shown_within : (strings : List (List ℕ)) → ShowsStrings c.args.self.now strings
       → (c.saturating_add.result ≤ (settings_of c.args.self.now).limits.payload
-      + (settings_of c.args.self.now).limits.via)
+      + texts_within (settings_of c.args.self.now).limits)
       × (c.kept-payload.result.content ≤ (settings_of c.args.self.now).limits.content)
   unfolding ShowsStrings settings_of
   shown_within strings h =
       let within = kept_within c.args.self.now.decoder c.kept-payload.result
       c.kept-payload.ensures.within c.kept-payload.ensures.failed strings h in (
         ∥∥₁_elim c.args.self.now.bounded le_prop
-            (λ (b : IsBounded _ _ _). let payload = ap (λ (l : Limits). l.payload) b.limits in omega (
+            (λ (b : IsBounded _ _ _). let payload = ap (λ
+            (l : Limits). l.payload) b.limits in omega (
               arith,
               within.0,
               payload,
               c.saturating_add.ensures,
               c.held.ensures.within,
-              c.args.self.now.limit,
+              text_limit_is c.args.self.now,
+              type_limit_is c.args.self.now,
             )),
         ∥∥₁_elim c.args.self.now.bounded le_prop
             (λ (b : IsBounded _ _ _). let content = ap (λ (l : Limits). l.content) b.limits in omega
@@ -98,7 +111,8 @@ returns-clause-held c =
       payload,
       text,
       within,
-      c.args.self.now.limit,
+      text_limit_is c.args.self.now,
+      type_limit_is c.args.self.now,
       c.args.self.now.quotas.good.via_most,
       c.saturating_add.ensures,
     )

@@ -1,7 +1,8 @@
 use Rattle.std.proofs.Common.{◌≡◌, false, [], sym, refl, ap, ◌∙◌, arith}
 use Rattle.unit_streams.specs.{Grammar.Standing, Judging.is_over_at}
 use Rattle.nbfx_values.specs.{declared.refusals.Offence.Offence, QuotasOf.limits_of}
-use Rattle.nmf_records.specs.Script.{first, may_come}
+use Rattle.nmf_records.specs.{RecordFronts.content_type, RecordFronts.via_or_fault, Script.first}
+use Rattle.nmf_records.specs.Script.{may_come}
 use Rattle.nbfx_decoder.specs.Payload.{Settings as PayloadSettings}
 use Rattle.stream_reader.specs.{Sides.side_of, Stream.stream, Stream.StreamEvent}
 use Rattle.stream_reader.specs.Stream.{beginning, direction_of, payloads, Settings, Situation}
@@ -39,7 +40,8 @@ returns-clause-stands c =
         payload = decoder.stands;
       });
       frames = rw e (c.in_ok-new.ensures.stands (may_come (direction_of x.side) c.first.result));
-      text = rw e c.in_ok-new.ensures.text;
+      text = rw e (c.in_ok-new.ensures.text via_or_fault);
+      type = ([], c.in_ok-new.ensures.text content_type);
       unit_from = sym (ap (λ (s : Standing Situation StreamEvent Offence). s.from) e);
       closing = λ over. let on = not_over x in let bad = sym on ∙ over in cc;
       taken = refl;

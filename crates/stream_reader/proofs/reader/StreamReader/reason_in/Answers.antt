@@ -1,9 +1,13 @@
 use Rattle.std.proofs.Common.{◌≡◌, ℕ, ◌+◌, Bool, true, false, List, if◌then◌else◌, Some, None, sym}
-use Rattle.std.proofs.Common.{refl, ap, ◌∙◌}
+use Rattle.std.proofs.Common.{refl, ap, ◌∙◌, subst}
 use Rattle.nbfx_values.specs.QuotasOf.{limits_of}
+use Rattle.nmf_records.specs.declared.{frame.Frame.Frame}
+use Rattle.nmf_records.specs.{Reader.ShowsText as FramesShowText, RecordFronts.text_kind}
+use Rattle.nmf_records.specs.Writing.{has_text}
 use Rattle.stream_reader.specs.declared.{awaited.Awaited.Awaited, reader.StreamReader.StreamReader}
 use Rattle.stream_reader.specs.{Sides.side_of, Stepping.size_before_of}
-use Rattle.stream_reader.specs.Stream.{chunk_due, payload_open, reason_in, record_due, serves}
+use Rattle.stream_reader.specs.Stream.{chunk_due, is_binary_type, payload_open, reason_in}
+use Rattle.stream_reader.specs.Stream.{record_due, serves}
 use Rattle.stream_reader.specs.Stream.{size_before, Stage, too_large}
 use Rattle.stream_reader.specs.StreamReaderState.{Awaits, settings_of}
 use Rattle.nbfx_values.specs.declared.refusals.Reason.TheVariants as reasons
@@ -25,6 +29,14 @@ limits_are : (r : StreamReader) → (settings_of r).limits ≡ limits_of r.quota
 unfolding settings_of
 limits_are r = refl
 
+-- a record with a text shows it
+shown_as : (r : StreamReader) (f g : Frame) (text : List ℕ)
+    → (has_text f ≡ true → FramesShowText (text_kind f) r.frames text) → f ≡ g
+    → has_text g ≡ true → FramesShowText (text_kind g) r.frames text
+shown_as r f g text shown is has =
+    subst (λ (h : Frame). FramesShowText (text_kind h) r.frames text) is
+    (shown (ap has_text is ∙ has))
+
 -- the bytes of a payload before a chunk
 before_as : (a : Awaited) (stage : Stage) → Awaits a stage → size_before_of a ≡ size_before stage
 before_as (awaits.Record due) (record_due other) is = refl
@@ -40,14 +52,34 @@ before_as (awaits.Payload p) (payload_open o) is = refl
 pub returns-in-Via : goal.returns-in-Via
 returns-in-Via c = λ stage text awaits shown.
     serves_so c.args.self.now stage c.text.result.now text true
-    (c.text.ensures text (shown c.in-Via.is)) (sym c.serves.ensures ∙ c.if-serves.true)
+    (c.text.ensures text
+    (shown_as c.args.self.now c.args.frame frames.Via text shown c.in-Via.is refl))
+    (sym c.serves.ensures ∙ c.if-serves.true)
     ∙ ap (λ f. reason_in (settings_of c.args.self.now) stage f text) (sym c.in-Via.is)
 
 pub returns-in-Via-2 : goal.returns-in-Via-2
 returns-in-Via-2 c = λ stage text awaits shown.
     serves_so c.args.self.now stage c.text.result.now text false
-    (c.text.ensures text (shown c.in-Via.is)) (sym c.serves.ensures ∙ c.if-serves.false)
+    (c.text.ensures text
+    (shown_as c.args.self.now c.args.frame frames.Via text shown c.in-Via.is refl))
+    (sym c.serves.ensures ∙ c.if-serves.false)
     ∙ ap (λ f. reason_in (settings_of c.args.self.now) stage f text) (sym c.in-Via.is)
+
+-- the text that is read is the record's
+type_so : (r : StreamReader) (stage : Stage) (type text : List ℕ) → type ≡ text
+    → (if is_binary_type type then None else Some reasons.BadEncoding)
+    ≡ reason_in (settings_of r) stage frames.ExtensibleEncoding text
+type_so r stage type text same =
+    ap (λ t. if is_binary_type t then None else Some reasons.BadEncoding) same
+
+pub returns-in-ExtensibleEncoding : goal.returns-in-ExtensibleEncoding
+returns-in-ExtensibleEncoding c = λ stage text awaits shown.
+    c.bad_content_type.ensures
+    ∙ type_so c.args.self.now stage c.content_type.result.now text
+    (c.content_type.ensures text (shown_as c.args.self.now c.args.frame frames.ExtensibleEncoding
+    text shown c.in-ExtensibleEncoding.is refl))
+    ∙ ap (λ f. reason_in (settings_of c.args.self.now) stage f text)
+    (sym c.in-ExtensibleEncoding.is)
 
 pub returns-in-SizedEnvelope : goal.returns-in-SizedEnvelope
 returns-in-SizedEnvelope c = λ stage text awaits shown.

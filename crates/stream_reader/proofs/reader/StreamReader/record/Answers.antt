@@ -1,4 +1,5 @@
-use Rattle.std.proofs.Common.{◌≡◌, ℕ, ◌+◌, ◌^◌, ◌<◌, ◌≤◌, false, List, ◌++◌, length, sym, refl, ap}
+use Rattle.std.proofs.Common.{◌≡◌, ℕ, ◌+◌, ◌^◌, ◌<◌, ◌≤◌, true, false, List, ◌++◌, length, sym}
+use Rattle.std.proofs.Common.{refl, ap}
 use Rattle.std.proofs.Common.{◌∙◌, subst, arith, length-append}
 use Rattle.std.proofs.lemmas.Result.{err_from_is_err_and}
 use Rattle.unit_streams.proofs.Standing.{standing_length}
@@ -6,25 +7,30 @@ use Rattle.unit_streams.specs.{Front.whole, Grammar.standing, Judging.is_over_at
 use Rattle.nmf_records.{proofs.Frames.frames_front, specs.Reader.StandsFor as FrameStandsFor}
 use Rattle.nmf_records.specs.declared.frame.{Expect.Expect, Frame.Frame}
 use Rattle.nmf_records.specs.{declared.reader.FrameReader.FrameReader, Script.may_come}
-use Rattle.nmf_records.specs.Reader.{limit_of, shown_behind, ShowsText as FramesShowText}
-use Rattle.nmf_records.specs.RecordFronts.{frame_at, with_text}
+use Rattle.nmf_records.specs.Reader.{limits_of as text_limits_of, shown_behind}
+use Rattle.nmf_records.specs.Reader.{ShowsText as FramesShowText}
+use Rattle.nmf_records.specs.RecordFronts.{content_type, frame_at, text_kind, TextKind}
+use Rattle.nmf_records.specs.RecordFronts.{via_or_fault, with_text}
+use Rattle.nmf_records.specs.Writing.{has_text}
 use Rattle.stream_reader.specs.declared.reader.ReadRefusal.TheVariants.{Offence as Refused}
 use Rattle.stream_reader.specs.{declared.reader.StreamReader.StreamReader, Sides.side_of}
 use Rattle.stream_reader.specs.{Stepping.due_of, Stepping.IsDue, Stream.stream}
 use Rattle.stream_reader.specs.Stream.{direction_of, offence_at, reason_of, Settings, Situation}
-use Rattle.stream_reader.specs.StreamReaderState.{failure_of, Reached, settings_of, StandsFor}
+use Rattle.stream_reader.specs.Stream.{text_limits}
+use Rattle.stream_reader.specs.StreamReaderState.{failure_of, Reached, settings_of, ShowsType}
+use Rattle.stream_reader.specs.StreamReaderState.{StandsFor}
 use Rattle.stream_reader.proofs.{Grammar.readable, Situations.messages_within}
 use Rattle.stream_reader.proofs.ReaderFacts.{failure_as, same_settings}
 use Rattle.stream_reader.proofs.RecordFacts.{done_so, more_so, shown_so, wrong_so}
 use Rattle.stream_reader.proofs.RecordSteps.{frames_here, may_come_so, none_before, record_done}
-use Rattle.stream_reader.proofs.RecordSteps.{record_more, record_refused, record_wrong, shown_via}
+use Rattle.stream_reader.proofs.RecordSteps.{record_more, record_refused, record_wrong, shown_text}
 use Rattle.stream_reader.proofs.reader.StreamReader.record.Goals.{After-feed}
 use Rattle.stream_reader.proofs.reader.StreamReader.record.Goals as goal
 
 -- what it is set to
-limit_is : (r : StreamReader) → limit_of r.frames ≡ (settings_of r).limits.via
+limits_are : (r : StreamReader) → text_limits_of r.frames ≡ text_limits (settings_of r)
 unfolding settings_of
-limit_is r = r.limit
+limits_are r = r.limits
 
 direction_is : (r : StreamReader) → direction_of (side_of r.side)
     ≡ direction_of (settings_of r).side
@@ -68,11 +74,21 @@ module _ (f : After-feed) (p : List ℕ) where
         subst (λ (e : Expect). FrameStandsFor r.frames e b) (sym expected_is)
         (frames_here r x p y f.args.due f.requires.awaited h on fits)
 
-    shown : FramesShowText f.feed.new.self
-        (shown_behind x.limits.via (may_come (direction_of x.side) f.args.due) (b ++ y) z.text)
-    shown =
-        shown_so _ x.limits.via _ _ (limit_is r) expected_is f.feed.new.self b y z.text
-        (f.feed.ensures.text b z.text stands h.text)
+    -- the texts that it shows then, each where it showed another before
+    shown_of : (kind : TextKind) (s : List ℕ) → FramesShowText kind r.frames s
+        → FramesShowText kind f.feed.new.self
+        (shown_behind kind (text_limits x) (may_come (direction_of x.side) f.args.due) (b ++ y) s)
+    shown_of kind s before =
+        shown_so _ (text_limits x) _ _ (limits_are r) expected_is f.feed.new.self b y kind s
+        (f.feed.ensures.text kind b s stands before)
+
+    shown : FramesShowText via_or_fault f.feed.new.self
+        (shown_behind via_or_fault (text_limits x) (may_come (direction_of x.side) f.args.due)
+        (b ++ y) z.text)
+    shown = shown_of via_or_fault z.text h.text
+
+    type : ShowsType f.feed.new.self
+    type = (_, shown_of content_type h.type.0 h.type.1)
 
     few : z.messages + 1 < 2 ^ 64
     few =
@@ -81,9 +97,20 @@ module _ (f : After-feed) (p : List ℕ) where
         let session = session_is r in
         omega (arith, least, h.within, most, session)
 
+    -- a whole record with a text shows it
+    own : (read : Frame) (text : List ℕ) (n : ℕ)
+        → frame_at (text_limits x) (may_come (direction_of x.side) f.args.due) (b ++ y)
+        ≡ whole (with_text read text) (length b + n) → (kind : TextKind) → kind ≡ text_kind read
+        → has_text read ≡ true → FramesShowText kind f.feed.new.self text
+    own read text n there via_or_fault same has = shown_text r x p y f.args.due f.requires.awaited h
+        on fits read text n there f.feed.new.self via_or_fault z.text same has shown
+    own read text n there content_type same has = shown_text r x p y f.args.due f.requires.awaited h
+        on fits read text n there f.feed.new.self content_type h.type.0 same has
+        (shown_of content_type h.type.0 h.type.1)
+
     -- a whole record is the one that is due, of a reader that has its bytes
     is_due : (read : Frame) (text : List ℕ) (n : ℕ)
-        → frame_at x.limits.via (may_come (direction_of x.side) f.args.due) (b ++ y)
+        → frame_at (text_limits x) (may_come (direction_of x.side) f.args.due) (b ++ y)
         ≡ whole (with_text read text) (length b + n) → {placed : StreamReader}
         → placed.awaited ≡ r.awaited → placed.mode ≡ r.mode → placed.kind ≡ r.kind
         → placed.messages ≡ r.messages → placed.decoder ≡ r.decoder
@@ -102,8 +129,8 @@ module _ (f : After-feed) (p : List ℕ) where
       may = may_come_so r x p y f.args.due f.requires.awaited h on fits read text n there;
       few = few;
       no_strings = none_before r x p y f.args.due f.requires.awaited h on fits read text n there;
-      shown = rw frames (shown_via r x p y f.args.due f.requires.awaited h on fits read text n there
-          f.feed.new.self shown);
+      shown = λ has. subst (λ (t : FrameReader). FramesShowText (text_kind read) t text)
+          (sym frames) (own read text n there (text_kind read) refl has);
     }
 
 pub returns-in-Ok-default-More-clause-answers : goal.returns-in-Ok-default-More-clause-answers
@@ -111,13 +138,14 @@ unfolding StandsFor
 returns-in-Ok-default-More-clause-answers c = λ p h on.
     let f : After-feed = (goal.at-returns-in-Ok-default-More-clause-answers c).After-feed in
     let step = c.in-Ok-default-More in
-    let said = more_so _ (x f p).limits.via _ _ (limit_is (r f p)) (expected_is f p) c.feed.new.self
+    let said = more_so _ (text_limits (x f p)) _ _ (limits_are (r f p))
+    (expected_is f p) c.feed.new.self
     (b f p) (y f p) step.n step.field-0-1 step.field-0-1-is
     (step.ensures.answers _ (stands f p h on)) (step.ensures.stands _ (stands f p h on)) in
     record_more (r f p) (x f p) p (y f p) c.args.due c.requires.awaited h on (fits f p h on) _
     step.n
     (omega (arith, said.0, c.requires.some)) said.0 said.1 refl refl refl refl refl refl refl refl
-    said.2 (shown f p h on)
+    said.2 (shown f p h on) (type f p h on)
 
 pub returns-in-Ok-default-More-clause-settings : goal.returns-in-Ok-default-More-clause-settings
 returns-in-Ok-default-More-clause-settings c = same_settings c.args.self.now _ refl refl refl
@@ -152,7 +180,8 @@ returns-in_ok-step-in-Ok-default-Done-clause-answers c = λ p h on.
     let step = c.in-Ok-default-Done in
     let read = step.frame in
     let done = c.in_ok-step-in-Ok-default-Done.ensures in
-    let said = done_so _ (x f p).limits.via _ _ (limit_is (r f p)) (expected_is f p) c.feed.new.self
+    let said = done_so _ (text_limits (x f p)) _ _ (limits_are (r f p))
+    (expected_is f p) c.feed.new.self
     (b f p) (y f p) step.n _ read step.field-0-1-is
     (step.ensures.answers _ (stands f p h on)) (step.ensures.stands _ (stands f p h on)) in
     let behind = done.answers read (z f p) said.0 (rw step.field-0-1-is refl)
@@ -160,6 +189,7 @@ returns-in_ok-step-in-Ok-default-Done-clause-answers c = λ p h on.
     refl refl refl refl refl refl) in
     record_done (r f p) (x f p) p (y f p) c.args.due c.requires.awaited h on (fits f p h on) read
     said.0 step.n said.1 c.behind.new.self c.feed.new.self done.keeps.frames (shown f p h on)
+    (type f p h on)
     done.keeps.taken c.args.self.now.unit_from _ h.unit_from refl _ behind done.unit_from said.2
     done.unfailed
 
@@ -172,7 +202,8 @@ returns-in_err-step-in-Ok-default-Done-clause-answers c = λ p h on.
     let step = c.in-Ok-default-Done in
     let read = step.frame in
     let done = c.in_err-step-in-Ok-default-Done.ensures in
-    let said = done_so _ (x f p).limits.via _ _ (limit_is (r f p)) (expected_is f p) c.feed.new.self
+    let said = done_so _ (text_limits (x f p)) _ _ (limits_are (r f p))
+    (expected_is f p) c.feed.new.self
     (b f p) (y f p) step.n _ read step.field-0-1-is
     (step.ensures.answers _ (stands f p h on)) (step.ensures.stands _ (stands f p h on)) in
     let behind = done.answers read (z f p) said.0 (rw step.field-0-1-is refl)
@@ -182,6 +213,7 @@ returns-in_err-step-in-Ok-default-Done-clause-answers c = λ p h on.
     rw (told.1, told.2)
     (record_refused (r f p) (x f p) p (y f p) c.args.due c.requires.awaited h on (fits f p h on)
     read said.0 step.n said.1 c.behind.new.self c.feed.new.self done.keeps.frames (shown f p h on)
+    (type f p h on)
     done.keeps.taken c.args.self.now.unit_from _ h.unit_from refl
     c.in_err-step-in-Ok-default-Done.field-0.0 behind (failure_as _ _ done.refused))
 
@@ -190,11 +222,11 @@ unfolding StandsFor
 returns-in-Err-clause-answers c = λ p h on.
     let f : After-feed = (goal.at-returns-in-Err-clause-answers c).After-feed in
     let bytes : List ℕ = b f p ++ y f p in
-    let read = wrong_so _ (x f p).limits.via _ _ (limit_is (r f p)) (expected_is f p)
+    let read = wrong_so _ (text_limits (x f p)) _ _ (limits_are (r f p)) (expected_is f p)
     c.feed.new.self (b f p) (y f p) c.in-Err.refusal
     (c.in-Err.ensures.answers _ (stands f p h on)) in
     let place = standing_length (stream (x f p)) (readable (x f p)) p in
-    let within = (frames_front (x f p).limits.via
+    let within = (frames_front (text_limits (x f p))
     (may_come (direction_of (x f p).side) c.args.due)).wrong_within bytes _ _ read in
     let session = session_is (r f p) in
     let taken : c.refuse.new.self.taken
@@ -217,7 +249,8 @@ returns-in-Err-clause-answers c = λ p h on.
     (c.refuse.ensures.offence
     ∙ ap (λ reason. Refused (offence_at (r f p).unit_from reason)) c.reason_of-reason.ensures
     ∙ ap (λ n. Refused (offence_at n (reason_of c.args.due c.in-Err.refusal.fault))) h.unit_from)
-    (subst (λ (t : FrameReader). FramesShowText t (shown_behind (x f p).limits.via
+    (subst (λ (t : FrameReader). FramesShowText via_or_fault t (shown_behind via_or_fault
+    (text_limits (x f p))
     (may_come (direction_of (x f p).side) c.args.due) bytes (z f p).text))
     (sym c.refuse.ensures.shown.frames) (shown f p h on))
     taken c.refuse.ensures.failure c.refuse.ensures.shown.messages c.refuse.ensures.shown.decoder

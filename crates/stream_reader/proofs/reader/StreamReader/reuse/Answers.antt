@@ -24,6 +24,7 @@ returns-clause-stands c = λ p h. record {
   };
   frames = h.frames;
   text = h.text;
+  type = h.type;
   closing = h.closing;
   unit_from = h.unit_from;
   taken = h.taken;
