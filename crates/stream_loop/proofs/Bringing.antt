@@ -1,23 +1,27 @@
 -- What bytes that are fed to a reading end bring behind the events so far: an event, the end, a
 -- refusal, or nothing yet.
-use Rattle.std.proofs.Common.{◌≡◌, ℕ, ◌<◌, ◌≤◌, Bool, true, false, List, [], ◌∷◌, ◌++◌, length}
+use Rattle.std.proofs.Common.{◌≡◌, ℕ, ◌<◌, ◌≤◌, ◌-◌, Bool, true, false, List, [], ◌∷◌, ◌++◌, length}
 use Rattle.std.proofs.Common.{take, drop, Some, None, Ok, Err, Option, Result, sym, refl, ap, ◌∙◌}
-use Rattle.std.proofs.Common.{append-nil, arith, take_all}
+use Rattle.std.proofs.Common.{append-nil, append_assoc, arith, inl, inr, length-append, length-take-le}
+use Rattle.std.proofs.Common.{take-append-drop, take_all}
+use Rattle.std.proofs.lemmas.{Bool.cases_lt, List.length-take, List.take-append-le, List.take-take}
 use Rattle.unit_streams.proofs.{Answers.answers_are_first, Cuts.cuts_change_nothing}
 use Rattle.unit_streams.proofs.Histories.{completed_events, events_in_none, history_is_answers}
 use Rattle.unit_streams.proofs.Histories.{led_by_append}
 use Rattle.unit_streams.proofs.Pending.{events_of_append, open_completes, open_going_on}
-use Rattle.unit_streams.proofs.Pending.{open_goes_on, open_history, over_behind, pending_history}
+use Rattle.unit_streams.proofs.Ends.{not_over_along}
+use Rattle.unit_streams.proofs.Pending.{open_goes_on, open_history, open_longer, open_pending}
+use Rattle.unit_streams.proofs.Pending.{over_behind, pending_history}
 use Rattle.unit_streams.proofs.Telling.{closed_behind}
-use Rattle.unit_streams.specs.Going.{history_by, IsOpenAt, IsPending}
+use Rattle.unit_streams.specs.Going.{history_by, IsOpenAt, IsPending, IsQuietBefore}
 use Rattle.unit_streams.specs.{Grammar.Grammar, Laws.raised, Laws.unless_decided}
-use Rattle.unit_streams.specs.Judging.{Answer, answer, completes, ending_at, events, events_of}
+use Rattle.unit_streams.specs.Judging.{Answer, answer, completes, ending_at, event_at, events, events_of}
 use Rattle.unit_streams.specs.Judging.{goes_on, History, history, history_from, is_over_at, led_by}
-use Rattle.unit_streams.specs.{Judging.offends, Tellers.Closes}
+use Rattle.unit_streams.specs.{Judging.offends, Judging.refusal_at, Tellers.Closes}
 use Rattle.stream_loop.specs.declared.reading_end.FeedFault.{FeedFault}
 use Rattle.stream_loop.specs.declared.reading_end.FeedFault.TheVariants.{Memory, Refused}
 use Rattle.stream_loop.specs.{Answers.said, Answers.Says}
-use Rattle.stream_loop.specs.Followed.{AreFirst, IsWhole}
+use Rattle.stream_loop.specs.Followed.{AreFirst, EndsWith, IsWhole}
 
 -- the parts of what is said
 module _ {E V R : Type 0} (f : E → V) where
@@ -75,6 +79,68 @@ module _ {Z U E R : Type 0} (g : Grammar Z U E R) where
     joined = ap (λ (h : History E R). h.events) (open_history g q more on);
   }
 
+-- where the k-th byte of y behind p completes the event that ends the stream
+module _ {Z U E R : Type 0} (g : Grammar Z U E R) (ends : E → Bool) (c : Closes g ends)
+    (p y : List ℕ) (on : IsOpenAt g p) (k : ℕ) (e : E) (q : IsQuietBefore g p y k) (some : 0 < k)
+    (last : event_at g (p ++ take k y) ≡ Some e) where
+  abbrev before : List ℕ
+  before = take (k - 1) y
+
+  size : length before ≡ k - 1
+  size = let within = q.within in length-take-le (k - 1) y (omega (arith, within))
+
+  part : (i : ℕ) → i ≤ length before → take i before ≡ take i y
+  part i le = take-take i (k - 1) y (omega (arith, le, size))
+
+  going : IsOpenAt g (p ++ before)
+  going = open_longer g p before on
+      (λ i lt. ap (λ b. refusal_at g (p ++ b)) (part i (omega (arith, lt)))
+      ∙ q.unrefused i (omega (arith, lt, size)))
+      (not_over_along g c.readable ends c.tells before p (open_going_on g p on)
+      (λ i more le. ap (λ b. event_at g (p ++ b)) (part i le)
+      ∙ q.eventless i more (omega (arith, le, size, some))))
+
+  pending : IsPending g (p ++ before)
+  pending = open_pending g p before going (q.unrefused (k - 1) (omega (arith, some)))
+
+  -- fewer bytes are some of those before the last one
+  fewer : (n : ℕ) → n < length (p ++ take k y) → take n (p ++ take k y) ≡ take n (p ++ before)
+  fewer n lt =
+      let whole = length-append p (take k y) in
+      let whole' = length-take-le k y q.within in
+      let part' = length-append p before in
+      sym (ap (take n) (append_assoc p before (drop (k - 1) (take k y))
+      ∙ ap (λ b. p ++ b) (ap (λ b. b ++ drop (k - 1) (take k y))
+      (sym (take-take (k - 1) k y (omega arith))) ∙ take-append-drop (k - 1) (take k y))))
+      ∙ take-append-le n (p ++ before) (drop (k - 1) (take k y))
+      (omega (arith, lt, whole, whole', part', size, some))
+
+  pub ends_with : ends e ≡ true → EndsWith g (p ++ take k y)
+  ends_with is_end = record {
+    over = over_behind g c.readable ends c.tells p y on k e q some last ∙ is_end;
+    first = λ n lt. record {
+      unrefused = λ m. ap (λ b. refusal_at g (take m b)) (fewer n lt) ∙ at_part n m;
+      going_on = λ m. ap (λ b. is_over_at g (take m b)) (fewer n lt) ∙ on_part n m;
+    };
+  } where
+    all_part : (n m : ℕ) → n ≤ m → take m (take n (p ++ before)) ≡ take n (p ++ before)
+    all_part n m le = take_all m (take n (p ++ before))
+        (let short = length-take n (p ++ before) in omega (arith, le, short))
+
+    at_part : (n m : ℕ) → refusal_at g (take m (take n (p ++ before))) ≡ None
+    at_part n m = elim (cases_lt m n) [
+      | inl lt ↦ ap (refusal_at g) (take-take m n (p ++ before) (omega (arith, lt)))
+          ∙ pending.unrefused m
+      | inr le ↦ ap (refusal_at g) (all_part n m le) ∙ pending.unrefused n
+    ]
+
+    on_part : (n m : ℕ) → is_over_at g (take m (take n (p ++ before))) ≡ false
+    on_part n m = elim (cases_lt m n) [
+      | inl lt ↦ ap (is_over_at g) (take-take m n (p ++ before) (omega (arith, lt)))
+          ∙ pending.going_on m
+      | inr le ↦ ap (is_over_at g) (all_part n m le) ∙ pending.going_on n
+    ]
+
 module _ {Z U E V R : Type 0} (g : Grammar Z U E R) (f : E → V) (ends : E → Bool)
     (c : Closes g ends) (p y : List ℕ) (on : IsOpenAt g p) (r : Result (ℕ × Option V) (FeedFault R))
     (says : is_over_at g p ≡ false → Says f (length y) (answer g p y) r) where
@@ -122,8 +188,10 @@ module _ {Z U E V R : Type 0} (g : Grammar Z U E R) (f : E → V) (ends : E → 
     pub is : v ≡ f event
     pub some : 0 < n
     pub within : n ≤ length y
+    pub completed : event_at g (p ++ take n y) ≡ Some event
     pub events_are : events_of g (p ++ take n y) ≡ events_of g p ++ event ∷ []
     pub stays_open : ends event ≡ false → IsOpenAt g (p ++ take n y)
+    pub ended : ends event ≡ true → EndsWith g (p ++ take n y)
     pub first : (more : List ℕ) → AreFirst g (events_of g p ++ event ∷ []) (p ++ (y ++ more))
     -- after the event that ends the stream it is judged
     pub last : ends event ≡ true → (more : List ℕ)
@@ -141,9 +209,11 @@ module _ {Z U E V R : Type 0} (g : Grammar Z U E R) (f : E → V) (ends : E → 
         is = so.2;
         some = m.1;
         within = m.0.within;
+        completed = m.2;
         events_are = events_of_append g p (take n y)
             ∙ ap (λ es. events_of g p ++ es) (completed_events g p y n e m.0 m.1 m.2);
         stays_open = open_completes g c.readable ends c.tells p y on n e m.0 m.1 m.2;
+        ended = λ is_end. ends_with g ends c p y on n e m.0 m.1 m.2 is_end;
         first = λ more. record {
           others = (history_from g (p ++ take n (y ++ more)) (drop n (y ++ more))).events;
           joined = ap (λ (h : History E R). h.events) (behind e so.1 more

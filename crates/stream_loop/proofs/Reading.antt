@@ -10,11 +10,11 @@ use Rattle.unit_streams.proofs.Pending.{pending_open}
 use Rattle.unit_streams.specs.{Going.IsOpenAt, Going.IsPending, Grammar.Grammar}
 use Rattle.unit_streams.specs.Judging.{ending_at, events_in, events_of, is_over_at, refusal_at}
 use Rattle.stream_loop.specs.{Answers.EndsWithin, Answers.said_at_end, Edges.Fills, Edges.Input}
-use Rattle.stream_loop.specs.Followed.{AreFirst, IsWhole}
-use Rattle.stream_loop.specs.Resumed.{Came, HasComeTo, RanOut, WasCut, WasHalted}
+use Rattle.stream_loop.specs.Followed.{AreFirst, EndsWell, EndsWith, IsWhole, WasTaken}
+use Rattle.stream_loop.specs.Resumed.{Came, HasComeTo, IsOver, RanOut, WasCut, WasHalted}
 use Rattle.stream_loop.specs.{Resumed.WasJudged, Steps.HandlesOne}
 use Rattle.stream_loop.proofs.Bringing.{first_of_open, whole_at_end}
-use Rattle.stream_loop.proofs.Writing.{known_told}
+use Rattle.stream_loop.proofs.Writing.{known_told, told_as}
 
 module _ {Z U E R : Type 0} (g : Grammar Z U E R) (i i' : Input) (stands : List ℕ → Type 0)
     (Handled : List E → List E → Type 0) (p y : List ℕ) (h : HasComeTo g i i' stands Handled p y)
@@ -49,8 +49,11 @@ module _ {Z U E R : Type 0} (g : Grammar Z U E R) (i i' : Input) (stands : List 
     pub decides : (Handled' : List E → List E → Type 0) (judged : Option R) (since : List E)
         → Handled' (events_of g h.before) since → (es : List E) → es ≡ events_of g h.before ++ since
         → ((more : List ℕ) → IsWhole g es judged (p ++ (y ++ more)))
-        → WasJudged g i i' Handled' judged
-    decides Handled' judged since handled es is whole = record {
+        → (y' : List ℕ) → (judged ≡ None → (read : List ℕ)
+        × (h.before ++ h.piece ≡ read ++ y')
+        × EndsWell g read ((y' ≡ []) × IsOver g i i' h.piece))
+        → WasJudged g i i' Handled' y' judged
+    decides Handled' judged since handled es is whole y' left = record {
       before = h.before;
       piece = h.piece;
       came = h.came;
@@ -59,6 +62,7 @@ module _ {Z U E R : Type 0} (g : Grammar Z U E R) (i i' : Input) (stands : List 
       whole = subst (IsWhole g (events_of g h.before ++ since) judged)
           (append-nil (h.before ++ h.piece)) (all []);
       settled = inr (all, h.no_empty_take);
+      left = left;
     } where
       all : (more : List ℕ)
           → IsWhole g (events_of g h.before ++ since) judged ((h.before ++ h.piece) ++ more)
@@ -114,10 +118,12 @@ module _ {Z U E R : Type 0} (g : Grammar Z U E R) (i i' : Input) (stands : List 
       pub decides_at : (Handled' : List E → List E → Type 0)
           → Handled' (events_of g h.before) (h.since ++ e ∷ [])
           → ((more : List ℕ) → IsWhole g (events_of g p ++ e ∷ []) None (p ++ (y ++ more)))
-          → WasJudged g i i' Handled' None
-      decides_at Handled' handled whole =
+          → EndsWith g (p ++ take n y) → (y' : List ℕ) → y' ≡ drop n y
+          → WasJudged g i i' Handled' y' None
+      decides_at Handled' handled whole ended y' left =
           decides Handled' None (h.since ++ e ∷ []) handled (events_of g p ++ e ∷ [])
-          (one_more_handled e) whole
+          (one_more_handled e) whole y'
+          (λ good. (p ++ take n y, split ∙ ap (λ l. (p ++ take n y) ++ l) (sym left), inl ended))
 
       -- the handler stopped at it
       pub halted_at : (stands' : List ℕ → Type 0) (Halts : Option E → List E → List E → Type 0)
@@ -270,7 +276,7 @@ module _ {Z U E R : Type 0} (g : Grammar Z U E R) (i i1 : Input) (stands : List 
 
       -- the input is over
       pub was_over : (n : ℕ) → n ≡ 0 → Fills i1 i2 bytes (Ok n) → (judged : Option R)
-          → ending_at g q ≡ judged → WasJudged g i i2 HandledNow judged
+          → ending_at g q ≡ judged → WasJudged g i i2 HandledNow bytes judged
       was_over n zero f judged is = record {
         before = q;
         piece = [];
@@ -281,7 +287,18 @@ module _ {Z U E R : Type 0} (g : Grammar Z U E R) (i i1 : Input) (stands : List 
             (sym (append-nil (events_of g q)))
             (subst (IsWhole g (events_of g q) judged) (sym (append-nil q))
             (subst (λ v. IsWhole g (events_of g q) v q) is (whole_at_end g q pending)));
-        settled = inl (record {
+        settled = inl over;
+        left = λ good. (
+          q,
+          ap (λ l. q ++ l) (sym none),
+          inr (pending, is ∙ good, (none, over)),
+        );
+      } where
+        none : bytes ≡ []
+        none = nothing_of bytes (sym f.size ∙ zero)
+
+        over : IsOver g i i2 []
+        over = record {
           nothing = refl;
           over = told_then (λ all rest. all ≡ h.before ++ h.piece ++ rest)
               (λ l l'. (l ≡ bytes ++ l') × ((n ≡ 0) ↔ (l ≡ []))) (λ all rest. rest ≡ []) i.left
@@ -290,35 +307,47 @@ module _ {Z U E R : Type 0} (g : Grammar Z U E R) (i i1 : Input) (stands : List 
               f.moved f.ended)
               (λ all rest rest' e k. ap (λ l. l ++ rest') (sym none) ∙ sym k.0 ∙ k.1.0 zero);
           once = f.empty.once (ap Ok zero) ∙ ap one_more h.no_empty_take;
-        });
-      } where
-        none : bytes ≡ []
-        none = nothing_of bytes (sym f.size ∙ zero)
+        }
 
--- before the first byte
-pub comes_first : {Z U E R : Type 0} (g : Grammar Z U E R) (i : Input) (stands : List ℕ → Type 0)
+-- before the first byte is read, where these bytes were taken before
+pub comes_held : {Z U E R : Type 0} (g : Grammar Z U E R) (i i' : Input) (stands : List ℕ → Type 0)
     (Handled : List E → List E → Type 0) → IsPending g [] → stands [] → Handled [] []
-    → HasComeTo g i i stands Handled [] []
+    → (y : List ℕ) → length y ≤ 65536 → WasTaken y i i' → HasComeTo g i i' stands Handled [] y
 unfolding events_of events_in
-comes_first g i stands Handled pending here handled = record {
+comes_held g i i' stands Handled pending here handled y short taken = record {
   stands_for = here;
   on = pending_open g [] pending;
   before = [];
-  piece = [];
+  piece = y;
   came = record {
     pending = pending;
-    short = omega arith;
-    stream = known_told (λ all rest. all ≡ [] ++ [] ++ rest) i.left i.left
-        (λ bytes e. (bytes, e, refl));
-    took = known_told (λ t t'. t' ≡ t ++ [] ++ []) i.taken i.taken
-        (λ t e. (t, e, sym (append-nil (t ++ []) ∙ append-nil t)));
+    short = short;
+    stream = taken.stream;
+    took = told_as (λ t t'. t' ≡ t ++ y) (λ t t'. t' ≡ t ++ [] ++ y) i.taken i'.taken taken.took
+        (λ t t' e. e ∙ ap (λ l. l ++ y) (sym (append-nil t)));
   };
   joined = refl;
   since = [];
   events_are = refl;
   handled = handled;
-  no_empty_take = refl;
+  no_empty_take = taken.empty_takes;
 }
+
+-- no bytes were taken
+pub none_taken : (i : Input) → WasTaken [] i i
+none_taken i = record {
+  stream = known_told (λ all rest. all ≡ [] ++ rest) i.left i.left (λ bytes e. (bytes, e, refl));
+  took = known_told (λ t t'. t' ≡ t ++ []) i.taken i.taken (λ t e. (t, e, sym (append-nil t)));
+  faults = refl;
+  empty_takes = refl;
+}
+
+-- before the first byte
+pub comes_first : {Z U E R : Type 0} (g : Grammar Z U E R) (i : Input) (stands : List ℕ → Type 0)
+    (Handled : List E → List E → Type 0) → IsPending g [] → stands [] → Handled [] []
+    → HasComeTo g i i stands Handled [] []
+comes_first g i stands Handled pending here handled =
+    comes_held g i i stands Handled pending here handled [] (omega arith) (none_taken i)
 
 -- bytes behind which the stream may go on are no more than one too many
 pub open_within : {Z U E R : Type 0} (g : Grammar Z U E R) (ends : E → Bool) (most : ℕ)

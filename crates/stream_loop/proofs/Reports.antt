@@ -147,7 +147,7 @@ module _ {Z U E V R S : Type 0} (g : Grammar Z U E R) (f : E → V) (t : Teller 
 
   -- the stream was judged, and then the ending is put
   module _ (judged : Option R) (mid now : SinkView) (state : S)
-      (w : WasJudged g i i' (Put mid state) judged) where
+      (left : List ℕ) (w : WasJudged g i i' (Put mid state) left judged) where
     abbrev es : List E
     es = events_of g w.before ++ w.since
 

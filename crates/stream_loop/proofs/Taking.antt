@@ -1,5 +1,6 @@
 -- What was read of a stream that is followed to its end, and what was handled of it then.
-use Rattle.std.proofs.Common.{◌≡◌, ℕ, Bool, ◌⊎◌, List, [], ◌∷◌, ◌++◌, map, Some, None, Option, sym, refl}
+use Rattle.std.proofs.Common.{◌≡◌, ℕ, ◌≤◌, Bool, ◌⊎◌, List, [], ◌∷◌, ◌++◌, length, map, Some, None}
+use Rattle.std.proofs.Common.{Option, sym, refl}
 use Rattle.std.proofs.Common.{ap, ◌∙◌, subst, inl, inr, append_assoc, append-nil, arith}
 use Rattle.std.proofs.lemmas.List.{map-append}
 use Rattle.io_edges.specs.Flow.{Told}
@@ -9,9 +10,10 @@ use Rattle.stream_loop.specs.declared.following.FollowEnding.{FollowEnding}
 use Rattle.stream_loop.specs.declared.following.FollowEnding.TheVariants.{Judged, Memory, ReadFault}
 use Rattle.stream_loop.specs.{Edges.Input, Resumed.Came, Resumed.IsOver, Resumed.NoEmptyTake}
 use Rattle.stream_loop.specs.Followed.{AreFirst, AreHandled, Breaks, Decides, Follows, IsWhole}
+use Rattle.stream_loop.specs.Followed.{Leaves, WasTaken}
 use Rattle.stream_loop.specs.{Followed.Starves, Resumed.RanOut, Resumed.then_at, Resumed.WasCut}
 use Rattle.stream_loop.specs.{Resumed.WasHalted, Resumed.WasJudged}
-use Rattle.stream_loop.proofs.{Bringing.first_of_open, Reading.told_both, Writing.known_told}
+use Rattle.stream_loop.proofs.{Bringing.first_of_open, Reading.none_taken, Reading.told_both}
 use Rattle.stream_loop.proofs.Writing.{told_as}
 
 module _ {Z U E V R : Type 0} (g : Grammar Z U E R) (f : E → V) (H : List V → List V → Type 0)
@@ -27,9 +29,9 @@ module _ {Z U E V R : Type 0} (g : Grammar Z U E R) (f : E → V) (H : List V �
       (λ t t' e. e ∙ append_assoc t before piece)
 
   -- a stream that was judged
-  pub decided : (judged : Option R) → WasJudged g i i' HandledBy judged
+  pub decided : (y : List ℕ) (judged : Option R) → WasJudged g i i' HandledBy y judged
       → Decides g (AreHandled f H) i i' judged
-  decided judged w = record {
+  decided y judged w = record {
     bytes = w.before ++ w.piece;
     events = events_of g w.before ++ w.since;
     handled = record {
@@ -61,6 +63,26 @@ module _ {Z U E V R : Type 0} (g : Grammar Z U E R) (f : E → V) (H : List V �
     pending : IsOver g i i' w.piece → IsPending g (w.before ++ w.piece)
     pending over = subst (λ (y : List ℕ). IsPending g (w.before ++ y)) (sym over.nothing)
         (subst (IsPending g) (sym (append-nil w.before)) w.came.pending)
+
+  -- what is left where it ended well
+  pub left_behind : (y : List ℕ) (judged : Option R) → WasJudged g i i' HandledBy y judged
+      → judged ≡ None → Leaves g i i' y
+  left_behind y judged w good =
+      let l = w.left good in
+      record {
+        read = l.0;
+        ended = elim l.2 [
+          | inl with_these ↦ inl with_these
+          | inr cut ↦ inr (cut.0, cut.1, (cut.2.0, cut.2.1.over))
+        ];
+        stream = told_as (λ all rest. all ≡ w.before ++ w.piece ++ rest)
+            (λ all rest. all ≡ l.0 ++ y ++ rest) i.left i'.left w.came.stream
+            (λ all rest e. e ∙ ap (λ b. b ++ rest) l.1);
+        took = told_as (λ t t'. t' ≡ t ++ w.before ++ w.piece) (λ t t'. t' ≡ t ++ l.0 ++ y)
+            i.taken i'.taken w.came.took
+            (λ t t' e. e ∙ append_assoc t w.before w.piece ∙ ap (λ b. t ++ b) l.1
+            ∙ sym (append_assoc t l.0 y));
+      }
 
   -- a read failed
   pub broken : (Waits : Type 0) → WasCut g i i' HandledBy Waits → Breaks g (AreHandled f H) i i'
@@ -125,23 +147,28 @@ module _ {Z U E V R : Type 0} (g : Grammar Z U E R) (f : E → V) (H : List V �
               ∙ append_assoc (events_of g w.before ++ w.since) (event ∷ []) first.others;
         }
 
--- no memory to begin with
-pub unbegun : {Z U E R : Type 0} (g : Grammar Z U E R) (Handled : List E → Type 0) (i : Input)
-    → IsPending g [] → Handled (events_of g []) → Starves g Handled i i
-unbegun g Handled i pending handled = record {
+-- no memory to begin with, where these bytes were taken before
+pub unbegun_held : {Z U E R : Type 0} (g : Grammar Z U E R) (Handled : List E → Type 0)
+    (i i' : Input) (held : List ℕ) → IsPending g [] → length held ≤ 65536 → WasTaken held i i'
+    → Handled (events_of g []) → Starves g Handled i i'
+unbegun_held g Handled i i' held pending short taken handled = record {
   before = [];
-  piece = [];
+  piece = held;
   pending = pending;
-  short = omega arith;
+  short = short;
   events = events_of g [];
   handled = handled;
-  first = first_of_open g [] (pending_open g [] pending);
-  stream = known_told (λ all rest. all ≡ [] ++ [] ++ rest) i.left i.left
-      (λ bytes e. (bytes, e, refl));
-  took = known_told (λ t t'. t' ≡ t ++ [] ++ []) i.taken i.taken
-      (λ t e. (t, e, sym (append-nil (t ++ []) ∙ append-nil t)));
-  no_empty_take = refl;
+  first = λ more. first_of_open g [] (pending_open g [] pending) (held ++ more);
+  stream = taken.stream;
+  took = told_as (λ t t'. t' ≡ t ++ held) (λ t t'. t' ≡ t ++ [] ++ held) i.taken i'.taken taken.took
+      (λ t t' e. e ∙ ap (λ l. l ++ held) (sym (append-nil t)));
+  no_empty_take = taken.empty_takes;
 }
+
+pub unbegun : {Z U E R : Type 0} (g : Grammar Z U E R) (Handled : List E → Type 0) (i : Input)
+    → IsPending g [] → Handled (events_of g []) → Starves g Handled i i
+unbegun g Handled i pending handled =
+    unbegun_held g Handled i i [] pending (omega arith) (none_taken i) handled
 
 -- what was handled before the last pause and since then was handled
 pub handled_whole : {E V : Type 0} (f : E → V) (P : List V → Type 0) (events : List E)

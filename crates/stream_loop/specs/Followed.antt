@@ -1,8 +1,8 @@
 -- What was read of a stream that is followed to its end, and which of its events were handled.
-use Rattle.std.specs.Prelude.{◌≡◌, ℕ, ◌≤◌, ◌⊎◌, List, [], ◌++◌, length, map, Option}
+use Rattle.std.specs.Prelude.{◌≡◌, ℕ, ◌<◌, ◌≤◌, true, ◌⊎◌, List, [], ◌++◌, length, map, take, None, Option}
 use Rattle.io_edges.specs.{Faults.one_more, Flow.Told}
 use Rattle.unit_streams.specs.{Going.IsPending, Grammar.Grammar}
-use Rattle.unit_streams.specs.Judging.{events, events_of, history}
+use Rattle.unit_streams.specs.Judging.{ending_at, events, events_of, history, is_over_at}
 use Rattle.stream_loop.specs.{declared.following.FollowEnding.FollowEnding, Edges.Input}
 use Rattle.stream_loop.specs.declared.following.FollowEnding.TheVariants.{Judged, Memory, ReadFault}
 
@@ -24,6 +24,16 @@ module _ {Z U E R : Type 0} (g : Grammar Z U E R) where
   pub record AreFirst (handled : List E) (bytes : List ℕ) : Type 0 where
     pub others : List E
     pub joined : events g bytes ≡ handled ++ others
+
+  -- the stream ends with these bytes, and with no shorter ones
+  pub record EndsWith (bytes : List ℕ) : Type 0 where
+    pub over : is_over_at g bytes ≡ true
+    pub first : (n : ℕ) → n < length bytes → IsPending g (take n bytes)
+
+  -- these bytes were read of a stream that ended well: it ends with them, or with the input
+  abbrev pub EndsWell : (read : List ℕ) → (AtEnd : Type 0) → Type 0
+  EndsWell read AtEnd = EndsWith read
+      ⊎ (IsPending g read × (ending_at g read ≡ None) × AtEnd)
 
   module _ (Handled : List E → Type 0) (i i' : Input) where
     -- What was read and handled of a stream that is judged: bytes, and all their events. Either the
@@ -71,3 +81,19 @@ module _ {Z U E R : Type 0} (g : Grammar Z U E R) where
     Follows (Judged judged) = Decides judged
     Follows ReadFault = Breaks
     Follows Memory = Starves
+
+-- What is left where a stream that came from an input has ended well, and these bytes are held:
+-- what was taken of the input and wasn't read.
+pub record Leaves {Z U E R : Type 0} (g : Grammar Z U E R) (i i' : Input) (held : List ℕ) : Type 0
+  where
+    pub read : List ℕ
+    pub ended : EndsWell g read ((held ≡ []) × Told i.left i'.left (λ all rest. rest ≡ []))
+    pub stream : Told i.left i'.left (λ all rest. all ≡ read ++ held ++ rest)
+    pub took : Told i.taken i'.taken (λ t t'. t' ≡ t ++ read ++ held)
+
+-- an input from which these bytes were taken before it was like this
+pub record WasTaken (held : List ℕ) (i now : Input) : Type 0 where
+  pub stream : Told i.left now.left (λ all rest. all ≡ held ++ rest)
+  pub took : Told i.taken now.taken (λ t t'. t' ≡ t ++ held)
+  pub faults : now.faults ≡ i.faults
+  pub empty_takes : now.empty_takes ≡ i.empty_takes

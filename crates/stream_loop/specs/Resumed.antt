@@ -8,7 +8,7 @@ use Rattle.unit_streams.specs.Judging.{events_of}
 use Rattle.stream_loop.specs.declared.resuming.ReadOn.{ReadOn}
 use Rattle.stream_loop.specs.declared.resuming.ReadOn.TheVariants.{Halted, Judged, Memory}
 use Rattle.stream_loop.specs.declared.resuming.ReadOn.TheVariants.{ReadFault}
-use Rattle.stream_loop.specs.{Edges.Input, Followed.AreFirst, Followed.IsWhole}
+use Rattle.stream_loop.specs.{Edges.Input, Followed.AreFirst, Followed.EndsWell, Followed.IsWhole}
 
 -- with an event behind them, where there is one
 abbrev pub then_at : {E : Type 0} → List E → Option E → List E
@@ -52,8 +52,10 @@ module _ {Z U E R : Type 0} (g : Grammar Z U E R) (i i' : Input) where
     pub handled : Handled (events_of g before) since
     pub no_empty_take : NoEmptyTake
 
-  -- the stream was judged: by the end of the input, or however it goes on
-  pub record WasJudged (Handled : List E → List E → Type 0) (judged : Option R) : Type 0 where
+  -- The stream was judged: by the end of the input, or however it goes on. Where it ended well, y
+  -- is buffered behind what was read of it.
+  pub record WasJudged (Handled : List E → List E → Type 0) (y : List ℕ) (judged : Option R)
+      : Type 0 where
     pub before : List ℕ
     pub piece : List ℕ
     pub came : Came before piece
@@ -63,6 +65,8 @@ module _ {Z U E R : Type 0} (g : Grammar Z U E R) (i i' : Input) where
     pub settled : IsOver piece
         ⊎ (((more : List ℕ) → IsWhole g (events_of g before ++ since) judged
         ((before ++ piece) ++ more)) × NoEmptyTake)
+    pub left : judged ≡ None → (read : List ℕ) × (before ++ piece ≡ read ++ y)
+        × EndsWell g read ((y ≡ []) × IsOver piece)
 
   -- A read failed behind these pieces, whose events were handled. What was due for them has left.
   pub record WasCut (Handled : List E → List E → Type 0) (Waits : Type 0) : Type 0 where
@@ -108,7 +112,7 @@ module _ {Z U E R : Type 0} (g : Grammar Z U E R) (i i' : Input) where
   abbrev pub ReadsOn : {H : Type 0} → (ends : E → Bool) → (stands : List ℕ → Type 0)
       → (Handled : List E → List E → Type 0) → (Halts : H → Option E → List E → List E → Type 0)
       → (Waits : Type 0) → (y : List ℕ) → ReadOn R H → Type 0
-  ReadsOn ends stands Handled Halts Waits y (Judged judged) = WasJudged Handled judged
+  ReadsOn ends stands Handled Halts Waits y (Judged judged) = WasJudged Handled y judged
   ReadsOn ends stands Handled Halts Waits y ReadFault = WasCut Handled Waits
   ReadsOn ends stands Handled Halts Waits y Memory = RanOut Handled
   ReadsOn ends stands Handled Halts Waits y (Halted halt) = WasHalted ends stands (Halts halt) y

@@ -26,6 +26,6 @@ module _ {Z U E R : Type 0} (g : Grammar Z U E R) (stands : List ℕ → Type 0)
       → (i i' : Input) → (p y y' : List ℕ) → Step R H → Type 0
   Handles ends Halts i i' p y y' Handled = HandlesOne i i' p y'
   Handles ends Halts i i' p y y' AllRead = ReadsAll i i' p y y'
-  Handles ends Halts i i' p y y' (Judged judged) = WasJudged g i i' HandledSo judged
+  Handles ends Halts i i' p y y' (Judged judged) = WasJudged g i i' HandledSo y' judged
   Handles ends Halts i i' p y y' Memory = RanOut g i i' HandledSo
   Handles ends Halts i i' p y y' (Halted halt) = WasHalted g i i' ends stands (Halts halt) y'

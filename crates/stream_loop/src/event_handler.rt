@@ -38,9 +38,9 @@ pub trait EventHandler<Event, O> {
     /// Nothing was put to the direction in between.
     ghost is_unput: { O → O → Type 0 };
 
-    /// Handles an event, and gives an event back whose memory the reading end may use again. An
-    /// error stops the reading right behind the event.
-    fn handle(&mut self, event: Event, output: &mut O) -> Result<Event, Self::Halt>
+    /// Handles an event, and gives one back whose memory the reading end may use again, where it has
+    /// one. An error stops the reading right behind the event.
+    fn handle(&mut self, event: Event, output: &mut O) -> Result<Option<Event>, Self::Halt>
         ensures handled { (first : O) (paused since : List Event)
             → handled first paused since self.old output.old
             → OnOk result (handled first paused (since ++ event ∷ []) self.new output.new) }

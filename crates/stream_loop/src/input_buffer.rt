@@ -49,7 +49,8 @@ impl InputBuffer {
 
     /// The bytes that aren't used yet.
     pub fn bytes(&self) -> &[u8]
-        ensures { result.now ≡ self.now }
+        ensures held { result.now ≡ self.now }
+        ensures short { length self.now ≤ 65536 }
     {
         &self.room[self.from..self.to]
     }

@@ -26,7 +26,9 @@
 //! failed, and the stream is read on to its end, as at an end of a connection that answers. The
 //! contract says which events were handled, by the whole stream: all of its history, where the
 //! stream is judged; those of the bytes that were read, where a read failed; and first ones of
-//! these, where memory ran out. For handlers that write of the events what a `Teller`
+//! these, where memory ran out. [`follow_on`] does the same from bytes that were taken before, and
+//! leaves those behind the stream's end, so that one connection may carry a stream behind another.
+//! For handlers that write of the events what a `Teller`
 //! (`unit_streams`) says, [`Outbound`] is what has become of the writing, and [`put_bytes`],
 //! [`flush`] and [`run_out`] are the steps of it. A handler that gathers what is due does so
 //! by a [`PartWriter`], which counts the parts that left whole; [`put_parts`] says how many bytes
@@ -54,7 +56,7 @@ mod reporting;
 mod resuming;
 
 pub use event_handler::EventHandler;
-pub use following::{FollowEnding, follow_stream};
+pub use following::{FollowEnding, follow_on, follow_stream};
 pub use input_buffer::InputBuffer;
 pub use outbound::{Outbound, flush, put_bytes, put_parts, run_out};
 pub use part_writer::PartWriter;

@@ -1,8 +1,8 @@
 //! What reads a stream in pieces.
 
-ghost use Rattle.std.specs.Prelude.{◌≡◌, ⊤, ℕ, List, ◌++◌, length, take, Bool, false, IfOk};
+ghost use Rattle.std.specs.Prelude.{◌≡◌, ⊤, ℕ, List, ◌++◌, length, take, Bool, false, Some, IfOk};
 ghost use Rattle.unit_streams.specs.Grammar.{Grammar};
-ghost use Rattle.unit_streams.specs.Judging.{answer, is_over_at, ending_at};
+ghost use Rattle.unit_streams.specs.Judging.{answer, event_at, is_over_at, ending_at};
 ghost use Rattle.stream_loop.specs.Answers.{Says, said_at_end};
 
 /// Why a piece isn't read on.
@@ -76,9 +76,10 @@ pub trait ReadingEnd {
             → result ≡ said_at_end (ending_at (grammar self.old) p) }
         ensures grammar { grammar self.new ≡ grammar self.old };
 
-    /// Whether the stream ends with this event.
+    /// Whether the stream ends with this event, which some bytes of a stream complete.
     fn is_end(&self, event: &Self::Event) -> bool
-        ensures { (completed : Completed) → event.now ≡ event_for completed
+        ensures { (p : List ℕ) (completed : Completed)
+            → event_at (grammar self.now) p ≡ Some completed → event.now ≡ event_for completed
             → result ≡ ends completed };
 
     /// Takes back an event that is no longer needed; the next one reuses its memory.

@@ -40,9 +40,9 @@ impl<'t, Event: Drop, R, T: Reporter<Event, R>, K: Sink> EventHandler<Event, K>
 
     ghost is_unput = { λ old new. ⊤ };
 
-    fn handle(&mut self, event: Event, output: &mut K) -> Result<Event, SinkFault> {
+    fn handle(&mut self, event: Event, output: &mut K) -> Result<Option<Event>, SinkFault> {
         self.reporter.put_event(&event, output)?;
-        Ok(event)
+        Ok(Some(event))
     }
 
     fn pause(&mut self, output: &mut K) -> Result<(), SinkFault> {

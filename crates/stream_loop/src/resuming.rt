@@ -57,6 +57,16 @@ fn fill_more<I: Source, Event, O, H: EventHandler<Event, O>>(
     buffer.fill(input)
 }
 
+// Hands an event back, where there is one.
+fn hand_back<E: ReadingEnd>(end: &mut E, spent: Option<E::Event>)
+    ensures stands { (p : List ℕ) → E.stands end.old p → E.stands end.new p }
+    ensures grammar { E.grammar end.new ≡ E.grammar end.old }
+{
+    if let Some(event) = spent {
+        end.recycle(event);
+    }
+}
+
 // Reads the bytes that are left up to the next event, and has that handled.
 fn handle_next<E: ReadingEnd, O, H: EventHandler<E::Event, O>>(
     buffer: &mut InputBuffer,
@@ -94,13 +104,14 @@ fn handle_next<E: ReadingEnd, O, H: EventHandler<E::Event, O>>(
         Ok((n, Some(event))) => {
             buffer.consume(n);
             let is_last = end.is_end(&event);
-            match handler.handle(event, output) {
+            let spent = match handler.handle(event, output) {
                 Err(halt) => return Step::Halted(halt),
-                Ok(spent) => end.recycle(spent),
-            }
+                Ok(spent) => spent,
+            };
             if is_last {
                 return Step::Judged(None);
             }
+            hand_back(end, spent);
             Step::Handled
         }
     }

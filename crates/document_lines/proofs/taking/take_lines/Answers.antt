@@ -126,7 +126,7 @@ loop-n-smaller g c =
     let after = c.read_piece.new.self.taken in
     let n = c.in-Ok-fill.n in
     let more : after ≡ before + n = reads.taken
-    ∙ ap (λ m. before + m) (ap length c.bytes.ensures ∙ sym c.in-Ok-fill.ensures.size) in
+    ∙ ap (λ m. before + m) (ap length c.bytes.ensures.held ∙ sym c.in-Ok-fill.ensures.size) in
     let quota = c.args.reader.now.quota in
     let same : c.read_piece.new.self.quota ≡ quota = reads.quota ∙ c.loop-n.invariant.quota in
     less_left quota before after n more c.if-n-eq0.false
@@ -146,7 +146,7 @@ loop-n-preserved g c =
           let reads : ReadsPiece (g.D.Keeper.kept first) c.loop-n.reader.quota
           c.read_piece.new.self (p g f) (y g f) (Ok c.in_ok-read_piece.field-0) =
           subst (λ (b : List ℕ). ReadsPiece (g.D.Keeper.kept first) c.loop-n.reader.quota
-          c.read_piece.new.self (p g f) b (Ok c.in_ok-read_piece.field-0)) c.bytes.ensures
+          c.read_piece.new.self (p g f) b (Ok c.in_ok-read_piece.field-0)) c.bytes.ensures.held
           (c.in_ok-read_piece.ensures.reads first (p g f) before) in (
             p g f ++ y g f,
             reads.0,
@@ -169,7 +169,7 @@ returns-in_err-read_piece-clause-takes g c =
     let read : ReadsPiece kept c.loop-n.reader.quota new before (y g f)
     (Err c.in_err-read_piece.field-0.0) =
     subst (λ (b : List ℕ). ReadsPiece kept c.loop-n.reader.quota new before b
-    (Err c.in_err-read_piece.field-0.0)) f.bytes.ensures
+    (Err c.in_err-read_piece.field-0.0)) f.bytes.ensures.held
     (c.in_err-read_piece.ensures.reads first before c.loop-n.invariant.reads.1) in
     let reads : ReadsPiece kept quota new before (y g f) (Err c.in_err-read_piece.field-0.0) =
     subst (λ (n : ℕ). ReadsPiece kept n new before (y g f) (Err c.in_err-read_piece.field-0.0))

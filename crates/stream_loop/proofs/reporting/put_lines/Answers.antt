@@ -161,7 +161,7 @@ returns-in_err-put_ending-in-Judged-clause-reports g c =
     (Err c.in_err-put_ending-in-Judged.field-0.0)) (sym c.put_ending.ensures.state)
     (unsaid_reports (x g f) (event_for g) (t g f) (i g f) (i' g f) (start g f) (first g f)
     (flushed g f) f.in_ok-flush.ensures.emptied c.in-Judged.refusal (mid g f)
-    (g.O.Sink.view c.put_ending.new.output) (s g f)
+    (g.O.Sink.view c.put_ending.new.output) (s g f) _
     (reads_as g f _ c.in-Judged.is) c.in_err-put_ending-in-Judged.field-0.0
     (ending_put g f c.in-Judged.refusal _ (g.O.Sink.view c.put_ending.new.output)
     c.in_err-put_ending-in-Judged.ensures.puts)))
@@ -195,7 +195,7 @@ returns-in_ok-put_ending-in-Judged-clause-reports g c =
     (Ok (endings.Judged c.in-Judged.refusal))) (sym c.put_ending.ensures.state)
     (judged_reports (x g f) (event_for g) (t g f) (i g f) (i' g f) (start g f) (first g f)
     (flushed g f) f.in_ok-flush.ensures.emptied c.in-Judged.refusal (mid g f)
-    (g.O.Sink.view c.put_ending.new.output) (s g f)
+    (g.O.Sink.view c.put_ending.new.output) (s g f) _
     (reads_as g f _ c.in-Judged.is)
     (ending_put g f c.in-Judged.refusal _ (g.O.Sink.view c.put_ending.new.output)
     c.in_ok-put_ending-in-Judged.ensures.puts))

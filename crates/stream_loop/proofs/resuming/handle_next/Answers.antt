@@ -2,8 +2,8 @@ use Rattle.std.proofs.Common.{◌≡◌, ℕ, false, List, [], ◌∷◌, ◌++�
 use Rattle.std.proofs.Common.{Ok, Err, sym, ap, ◌∙◌, subst}
 use Rattle.std.proofs.lemmas.List.{map-append}
 use Rattle.unit_streams.proofs.Pending.{open_going_on, pending_open}
-use Rattle.unit_streams.specs.{Grammar.Grammar, Judging.answer, Judging.events_of}
-use Rattle.unit_streams.specs.Judging.{is_over_at}
+use Rattle.unit_streams.specs.{Grammar.Grammar, Judging.answer, Judging.event_at}
+use Rattle.unit_streams.specs.Judging.{events_of, is_over_at}
 use Rattle.stream_loop.specs.{declared.reading_end.FeedFault.TheVariants.Refused, Answers.Says}
 use Rattle.stream_loop.specs.{Edges.Input, Resumed.HasComeTo}
 use Rattle.stream_loop.proofs.Bringing.{brings_event, brings_none, brings_refusal, BringsEvent}
@@ -35,7 +35,7 @@ module _ (g : Over) (f : After-feed g) where
       (HandledBy first f.args.handler.now f.args.output.now) p f.args.buffer.now) where
     says : is_over_at x p ≡ false → Says event_for (length y) (answer x p y) f.feed.result
     says on = subst (λ (l : List ℕ). Says event_for (length l) (answer x p l) f.feed.result)
-        f.bytes.ensures (f.feed.ensures.answers p h.stands_for on)
+        f.bytes.ensures.held (f.feed.ensures.answers p h.stands_for on)
 
     not_over : is_over_at x p ≡ false
     not_over = open_going_on x p h.on
@@ -78,7 +78,7 @@ returns-in-Err-Refused-clause-handles g c = λ i i' first p h.
     ∙ ap Err (c.in-Err-Refused.field-0-is ∙ ap Refused c.in-Err-Refused.refusal-is) in
     decides (x g f) i i' _ _ p (y g f) h _ (Some o) h.since h.handled (events_of (x g f) p)
     h.events_are (brings_refusal (x g f) (event_for g f) g.E.ReadingEnd.ends f.requires.closes p
-    (y g f) h.on f.feed.result (says g f i i' first p h) o is)
+    (y g f) h.on f.feed.result (says g f i i' first p h) o is) _ (λ e. cc)
 
 -- nothing more
 pub returns-in-Ok-default-None-clause-handles : goal.returns-in-Ok-default-None-clause-handles
@@ -94,7 +94,7 @@ returns-in-Ok-default-None-clause-handles g c = λ i i' first p h.
       pending = m.1;
       come = all_were_read (x g f) i i' _ _ p (y g f) h (g.E.ReadingEnd.stands c.feed.new.self) _
           (subst (λ (l : List ℕ). g.E.ReadingEnd.stands c.feed.new.self (p ++ l))
-          (ap (take n) f.bytes.ensures ∙ m.0)
+          (ap (take n) f.bytes.ensures.held ∙ m.0)
           (c.in-Ok-default-None.ensures.stands p h.stands_for (not_over g f i i' first p h)))
           (pending_open (x g f) (p ++ y g f) m.1) m.2 h.handled;
     }
@@ -111,7 +111,7 @@ returns-in-Err-clause-handles g c = λ i i' first p h.
     let b = event g f i i' first p h n v is in
     halted_at (x g f) i i' _ _ p (y g f) h n b.event b.within b.events_are
     (g.E.ReadingEnd.stands c.feed.new.self) _
-    (subst (λ (l : List ℕ). g.E.ReadingEnd.stands c.feed.new.self (p ++ take n l)) f.bytes.ensures
+    (subst (λ (l : List ℕ). g.E.ReadingEnd.stands c.feed.new.self (p ++ take n l)) f.bytes.ensures.held
     (c.in-Ok-default-Some.ensures.stands p h.stands_for (not_over g f i i' first p h)))
     (subst (λ (w : g.row.E-Event.Denot). g.H.EventHandler.halted first
     (map (event_for g f) (events_of (x g f) h.before)) (map (event_for g f) h.since) (Some w)
@@ -129,10 +129,13 @@ returns-then-is_last-clause-handles g c = λ i i' first p h.
     b = c.in-Ok-default-Some.field-0-1-is in let d = c.in-Ok-default-Some.n-is in let
     e = c.in-Ok-default-Some.event-is in cc) in
     let b = event g f i i' first p h n v is in
+    let is_end = sym (c.is_end-is_last.ensures (p ++ take n (y g f)) b.event
+    (ap (λ s. event_at s (p ++ take n (y g f))) c.in-Ok-default-Some.ensures.grammar ∙ b.completed)
+    b.is) ∙ c.if-is_last.true in
     decides_at (x g f) i i' _ _ p (y g f) h n b.event b.within b.events_are _
     (rw (← values_more g f i i' first p h b.event v b.is)
     (c.in-Ok.ensures.handled first _ _ h.handled))
-    (b.last (sym (c.is_end-is_last.ensures b.event b.is) ∙ c.if-is_last.true))
+    (b.last is_end) (b.ended is_end) c.consume.new.self c.consume.ensures
 
 -- one more event
 pub returns-else-is_last-clause-handles : goal.returns-else-is_last-clause-handles
@@ -145,11 +148,13 @@ returns-else-is_last-clause-handles g c = λ i i' first p h.
     e = c.in-Ok-default-Some.event-is in cc) in
     let b = event g f i i' first p h n v is in
     handled_one (x g f) i i' _ _ p (y g f) h n b.event b.within b.events_are
-    (g.E.ReadingEnd.stands c.recycle.new.self) _ b.some
-    (c.recycle.ensures.stands _
-    (subst (λ (l : List ℕ). g.E.ReadingEnd.stands c.feed.new.self (p ++ take n l)) f.bytes.ensures
+    (g.E.ReadingEnd.stands c.hand_back.new.end) _ b.some
+    (c.hand_back.ensures.stands _
+    (subst (λ (l : List ℕ). g.E.ReadingEnd.stands c.feed.new.self (p ++ take n l)) f.bytes.ensures.held
     (c.in-Ok-default-Some.ensures.stands p h.stands_for (not_over g f i i' first p h))))
-    (b.stays_open (sym (c.is_end-is_last.ensures b.event b.is) ∙ c.if-is_last.false))
+    (b.stays_open (sym (c.is_end-is_last.ensures (p ++ take n (y g f)) b.event
+    (ap (λ s. event_at s (p ++ take n (y g f))) c.in-Ok-default-Some.ensures.grammar ∙ b.completed)
+    b.is) ∙ c.if-is_last.false))
     (rw (← values_more g f i i' first p h b.event v b.is)
     (c.in-Ok.ensures.handled first _ _ h.handled))
     c.consume.new.self c.consume.ensures
