@@ -1,21 +1,23 @@
 //! A wire over the system's TCP sockets.
 
-ghost use Rattle.std.specs.Prelude.{◌≡◌, ◌<◌, ◌+◌, ◌^◌, false, None, IsErr, OnErr, OnOk, IfOk, IfSome, IsSome};
+ghost use Rattle.std.specs.Prelude.{◌≡◌, ◌<◌, ◌≤◌, ◌+◌, ◌^◌, true, false, None, IsErr, OnErr, OnOk, IfOk, IfSome, IsSome};
 ghost use Rattle.io_edges.specs.Faults.{CountsOne};
 ghost use Rattle.io_edges.specs.Adapters.{read_faults};
 ghost use Rattle.io_edges.specs.Wires.{added_up};
-ghost use Rattle.io_edges.specs.Tcp.{has_ended, sink_faults, wire_out, wire_faults, wire_end_faults};
+ghost use Rattle.std.specs.IoError.{error_kind, raw_os_error};
+ghost use Rattle.io_edges.specs.Tcp.{has_ended, sink_faults, wire_out, wire_faults, wire_end_faults, wire_retried, is_gone, Lacks, Retries};
 
 use crate::wire::Wire;
 use crate::{Failed, ReadSource, TcpSink};
-use std::io;
 use std::net::{Net, OpenListener, OpenStream, Shutdown, SocketAddr, TcpListener, TcpStream};
-use std::time::Duration;
+use std::time::{Clock, Duration};
+use std::{io, thread};
 
 /// A wire over TCP. A place is a host's name or address and a port, as `localhost:808` or
 /// `[::1]:808`; it listens at the place of its first accept, from then on. Sockets send at once
 /// what is put to them (`TCP_NODELAY`), since a session is many small writes. A bind, an accept or
-/// a connect that fails counts as a fault of the wire, and none is tried again; what a connection
+/// a connect that fails counts as a fault of the wire, and none is tried again but an accept that
+/// fails for one connection's sake, or for a while: see [`TcpWire::retried`]. What a connection
 /// meets later, such as a peer that resets it, counts at its ends. It doesn't show which bytes
 /// moved.
 #[derive(Drop)]
@@ -25,6 +27,75 @@ pub struct TcpWire<R: Net> {
     out: u64,
     faults: u64,
     end_faults: u64,
+    retried: u64,
+}
+
+// How often an accept is tried again at most, and the milliseconds before it is where the system has
+// run out of something. That is a minute.
+const MOST_RETRIES: u32 = 1_200;
+
+const PAUSE: u64 = 50;
+
+// Why an accept is tried again.
+#[derive(Clone, Copy, Debug, PartialEq, Eq)]
+enum Retry {
+    // The peer was gone before its connection was accepted. The next one may be there.
+    AtOnce,
+    // The system has no descriptor or no memory left for one more. That passes as connections end.
+    Later,
+}
+
+// Whether the peer was gone before its connection was accepted.
+fn is_gone(kind: io::ErrorKind) -> bool
+    ensures { result ≡ is_gone kind }
+{
+    matches!(
+        kind,
+        io::ErrorKind::ConnectionAborted | io::ErrorKind::ConnectionReset
+    )
+}
+
+// Whether the system has run out of memory, descriptors or buffers.
+fn lacks(code: Option<i32>) -> bool
+    ensures yes { result ≡ true → Lacks code }
+    ensures no { result ≡ false → Lacks code → ⊥ }
+{
+    code == Some(12) || code == Some(23) || code == Some(24) || code == Some(105)
+}
+
+// Whether an accept that failed so is tried again.
+fn retry_of(error: &io::Error) -> Option<Retry>
+    ensures { Retries (error_kind error.now) (raw_os_error error.now) result }
+{
+    if is_gone(error.kind()) {
+        return Some(Retry::AtOnce);
+    }
+    if lacks(error.raw_os_error()) {
+        return Some(Retry::Later);
+    }
+    None
+}
+
+// The next connection of a listener. The count rises with each try that failed and isn't the last.
+fn next_of<R: Clock, L: OpenListener>(
+    rt: &R,
+    listener: &L,
+    retried: &mut u64,
+) -> io::Result<L::Stream>
+    ensures { (retried.old ≤ retried.new) × (retried.new ≤ retried.old + 1200) }
+{
+    for tried in 0..MOST_RETRIES {
+        match listener.accept() {
+            Ok((stream, _)) => return Ok(stream),
+            Err(e) => match retry_of(&e) {
+                Some(Retry::AtOnce) => {}
+                Some(Retry::Later) => thread::sleep(rt, Duration::from_millis(PAUSE)),
+                None => return Err(e),
+            },
+        }
+        *retried = retried.saturating_add(1);
+    }
+    Ok(listener.accept()?.0)
 }
 
 impl<R: Net> TcpWire<R> {
@@ -39,7 +110,17 @@ impl<R: Net> TcpWire<R> {
             out: 0,
             faults: 0,
             end_faults: 0,
+            retried: 0,
         }
+    }
+
+    /// How many accepts were tried again, up to 2^64 - 1: at once where the peer was gone before its
+    /// connection was accepted (aborted or reset), and after 50 ms where the system had no descriptor
+    /// or no memory left for one more. One call tries 1,200 times more at most, and fails then.
+    pub fn retried(&self) -> u64
+        ensures { result ≡ wire_retried self.now }
+    {
+        self.retried
     }
 
     /// Listens at that place, unless it listens already, and answers the address where it listens.
@@ -60,17 +141,21 @@ impl<R: Net> TcpWire<R> {
 
     // Waits for the next connection, at that place where it doesn't listen yet.
     fn next_stream(&mut self, place: &str) -> io::Result<R::Stream>
-        ensures { (wire_out self.new ≡ wire_out self.old)
+    where
+        R: Clock,
+        ensures kept { (wire_out self.new ≡ wire_out self.old)
             × (wire_faults self.new ≡ wire_faults self.old)
             × (wire_end_faults self.new ≡ wire_end_faults self.old) }
+        ensures retried { (wire_retried self.old ≤ wire_retried self.new)
+            × (wire_retried self.new ≤ wire_retried self.old + 1200) }
     {
         if let Some(listener) = &self.listener {
-            return Ok(listener.accept()?.0);
+            return next_of(&self.rt, listener, &mut self.retried);
         }
         let listener = TcpListener::bind(&self.rt, place)?;
-        let accepted = listener.accept();
+        let accepted = next_of(&self.rt, &listener, &mut self.retried);
         self.listener = Some(listener);
-        Ok(accepted?.0)
+        accepted
     }
 
     // The answer of a call that was to give a stream.
@@ -85,6 +170,7 @@ impl<R: Net> TcpWire<R> {
         ensures failed { OnErr result (wire_out self.new ≡ wire_out self.old) }
         ensures counted { CountsOne (wire_faults self.old) (wire_faults self.new) (IsErr result) }
         ensures kept { wire_end_faults self.new ≡ wire_end_faults self.old }
+        ensures retried { wire_retried self.new ≡ wire_retried self.old }
     {
         match ends {
             Ok(ends) => {
@@ -111,7 +197,7 @@ fn ends_of<S: io::Read + io::Write + OpenStream + Drop>(
     Ok((ReadSource::new(stream), TcpSink::new(other)))
 }
 
-impl<R: Net> Wire for TcpWire<R>
+impl<R: Net + Clock> Wire for TcpWire<R>
 where
     R::Stream: Send,
 {
@@ -142,6 +228,8 @@ where
         ensures failed { OnErr result (wire_out self.new ≡ wire_out self.old) }
         ensures counted { CountsOne (wire_faults self.old) (wire_faults self.new) (IsErr result) }
         ensures kept { wire_end_faults self.new ≡ wire_end_faults self.old }
+        ensures retried { (wire_retried self.old ≤ wire_retried self.new)
+            × (wire_retried self.new ≤ wire_retried self.old + 1200) }
     {
         let ends = match self.next_stream(place) {
             Ok(stream) => ends_of(stream),
