@@ -1,7 +1,6 @@
--- the texts of a file, one row more; the blocks that are understood; what may stand in a Body
+-- the texts of a file, one row more; what may stand in a Body
 pub mod TextFacts
 pub mod RowFacts
-pub mod BlockFacts
 pub mod Replies
 pub mod AnswerFacts
 pub mod AskedFacts
@@ -9,5 +8,6 @@ pub mod MeasuredFacts
 pub mod TextSizes
 -- worked cases
 mod Requests
-mod Worked
+pub mod Worked
+mod WorkedVersions
 mod WorkedFiles

@@ -6,6 +6,7 @@ use Rattle.soap_envelope.proofs.Documents.{acting, action, addressing_action, at
 use Rattle.soap_envelope.proofs.Documents.{enveloped, fault, hi, identified, message, related}
 use Rattle.soap_envelope.proofs.Documents.{reply, role, s, secured, soap_action, subcode, words}
 use Rattle.soap_envelope.proofs.OnLiterals.{envelopes_on_literals}
+use Rattle.soap_envelope.specs.declared.versions.Addressing.TheVariants.{V10}
 use Rattle.action_dispatch.specs.{declared.answers.Answer.Answer, Actions.text_for}
 use Rattle.action_dispatch.specs.declared.answers.Answer.TheVariants.{Nothing, Reply}
 use Rattle.action_dispatch.specs.{Answers.answered, Answers.Serves, Refusals.unfit_fault}
@@ -13,30 +14,30 @@ use Rattle.action_dispatch.specs.Services.{echoed, reply_with}
 use Rattle.action_dispatch.proofs.Requests.{reply_to, request}
 use Rattle.action_dispatch.specs.declared.service.Served.TheVariants as said
 
-abbrev Row : Type 0
+abbrev pub Row : Type 0
 Row = List Item × Answer
 
-abbrev AllAnswered : Serves → List Row → Type 0
+abbrev pub AllAnswered : Serves → List Row → Type 0
 AllAnswered serves rows =
     map (λ (r : Row). answered serves r.0) rows ≡ map (λ (r : Row). r.1) rows
 
 -- a request that is served is echoed under its action, and relates to its identifier
 echoes : AllAnswered echoed (
-    (echo, Reply (reply (codes "urn:echoResponse") hi) identified)
+    (echo, Reply (reply (codes "urn:echoResponse") hi) identified V10)
     ∷ (
       request action,
       Reply (enveloped (s (codes "Header") (acting (codes "urn:echoResponse"))
-          ++ s (codes "Body") hi)) [],
+          ++ s (codes "Body") hi)) [] V10,
     )
     ∷ (
       request (action ++ message
           ++ reply_to (codes "http://www.w3.org/2005/08/addressing/anonymous")),
-      Reply (reply (codes "urn:echoResponse") hi) identified,
+      Reply (reply (codes "urn:echoResponse") hi) identified V10,
     )
     ∷ (
       request (secured (role (codes "http://www.w3.org/2003/05/soap-envelope/role/none") ∷ [])
           ++ action ++ message),
-      Reply (reply (codes "urn:echoResponse") hi) identified,
+      Reply (reply (codes "urn:echoResponse") hi) identified V10,
     )
     ∷ [])
 unfolding envelopes_on_literals
@@ -70,17 +71,17 @@ other : List Item
 other = reply_to (codes "urn:other")
 
 refusals : AllAnswered echoed (
-    (request (secured [] ++ action ++ message), Reply not_understood identified)
+    (request (secured [] ++ action ++ message), Reply not_understood identified V10)
     ∷ (
       request (action
           ++ secured (role (codes "http://www.w3.org/2003/05/soap-envelope/role/next") ∷ [])
           ++ message),
-      Reply not_understood identified,
+      Reply not_understood identified V10,
     )
-    ∷ (request (secured [] ++ message ++ other), Reply not_understood identified)
-    ∷ (request message, Reply no_action identified)
-    ∷ (request (message ++ other), Reply no_action identified)
-    ∷ (request (action ++ message ++ other), Reply elsewhere identified)
+    ∷ (request (secured [] ++ message ++ other), Reply not_understood identified V10)
+    ∷ (request message, Reply no_action identified V10)
+    ∷ (request (message ++ other), Reply no_action identified V10)
+    ∷ (request (action ++ message ++ other), Reply elsewhere identified V10)
     ∷ (request (action ++ message ++ nobody), Nothing)
     ∷ (request (secured [] ++ nobody), Nothing)
     ∷ [])
@@ -99,20 +100,20 @@ ill_formed =
 
 documents : AllAnswered echoed ((
   s (codes "Other") (Xmlns (codes "s") (codes "http://www.w3.org/2003/05/soap-envelope") ∷ []),
-  Reply no_envelope [],
+  Reply no_envelope [] V10,
 )
-    ∷ (s (codes "Envelope") (Xmlns (codes "s") (codes "urn:s") ∷ []), Reply no_envelope [])
+    ∷ (s (codes "Envelope") (Xmlns (codes "s") (codes "urn:s") ∷ []), Reply no_envelope [] V10)
     ∷ (
       request (action ++ action ++ message),
       Reply (
           fault addressing_action [] (codes "s:Sender")
           (subcode (codes "a:InvalidAddressingHeader") (subcode (codes "a:InvalidCardinality") []))
           (codes "An addressing header is repeated.")
-          ) [],
+          ) [] V10,
     )
-    ∷ (enveloped (s (codes "Header") (action ++ nobody)), Reply ill_formed [])
-    ∷ (request (words (codes "a") ∷ nobody), Reply ill_formed [])
-    ∷ (s (codes "Envelope") [], Reply ill_formed [])
+    ∷ (enveloped (s (codes "Header") (action ++ nobody)), Reply ill_formed [] V10)
+    ∷ (request (words (codes "a") ∷ nobody), Reply ill_formed [] V10)
+    ∷ (s (codes "Envelope") [], Reply ill_formed [] V10)
     ∷ [])
 unfolding envelopes_on_literals no_envelope ill_formed nobody
 documents = refl
@@ -130,11 +131,11 @@ unsupported =
 of_texts : AllAnswered texts ((
   echo,
   Reply (reply (codes "urn:echoResponse")
-      (Start [] (codes "reply") ∷ words (codes "ok") ∷ Close ∷ [])) identified,
+      (Start [] (codes "reply") ∷ words (codes "ok") ∷ Close ∷ [])) identified V10,
 )
     ∷ (
       request (acting (codes "urn:other") ++ message),
-      Reply unsupported identified,
+      Reply unsupported identified V10,
     )
     ∷ [])
 unfolding envelopes_on_literals texts unsupported
@@ -151,7 +152,11 @@ unwilling : Serves
 unwilling asked body = said.Refuse (codes "Closed.")
 
 of_unwilling : AllAnswered unwilling
-    ((echo, Reply (fault soap_action related (codes "s:Receiver") [] (codes "Closed.")) identified)
+    ((
+      echo,
+      Reply (fault soap_action related (codes "s:Receiver") [] (codes "Closed.")) identified
+          V10,
+    )
     ∷ [])
 unfolding envelopes_on_literals unwilling
 of_unwilling = refl
@@ -160,6 +165,6 @@ of_unwilling = refl
 does_not_fit : List Item
 does_not_fit = fault soap_action related (codes "s:Receiver") [] (codes "The reply does not fit.")
 
-unfit : unfit_fault identified ≡ does_not_fit
+unfit : unfit_fault V10 identified ≡ does_not_fit
 unfolding envelopes_on_literals does_not_fit
 unfit = refl

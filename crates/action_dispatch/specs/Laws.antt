@@ -10,4 +10,4 @@ use Rattle.action_dispatch.specs.Answers.{Serves, answer_by, answered, judged}
 abbrev pub AsksTheService : Type 0
 AsksTheService = (serves : Serves) (items : List Item) (v : View) (action : List ℕ)
     → view items ≡ Ok v → judged v ≡ Asked action
-    → answered serves items ≡ answer_by action v.message_id (serves action v.body)
+    → answered serves items ≡ answer_by v.version action v.message_id (serves action v.body)

@@ -1,4 +1,5 @@
 -- The fault of each reason not to serve a request.
+use Rattle.soap_envelope.specs.declared.versions.Addressing.{Addressing}
 use Rattle.std.specs.Prelude.{ℕ, List, [], codes}
 use Rattle.{nbfx_values.specs.declared.content.Item.Item, soap_envelope.specs.Faults.fault_items}
 use Rattle.soap_envelope.specs.{declared.refusals.SoapFault.SoapFault, Qualified.Name}
@@ -58,10 +59,10 @@ report_of refusal = record {
   names = names_of refusal;
 }
 
--- the fault of a refusal, which relates to the request with this identifier
-abbrev pub fault_of : Refusal → (relates : List Item) → List Item
-fault_of refusal relates = fault_items (report_of refusal) relates
+-- the fault of a refusal, which relates to the request of a version with this identifier
+abbrev pub fault_of : Addressing → Refusal → (relates : List Item) → List Item
+fault_of version refusal relates = fault_items version (report_of refusal) relates
 
--- the fault in place of an answer that doesn't fit
-abbrev pub unfit_fault : (relates : List Item) → List Item
-unfit_fault relates = fault_of Unfit relates
+-- the fault in place of an answer of a version that doesn't fit
+abbrev pub unfit_fault : Addressing → (relates : List Item) → List Item
+unfit_fault version relates = fault_of version Unfit relates

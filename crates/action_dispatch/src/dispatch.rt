@@ -16,26 +16,41 @@ use crate::planning::{Plan, plan_for, refusal_answer};
 use crate::refusals::Refusal;
 use crate::service::{BodyUse, Served, Service};
 use nbfx_values::{Copied, Doc, Items, Quotas};
-use soap_envelope::{related_texts, reply_doc_with, return_body, take_body};
+use soap_envelope::{Addressing, related_texts, reply_doc_with, return_body, take_body};
 use std::alloc::Global;
 use unit_streams::Memory;
 
 // The answer where the service says this.
-fn answer_by(alloc: Global, action: &str, relates: Items, said: Served) -> Result<Answer, Memory>
+fn answer_by(
+    alloc: Global,
+    version: Addressing,
+    action: &str,
+    relates: Items,
+    said: Served,
+) -> Result<Answer, Memory>
     requires relates { AreTexts relates }
     requires content { MayStand said }
     ensures answered { IfOk result (λ answer. answer
-        ≡ spec.answer_by action.now relates said) }
+        ≡ spec.answer_by version action.now relates said) }
     ensures texts { IfOk result RelatesToTexts }
 {
     match said {
         Served::Reply(body) => {
-            let doc = reply_doc_with(alloc, action, &relates, body)?;
-            Ok(Answer::Reply { doc, relates })
+            let doc = reply_doc_with(alloc, version, action, &relates, body)?;
+            Ok(Answer::Reply {
+                doc,
+                relates,
+                version,
+            })
         }
         Served::Nothing => Ok(Answer::Nothing),
-        Served::Unknown => refusal_answer(alloc, Refusal::UnknownAction, relates),
-        Served::Refuse(reason) => refusal_answer(alloc, Refusal::ByService(reason), relates),
+        Served::Unknown => refusal_answer(alloc, version, Refusal::UnknownAction, relates),
+        Served::Refuse(reason) => refusal_answer(
+            alloc,
+            version,
+            Refusal::ByService(reason),
+            relates,
+        ),
     }
 }
 
@@ -43,22 +58,24 @@ fn answer_by(alloc: Global, action: &str, relates: Items, said: Served) -> Resul
 fn answer_unread<V: Service>(
     alloc: Global,
     service: &V,
+    version: Addressing,
     action: &str,
     relates: Items,
 ) -> Result<Answer, Memory>
     requires { AreTexts relates }
     ensures answered { IfOk result (λ answer. answer
-        ≡ spec.answer_by action.now relates (V.served service.now action.now [])) }
+        ≡ spec.answer_by version action.now relates (V.served service.now action.now [])) }
     ensures texts { IfOk result RelatesToTexts }
 {
     let said = service.serve(alloc, action, &Items::new(alloc))?;
-    answer_by(alloc, action, relates, said)
+    answer_by(alloc, version, action, relates, said)
 }
 
 // The answer that has the request's content of Body; it isn't made if that doesn't fit the quotas.
 fn answer_returned(
     alloc: Global,
     quotas: &Quotas,
+    version: Addressing,
     action: &str,
     relates: Items,
     doc: Doc,
@@ -66,14 +83,20 @@ fn answer_returned(
 ) -> Result<Measured, Memory>
     requires relates { AreTexts relates }
     requires body { IsTrue (is_start (slice_get doc body_at)) }
-    ensures measured { let body = body_items doc (root_scope doc) body_at in
+    ensures measured { let body = body_items version doc (root_scope doc) body_at in
         IfOk result (IsMeasured (limits_of quotas.now)
-        (Answer.Reply (reply_items action.now relates body) relates)) }
+        (Answer.Reply (reply_items version action.now relates body) relates version)) }
     ensures texts { IfOk result MeasuresTexts }
 {
-    match return_body(alloc, quotas, action, &relates, doc, body_at)? {
-        Some(doc) => Ok(Measured::Made(Answer::Reply { doc, relates })),
-        None => Ok(Measured::TooLarge { relates }),
+    match return_body(alloc, quotas, version, action, &relates, doc, body_at)? {
+        Some(doc) => {
+            Ok(Measured::Made(Answer::Reply {
+                doc,
+                relates,
+                version,
+            }))
+        }
+        None => Ok(Measured::TooLarge { relates, version }),
     }
 }
 
@@ -83,6 +106,7 @@ fn answer_read<V: Service>(
     alloc: Global,
     quotas: &Quotas,
     service: &V,
+    version: Addressing,
     action: &str,
     relates: Items,
     doc: Doc,
@@ -90,15 +114,15 @@ fn answer_read<V: Service>(
 ) -> Result<Answer, Memory>
     requires relates { AreTexts relates }
     requires body { IsTrue (is_start (slice_get doc body_at)) }
-    ensures answered { let body = body_items doc (root_scope doc) body_at in
+    ensures answered { let body = body_items version doc (root_scope doc) body_at in
         IfOk result (λ answer. answer
-        ≡ spec.answer_by action.now relates (V.served service.now action.now body)) }
+        ≡ spec.answer_by version action.now relates (V.served service.now action.now body)) }
     ensures texts { IfOk result RelatesToTexts }
 {
-    match take_body(alloc, quotas, doc, body_at)? {
+    match take_body(alloc, quotas, version, doc, body_at)? {
         Some(body) => {
             let said = service.serve_owned(alloc, action, body)?;
-            answer_by(alloc, action, relates, said)
+            answer_by(alloc, version, action, relates, said)
         }
         None => Err(Memory),
     }
@@ -110,6 +134,7 @@ fn answer_asked<V: Service>(
     alloc: Global,
     quotas: &Quotas,
     service: &V,
+    version: Addressing,
     action: &str,
     relates: Items,
     doc: Doc,
@@ -117,43 +142,51 @@ fn answer_asked<V: Service>(
 ) -> Result<Measured, Memory>
     requires relates { AreTexts relates }
     requires body { IsTrue (is_start (slice_get doc body_at)) }
-    ensures measured { let body = body_items doc (root_scope doc) body_at in
+    ensures measured { let body = body_items version doc (root_scope doc) body_at in
         IfOk result (IsMeasured (limits_of quotas.now)
-        (spec.answer_by action.now relates (V.served service.now action.now body))) }
+        (spec.answer_by version action.now relates (V.served service.now action.now body))) }
     ensures texts { IfOk result MeasuresTexts }
 {
     if service.is_too_large(quotas, action) {
-        return Ok(Measured::TooLarge { relates });
+        return Ok(Measured::TooLarge { relates, version });
     }
     match service.body_use() {
         BodyUse::Unused => {
             drop(doc);
-            let answer = answer_unread(alloc, service, action, relates)?;
+            let answer = answer_unread(alloc, service, version, action, relates)?;
             Ok(Measured::Made(answer))
         }
-        BodyUse::Returned => answer_returned(alloc, quotas, action, relates, doc, body_at),
+        BodyUse::Returned => answer_returned(alloc, quotas, version, action, relates, doc, body_at),
         BodyUse::Read => {
-            let answer = answer_read(alloc, quotas, service, action, relates, doc, body_at)?;
+            let answer = answer_read(
+                alloc, quotas, service, version, action, relates, doc, body_at,
+            )?;
             Ok(Measured::Made(answer))
         }
     }
 }
 
-// The answer that is this fault, which relates to so many texts.
-fn refused_by(alloc: Global, fault: Doc, related: usize) -> Result<Measured, Memory>
-    ensures { IfOk result
-        (λ measured. measured ≡ Measured.Made (Answer.Reply fault (related_texts related fault))) }
+// The answer that is this fault in a version, which relates to so many texts.
+fn refused_by(
+    alloc: Global,
+    fault: Doc,
+    related: usize,
+    version: Addressing,
+) -> Result<Measured, Memory>
+    ensures { IfOk result (λ measured. measured
+        ≡ Measured.Made (Answer.Reply fault (related_texts related fault) version)) }
 {
     let relates = related_texts(alloc, &fault, related)?;
     Ok(Measured::Made(Answer::Reply {
         doc: fault,
         relates,
+        version,
     }))
 }
 
 /// What a server with this service answers to the request that is this document, by SOAP 1.2 and
-/// WS-Addressing 1.0: a fault if the document is no envelope or the request isn't one to serve,
-/// else what the service says. It fails without memory for the answer.
+/// the request's version of WS-Addressing: a fault if the document is no envelope or the request
+/// isn't one to serve, else what the service says. It fails without memory for the answer.
 ///
 /// What the answer copies of Body is measured before it is copied, and so are the names of blocks
 /// that weren't understood: where they count more than the quotas admit, the answer isn't made,
@@ -175,11 +208,16 @@ pub fn answer_owned<V: Service>(
 {
     match plan_for(alloc, quotas, &doc)? {
         Plan::Answered(measured) => Ok(measured),
-        Plan::Refused { fault, related } => {
+        Plan::Refused {
+            fault,
+            related,
+            version,
+        } => {
             drop(doc);
-            refused_by(alloc, fault, related)
+            refused_by(alloc, fault, related, version)
         }
         Plan::Asks {
+            version,
             action,
             relates,
             body_at,
@@ -188,6 +226,7 @@ pub fn answer_owned<V: Service>(
                 alloc,
                 quotas,
                 service,
+                version,
                 action.as_str(),
                 relates,
                 doc,

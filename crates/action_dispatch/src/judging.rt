@@ -5,10 +5,8 @@ ghost use Rattle.std.specs.Option.{option_copied};
 ghost use Rattle.action_dispatch.specs.Answers as spec;
 
 use crate::refusals::Refusal;
-use crate::understanding::foreign_names;
 use nbfx_values::Txt;
-use soap_envelope::Envelope;
-use soap_envelope::namespaces::{ANONYMOUS_ADDRESS, NO_ADDRESS};
+use soap_envelope::{Addressing, Envelope, Names};
 use std::alloc::Global;
 use unit_streams::Memory;
 
@@ -20,18 +18,27 @@ pub(crate) enum Destination {
     Elsewhere,
 }
 
+// Whether an address is a version's for nobody, if it has one.
+fn is_nobody(version: Addressing, address: &str) -> bool
+    ensures { result ≡ spec.is_nobody version address.now }
+{
+    match version.nobody() {
+        Some(nobody) => address == nobody,
+        None => false,
+    }
+}
+
 impl Destination {
     // By the address of the request's ReplyTo, if it has one.
-    #[tactic(auto, unfolding(soap_envelope::specs::Names::no_address, soap_envelope::specs::Names::anonymous_address))]
-    fn of(address: Option<&str>) -> Destination
-        ensures { result ≡ spec.destination (option_copied address.entry) }
+    fn of(version: Addressing, address: Option<&str>) -> Destination
+        ensures { result ≡ spec.destination version (option_copied address.entry) }
     {
         let Some(address) = address else {
             return Destination::Sender;
         };
-        if address == NO_ADDRESS {
+        if is_nobody(version, address) {
             Destination::Nobody
-        } else if address == ANONYMOUS_ADDRESS {
+        } else if address == version.anonymous() {
             Destination::Sender
         } else {
             Destination::Elsewhere
@@ -61,17 +68,26 @@ fn by_action<'d>(action: Option<Txt>, to: Destination) -> Judged<'d>
     }
 }
 
+// The same, unless blocks with these names must be understood and aren't.
+fn unless_foreign<'d>(foreign: Names<'d>, action: Option<Txt>, to: Destination) -> Judged<'d>
+    ensures { result ≡ spec.unless_foreign foreign.entry (spec.by_action action to) }
+{
+    if foreign.len() > 0 {
+        return Judged::Refused(Refusal::NotUnderstood(foreign));
+    }
+    by_action(action, to)
+}
+
 /// What becomes of a request with this view.
 pub(crate) fn judge<'d>(alloc: Global, envelope: Envelope<'d>) -> Result<Judged<'d>, Memory>
     ensures { IfOk result (λ judged. judged ≡ spec.judged envelope.entry) }
 {
-    let to = Destination::of(envelope.reply_address());
+    let version = envelope.version();
+    let to = Destination::of(version, envelope.reply_address());
     if matches!(to, Destination::Nobody) {
         return Ok(Judged::Unanswered);
     }
-    let foreign = foreign_names(alloc, &envelope)?;
-    if foreign.len() > 0 {
-        return Ok(Judged::Refused(Refusal::NotUnderstood(foreign)));
-    }
-    Ok(by_action(envelope.into_action(), to))
+    let known = version.understood();
+    let foreign = envelope.not_understood(alloc, &known)?;
+    Ok(unless_foreign(foreign, envelope.into_action(), to))
 }

@@ -8,7 +8,9 @@ ghost use Rattle.action_dispatch.specs.Refusals as spec;
 ghost use Rattle.action_dispatch.specs.Refusals.{fault_of, report_of, unfit_fault};
 
 use nbfx_values::{Copied, Doc, Items, Quotas, Txt};
-use soap_envelope::{Code, FaultReport, Names, SoapFault, Sub, fault_doc_with, names_fit};
+use soap_envelope::{
+    Addressing, Code, FaultReport, Names, SoapFault, Sub, fault_doc_with, names_fit,
+};
 use std::alloc::Global;
 use unit_streams::Memory;
 
@@ -124,28 +126,39 @@ impl<'d> Refusal<'d> {
     }
 
     /// The fault, which relates to the request with this identifier.
-    pub(crate) fn doc(self, alloc: Global, relates: &Items) -> Result<Doc, Memory>
+    pub(crate) fn doc(
+        self,
+        alloc: Global,
+        version: Addressing,
+        relates: &Items,
+    ) -> Result<Doc, Memory>
         requires { AreTexts relates.now }
-        ensures { IfOk result (λ doc. doc ≡ fault_of self.entry relates.now) }
+        ensures { IfOk result (λ doc. doc ≡ fault_of version self.entry relates.now) }
     {
-        self.doc_with(alloc, relates.copy()?)
+        self.doc_with(alloc, version, relates.copy()?)
     }
 
     // The same, whose texts aren't copied.
-    pub(crate) fn doc_with(self, alloc: Global, relates: Items) -> Result<Doc, Memory>
+    pub(crate) fn doc_with(
+        self,
+        alloc: Global,
+        version: Addressing,
+        relates: Items,
+    ) -> Result<Doc, Memory>
         requires { AreTexts relates }
-        ensures { IfOk result (λ doc. doc ≡ fault_of self.entry relates) }
+        ensures { IfOk result (λ doc. doc ≡ fault_of version self.entry relates) }
     {
         let report = self.report(alloc)?;
-        fault_doc_with(alloc, &report, relates)
+        fault_doc_with(alloc, version, &report, relates)
     }
 }
 
 /// The fault that a server sends in place of an answer that is larger than it may send. Its code is
-/// Receiver, and it relates to the same request as the answer. It fails without memory for it.
-pub fn unfit_doc(alloc: Global, relates: Items) -> Result<Doc, Memory>
+/// Receiver, and it is in the answer's version and relates to the same request. It fails without
+/// memory for it.
+pub fn unfit_doc(alloc: Global, version: Addressing, relates: Items) -> Result<Doc, Memory>
     requires { AreTexts relates }
-    ensures { IfOk result (λ doc. doc ≡ unfit_fault relates) }
+    ensures { IfOk result (λ doc. doc ≡ unfit_fault version relates) }
 {
-    Refusal::Unfit.doc_with(alloc, relates)
+    Refusal::Unfit.doc_with(alloc, version, relates)
 }

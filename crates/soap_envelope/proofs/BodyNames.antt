@@ -1,4 +1,5 @@
 -- The content of a view's Body has in any reply the names that it has in its document.
+use Rattle.soap_envelope.specs.declared.versions.Addressing.{Addressing}
 use Rattle.std.proofs.Common.{◌≡◌, ℕ, zero, suc, ◌+◌, true, not, List, [], ◌∷◌, ◌++◌, map, length}
 use Rattle.std.proofs.Common.{drop, is_some, if◌then◌else◌, ◌==◌, slice_get, Some, None, Ok, codes}
 use Rattle.std.proofs.Common.{Option, unwrap_or, sym, refl, ap, ◌∙◌, subst, inl, inr, add-one}
@@ -24,7 +25,7 @@ use Rattle.soap_envelope.specs.Scopes.{around, attribute_uri, Declaration, decla
 use Rattle.soap_envelope.specs.Scopes.{declared_on, element_uri, is_bound, Scope, uri_in, within}
 use Rattle.soap_envelope.proofs.{Apart.are_apart, Apart.in_scope-apart, Standing.front-declared-on}
 use Rattle.soap_envelope.proofs.BoundNames.{all_bound, bound-all, bound-at, head-gone, names-at}
-use Rattle.soap_envelope.proofs.{BoundNames.starts-apart, LawFacts.is-viewed}
+use Rattle.soap_envelope.proofs.BodyScope.{body-scope}
 use Rattle.soap_envelope.proofs.{Contents.view-stands, ResolvedViews.each-filter}
 use Rattle.soap_envelope.proofs.GoodNames.{good_attributes, good_head, good_names, head-good}
 use Rattle.soap_envelope.proofs.GoodNames.{names-good, refuted}
@@ -94,21 +95,23 @@ head-left scope (Comment v ∷ xs) = refl
 head-left scope (Array a ∷ xs) = refl
 head-left scope (Close ∷ xs) = refl
 
-module _ (needs : List Declaration) (base : Scope)
-    (reach : (p : List ℕ) → is_bound base p ≡ true → Reached needs base p) where
+module _ (version : Addressing) (needs : List Declaration) (base : Scope)
+    (reach : (p : List ℕ) → is_bound base p ≡ true → Reached version needs base p) where
   array-child : (a : ArrayItem) → is_good_array base a ≡ true → (more : List Item)
-      → resolved_item reply_scope (Array (array_with needs a)) more
+      → resolved_item (reply_scope version) (Array (array_with needs a)) more
       ≡ resolved_item base (Array a) more
   array-child a h more =
       let own = declared_on a.attrs in
       let front = missing needs own in
       let r = and_parts (is_bound (own ∷ base) a.prefix) (are_good (own ∷ base) [] a.attrs) h in
-      ap (λ ds. array_by (ds ∷ reply_scope) a (map attribute_of front ++ a.attrs))
+      ap (λ ds. array_by (ds ∷ (reply_scope version)) a (map attribute_of front ++ a.attrs))
       (front-declared-on front a.attrs)
       ∙ ap (λ attributes. Arrays
-      (qualified_name (element_uri ((front ++ own) ∷ reply_scope) a.prefix) a.local) attributes
-      a.kind a.values) (front-on ((front ++ own) ∷ reply_scope) front a.attrs)
-      ∙ arrays (own ∷ base) ((front ++ own) ∷ reply_scope) a (means-child needs base reach own) r.0
+      (qualified_name (element_uri ((front ++ own) ∷ (reply_scope version)) a.prefix) a.local)
+      attributes
+      a.kind a.values) (front-on ((front ++ own) ∷ (reply_scope version)) front a.attrs)
+      ∙ arrays (own ∷ base) ((front ++ own) ∷ (reply_scope version)) a (means-child version needs
+      base reach own) r.0
       r.1
 
   array-deep : (scope other : Scope) (a : ArrayItem) → Means scope other
@@ -121,7 +124,7 @@ module _ (needs : List Declaration) (base : Scope)
 
   -- around so many elements stands Body, and there the reply
   abbrev Replaced : ℕ → Scope → Scope → Type 0
-  Replaced zero scope other = (scope ≡ base) × (other ≡ reply_scope)
+  Replaced zero scope other = (scope ≡ base) × (other ≡ (reply_scope version))
   Replaced (suc n) scope other = Means scope other × Replaced n (around scope) (around other)
 
   same : (inner : ℕ) (scope other : Scope) (xs : List Item) → Replaced inner scope other
@@ -136,7 +139,7 @@ module _ (needs : List Declaration) (base : Scope)
       let r = and_parts (good_head (own ∷ scope) p xs) (good_names (own ∷ scope) xs) g in
       let head = and_parts (is_bound (own ∷ scope) p) (good_attributes (own ∷ scope) [] xs) r.0 in
       let m : Means (own ∷ scope) ((front ++ own) ∷ other) =
-      rw (c.0, c.1) (means-child needs base reach own) in
+      rw (c.0, c.1) (means-child version needs base reach own) in
       let declares : declared (map xmlns_of front ++ rest) ≡ front ++ own =
       front-declared front rest ∙ ap (λ l. front ++ l) (deep-declared needs 0 xs) in
       ap (λ ds. Element (qualified_name (element_uri (ds ∷ other) p) l)
@@ -202,66 +205,20 @@ module _ (needs : List Declaration) (base : Scope)
       rw (deep-item needs n (Comment v) xs)
       (ap (λ items. Comments v ∷ items) (same (suc n) scope other xs c g b))
 
--- what holds of each child of the root holds of Body
-module _ (all : List Item) (P : ℕ → Type 0) where
-  behind-each : (root : Scope) (header : Option ℕ) (children : List ℕ) (parts : Parts)
-      → Each P children → parts_behind all root header children ≡ Ok parts → P parts.body
-  behind-each root header [] parts h k = absurd cc
-  behind-each root header (at ∷ []) parts h k =
-      elim (cases_Bool (is_element all root soap (codes "Body") at)) [
-        | inl is ↦
-            let found : Parts = record { header = header; body = at } in
-            let one : found ≡ parts = cc (rw is at k) in
-            subst (λ (p : Parts). P p.body) one h.0
-        | inr other ↦ absurd (cc (rw other at k))
-      ]
-  behind-each root header (at ∷ next ∷ more) parts h k =
-      elim (cases_Bool (is_element all root soap (codes "Body") at))
-      [ inl is ↦ absurd (cc (rw is at k)) | inr other ↦ absurd (cc (rw other at k)) ]
-
-  among-each : (root : Scope) (children : List ℕ) (parts : Parts) → Each P children
-      → parts_among all root children ≡ Ok parts → P parts.body
-  among-each root [] parts h k = absurd cc
-  among-each root (at ∷ more) parts h k =
-      elim (cases_Bool (is_element all root soap (codes "Header") at)) [
-        | inl is ↦ behind-each root (Some at) more parts h.1 (rw is at k)
-        | inr other ↦ behind-each root None (at ∷ more) parts h (rw other at k)
-      ]
-
-body-scope : (doc : List Item) (parts : Parts) → is_start (slice_get doc 0) ≡ true
-    → parts_of doc ≡ Ok parts → scope_to [] parts.body doc ≡ root_scope doc
-body-scope doc parts root h =
-    let P : ℕ → Type 0 = (λ c. scope_to [] c doc ≡ root_scope doc) in
-    among-each doc P (root_scope doc) (kept_children doc 0) parts
-    (each-filter P (λ child. not (is_passed (slice_get doc child))) (children_of doc 0)
-    (children-stand doc 0 [] refl root)) h
-
 pub bodies_are_named : BodiesAreNamed
 bodies_are_named doc v document h =
-    let seen = is-viewed doc v h in
     let stands : BodyStands doc v = rw h at (view-stands doc) in
-    let root = root_scope doc in
-    let base = within doc v.body_at root in
+    let base = within doc v.body_at (root_scope doc) in
     let behind = drop (v.body_at + 1) doc in
-    let at_body : scope_to [] v.body_at doc ≡ root =
-    subst (λ c. scope_to [] c doc ≡ root) seen.place
-    (body-scope doc seen.parts seen.root seen.are_parts) in
-    let here : scope_to [] (v.body_at + 1) doc ≡ base =
-    inside doc v.body_at root at_body stands.starts in
-    let good = names-good [] 0 doc seen.names in
-    let bound = bound-all Before [] doc (document-position doc document) (λ e. absurd cc) good in
-    let good_there : good_names base behind ≡ true =
-    subst (λ scope. good_names scope behind ≡ true) here (names-at [] (v.body_at + 1) doc good) in
+    let body = body-scope doc v h in
+    let bound = bound-all Before [] doc (document-position doc document) (λ e. absurd cc)
+    (names-good [] 0 doc body.names) in
     let bound_there : all_bound base behind ≡ true =
-    subst (λ scope. all_bound scope behind ≡ true) here (bound-at [] (v.body_at + 1) doc bound) in
-    let apart : list_all are_apart base ≡ true =
-    rw add-one
-    (rw (starts-apart [] v.body_at doc good stands.starts, starts-apart [] 0 doc good seen.root)
-    refl) in
-    let reach = needs-reach base apart (in_scope-apart base) in
-    ap (λ body. content_from 0 (resolved_from reply_scope body)) stands.content
-    ∙ same (needed base) base reach 0 base reply_scope (behind_head behind) (refl, refl)
-    (head-good base behind good_there) (head-gone base behind bound_there)
+    subst (λ scope. all_bound scope behind ≡ true) body.here
+    (bound-at [] (v.body_at + 1) doc bound) in
+    ap (λ body. content_from 0 (resolved_from (reply_scope v.version) body)) stands.content
+    ∙ same v.version (needed v.version base) base body.reach 0 base (reply_scope v.version)
+    (behind_head behind) (refl, refl) body.good (head-gone base behind bound_there)
     ∙ head-left base behind
-    ∙ ap (λ scope. content_from 0 (resolved_from scope behind)) (sym here)
+    ∙ ap (λ scope. content_from 0 (resolved_from scope behind)) (sym body.here)
     ∙ ap (content_from 0) (sym (drop-resolved [] (v.body_at + 1) doc))

@@ -1,4 +1,5 @@
 -- The content of Body may stand inside an element, and the texts of a document are valid.
+use Rattle.soap_envelope.specs.declared.versions.Addressing.{Addressing}
 use Rattle.std.proofs.Common.{◌≡◌, ℕ, zero, suc, ◌+◌, Bool, true, false, List, [], ◌∷◌, ◌++◌, map}
 use Rattle.std.proofs.Common.{drop, IfOk, ◌==◌, slice_get, Some, None, Ok, Err, codes, Option}
 use Rattle.std.proofs.Common.{Result, option_map, sym, refl, ap, ◌∙◌, subst, inl, inr, add-one}
@@ -23,6 +24,7 @@ use Rattle.soap_envelope.specs.Parts.{parts_behind, parts_of, root_scope, wrong_
 use Rattle.soap_envelope.specs.Scopes.{Declaration, declared, Scope, within}
 use Rattle.soap_envelope.specs.View.{header_fault, texts_among, texts_at, texts_in, unless, view}
 use Rattle.soap_envelope.proofs.Declarations.{array-valid, is_text, missing-texts, needed-texts}
+use Rattle.soap_envelope.proofs.ResolvedPlaces.{Each}
 
 -- declarations lead nowhere else behind the beginning of an element
 declarations-lead : (ds : List Declaration) (n : ℕ) (xs : List Item) → list_all is_text ds ≡ true
@@ -153,13 +155,14 @@ opens o items at starts h = rw add-one (opened o items at starts h)
     opened (Some s) (x ∷ xs) (suc at) starts h = opened (next_position s x) xs at starts h
 
 -- the content of a document's Body
-pub body-content : (items : List Item) (at : ℕ) → IsDocument items
+pub body-content : (version : Addressing) (items : List Item) (at : ℕ) → IsDocument items
     → is_start (slice_get items at) ≡ true
-    → IsContent (body_items items (root_scope items) at)
-body-content items at document starts =
+    → IsContent (body_items version items (root_scope items) at)
+body-content version items at document starts =
     let (n, led) = opens (Some Before) items at starts (document-position items document) in
     let within_body = behind_head-leads n (drop (at + 1) items) led in
-    stands (needed (within items at (root_scope items))) (needed-texts items 0 at document.valid) 0
+    stands (needed version (within items at (root_scope items)))
+    (needed-texts version items 0 at document.valid) 0
     n n false (behind_head (drop (at + 1) items))
     (omega arith) (λ _. refl) within_body
 
@@ -186,6 +189,39 @@ pub texts_at-valid : (items : List Item) (at : Option ℕ) → list_all is_valid
 texts_at-valid items None h = refl
 texts_at-valid items (Some at) h = texts-valid items (children_of items at) h
 
+-- what holds of each child of the root holds of Body, which is SOAP's element of that name
+module _ (items : List Item) (P : ℕ → Type 0) where
+  abbrev IsBody : Scope → Parts → Type 0
+  IsBody root parts = P parts.body × (is_element items root soap (codes "Body") parts.body ≡ true)
+
+  behind-each : (root : Scope) (header : Option ℕ) (children : List ℕ) (parts : Parts)
+      → Each P children → parts_behind items root header children ≡ Ok parts → IsBody root parts
+  behind-each root header [] parts h k = absurd cc
+  behind-each root header (at ∷ []) parts h k =
+      elim (cases_Bool (is_element items root soap (codes "Body") at)) [
+        | inl is ↦
+            let found : Parts = record { header = header; body = at } in
+            let one : found ≡ parts = cc (rw is at k) in
+            subst (IsBody root) one (h.0, is)
+        | inr other ↦ absurd (cc (rw other at k))
+      ]
+  behind-each root header (at ∷ next ∷ more) parts h k =
+      elim (cases_Bool (is_element items root soap (codes "Body") at))
+      [ inl is ↦ absurd (cc (rw is at k)) | inr other ↦ absurd (cc (rw other at k)) ]
+
+  pub among-each : (root : Scope) (children : List ℕ) (parts : Parts) → Each P children
+      → parts_among items root children ≡ Ok parts → IsBody root parts
+  among-each root [] parts h k = absurd cc
+  among-each root (at ∷ more) parts h k =
+      elim (cases_Bool (is_element items root soap (codes "Header") at)) [
+        | inl is ↦ behind-each root (Some at) more parts h.1 (rw is at k)
+        | inr other ↦ behind-each root None (at ∷ more) parts h (rw other at k)
+      ]
+
+any-each : (children : List ℕ) → Each (λ child. Unit {0}) children
+any-each [] = tt
+any-each (child ∷ more) = (tt, any-each more)
+
 -- an element begins at the place of Body
 module _ (items : List Item) where
   named-starts : (scope : Scope) (o : Option Item) (uri local : List ℕ)
@@ -193,37 +229,14 @@ module _ (items : List Item) where
   named-starts scope (Some (Start p l)) uri local h = refl
   named-starts scope o uri local h = absurd cc
 
-  behind-starts : (root : Scope) (header : Option ℕ) (children : List ℕ) (parts : Parts)
-      → parts_behind items root header children ≡ Ok parts
-      → is_start (slice_get items parts.body) ≡ true
-  behind-starts root header [] parts h = absurd cc
-  behind-starts root header (at ∷ []) parts h =
-      let body = codes "Body" in
-      elim (cases_Bool (is_element items root soap body at)) [
-        | inl is ↦
-            let found : Parts = record { header = header; body = at } in
-            let same : found ≡ parts = cc (rw is at h) in
-            subst (λ (p : Parts). is_start (slice_get items p.body) ≡ true) same
-            (named-starts (within items at root) (slice_get items at) soap body is)
-        | inr other ↦ cc (rw other at h)
-      ]
-  behind-starts root header (at ∷ next ∷ more) parts h =
-      elim (cases_Bool (is_element items root soap (codes "Body") at))
-      [ inl is ↦ cc (rw is at h) | inr other ↦ cc (rw other at h) ]
-
-  among-starts : (root : Scope) (children : List ℕ) (parts : Parts)
-      → parts_among items root children ≡ Ok parts
-      → is_start (slice_get items parts.body) ≡ true
-  among-starts root [] parts h = absurd cc
-  among-starts root (at ∷ more) parts h =
-      elim (cases_Bool (is_element items root soap (codes "Header") at)) [
-        | inl is ↦ behind-starts root (Some at) more parts (rw is at h)
-        | inr other ↦ behind-starts root None (at ∷ more) parts (rw other at h)
-      ]
-
   pub body-starts : (parts : Parts) → parts_of items ≡ Ok parts
       → is_start (slice_get items parts.body) ≡ true
-  body-starts parts h = among-starts (root_scope items) (kept_children items 0) parts h
+  body-starts parts h =
+      let root = root_scope items in
+      let children = kept_children items 0 in
+      let body = among-each items (λ child. Unit {0}) root children parts (any-each children) h in
+      named-starts (within items parts.body root) (slice_get items parts.body) soap (codes "Body")
+      body.1
 
   -- the place and the content of a view's Body
   unless-ok : {X : Type 0} (fault : Option SoapFault) (r : Result X SoapFault) (P : X → Type 0)

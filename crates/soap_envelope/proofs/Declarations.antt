@@ -1,4 +1,5 @@
 -- Declarations of a document are texts, in whatever order they are kept.
+use Rattle.soap_envelope.specs.declared.versions.Addressing.{Addressing}
 use Rattle.std.proofs.Common.{◌≡◌, ℕ, ◌+◌, Bool, true, not, List, [], ◌∷◌, map, drop, filter}
 use Rattle.std.proofs.Common.{nat_cmp, Ordering, Less, Equal, Greater, refl, ◌∙◌, inl, inr}
 use Rattle.std.proofs.lemmas.Bool.{and_parts, cases_Bool}
@@ -60,14 +61,16 @@ filtered p q (x ∷ xs) h =
     [ inl is ↦ rw (is, r.0) (filtered p q xs r.1) | inr other ↦ rw other (filtered p q xs r.1) ]
 
 -- what children of the element at a place need, within the element at another
-pub needed-texts : (items : List Item) (root at : ℕ) → list_all is_valid_item items ≡ true
-    → list_all is_text (needed (within items at (within items root []))) ≡ true
-needed-texts items root at h =
+pub needed-texts : (version : Addressing) (items : List Item) (root at : ℕ)
+    → list_all is_valid_item items ≡ true
+    → list_all is_text (needed version (within items at (within items root []))) ≡ true
+needed-texts version items root at h =
     let own = declared-texts (drop (at + 1) items) (list_all-drop is_valid_item (at + 1) items h) in
     let outer =
     declared-texts (drop (root + 1) items) (list_all-drop is_valid_item (root + 1) items h) in
     let all = put_all-texts (declared (drop (root + 1) items)) [] outer refl in
-    filtered is_text (λ d. not (is_usual d)) (in_scope (within items at (within items root [])))
+    filtered is_text (λ d. not (is_usual version d)) (in_scope (within items at (within items root
+    [])))
     (put_all-texts (declared (drop (at + 1) items)) (put_all (declared (drop (root + 1) items)) [])
     own all)
 

@@ -1,11 +1,11 @@
 -- Literal documents for worked cases.
-use Rattle.std.proofs.Common.{ℕ, List, [], ◌∷◌, ◌++◌, pos, codes}
+use Rattle.std.proofs.Common.{ℕ, cond, List, [], ◌∷◌, ◌++◌, map, pos, codes, bytes_eq}
 use Rattle.nbfx_values.specs.declared.content.{ArrayKind.TheVariants.Int32, AttrItem.AttrItem}
 use Rattle.nbfx_values.specs.declared.content.Item.{Item, TheVariants.Xmlns}
 use Rattle.nbfx_values.specs.declared.content.Item.TheVariants.{Array, Attr, Close, Start, Text}
 use Rattle.nbfx_values.specs.declared.scalars.Scalar.TheVariants.{Number, Text as TextOf, UniqueId}
 use Rattle.nbfx_values.specs.declared.scalars.Value.TheVariants.{One}
-use Rattle.soap_envelope.specs.Names.{addressing, soap}
+use Rattle.soap_envelope.specs.Names.{addressing, addressing_2004, soap}
 
 abbrev pub words : List ℕ → Item
 words bytes = Text (One (TextOf bytes))
@@ -41,6 +41,20 @@ array prefix attributes = Array (record {
   kind = Int32;
   values = Number (pos 1) ∷ [];
 })
+
+-- a document whose prefix of addressing stands for the older namespace
+abbrev pub aged_item : Item → Item
+aged_item (Xmlns prefix uri) =
+    Xmlns prefix (cond (bytes_eq prefix (codes "a")) addressing_2004 uri)
+aged_item item = item
+
+abbrev pub aged : List Item → List Item
+aged items = map aged_item items
+
+-- an element of the older addressing that declares it itself
+abbrev pub older : List ℕ → List Item → List Item
+older local inner =
+    Start (codes "b") local ∷ Xmlns (codes "b") addressing_2004 ∷ (inner ++ Close ∷ [])
 
 -- a root Envelope with the usual declarations: its children begin at place 3
 abbrev pub enveloped : List Item → List Item
@@ -117,3 +131,7 @@ soap_action = codes "http://www.w3.org/2005/08/addressing/soap/fault"
 
 abbrev pub addressing_action : List ℕ
 addressing_action = codes "http://www.w3.org/2005/08/addressing/fault"
+
+-- and that of all faults in the older version
+abbrev pub older_action : List ℕ
+older_action = codes "http://schemas.xmlsoap.org/ws/2004/08/addressing/fault"

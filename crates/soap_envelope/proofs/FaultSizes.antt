@@ -1,4 +1,5 @@
 -- A fault counts at least what its names do.
+use Rattle.soap_envelope.specs.declared.versions.Addressing.{Addressing}
 use Rattle.std.proofs.Common.{◌≡◌, ℕ, ◌≤◌, ◌*◌, List, [], ◌∷◌, ◌++◌, flat_map, length, nat_le}
 use Rattle.std.proofs.Common.{sum_by, inl, inr, arith, le-leb, leb-true}
 use Rattle.std.proofs.lemmas.{Bool.and_parts, Bool.cases_Bool, List.Sums.sum_by-append}
@@ -7,7 +8,8 @@ use Rattle.nbfx_values.specs.declared.content.Item.{Item}
 use Rattle.nbfx_values.specs.Measures.{content_of, item_content}
 use Rattle.least_payloads.specs.Least.{least_of_item, least_payload, may_fit}
 use Rattle.soap_envelope.specs.{declared.report.FaultReport.FaultReport, Qualified.Name}
-use Rattle.soap_envelope.specs.Faults.{fault_action, fault_body, fault_items, not_understood_block}
+use Rattle.soap_envelope.specs.Faults.{fault_body, fault_items, not_understood_block}
+use Rattle.soap_envelope.specs.Versions.{fault_action}
 use Rattle.soap_envelope.specs.Fitting.{least_of_name, name_content, names_content}
 use Rattle.soap_envelope.{specs.Laws.UnfitNamesAreUnfit, proofs.OnLiterals.envelopes_on_literals}
 use Rattle.soap_envelope.specs.Making.{action_block, ending, middle, opening, relates_block}
@@ -41,22 +43,22 @@ payload-least (name ∷ more) =
     (omega arith)
 
 -- what the blocks of names count by any measure, the fault counts at least
-fault-least : (f : Item → ℕ) (report : FaultReport) (relates : List Item)
+fault-least : (f : Item → ℕ) (version : Addressing) (report : FaultReport) (relates : List Item)
     → sum_by f (flat_map not_understood_block report.names)
-    ≤ sum_by f (fault_items report relates)
-fault-least f report relates =
+    ≤ sum_by f (fault_items version report relates)
+fault-least f version report relates =
     let blocks = flat_map not_understood_block report.names in
-    let action = action_block (fault_action report.sub) in
+    let action = action_block (fault_action version report.sub) in
     let behind = middle ++ (fault_body report ++ ending) in
     let inner = within-least f (relates_block relates) blocks behind in
     let around = behind-least f action (relates_block relates ++ (blocks ++ behind)) in
     let all =
-    behind-least f opening (action ++ (relates_block relates ++ (blocks ++ behind))) in
+    behind-least f (opening version) (action ++ (relates_block relates ++ (blocks ++ behind))) in
     omega arith
 
 pub unfit_names_are_unfit : UnfitNamesAreUnfit
-unfit_names_are_unfit limits report relates unfit =
-    let fault = fault_items report relates in
+unfit_names_are_unfit limits version report relates unfit =
+    let fault = fault_items version report relates in
     elim (cases_Bool (may_fit limits fault)) [
       | inl fit ↦
           let parts = and_parts (nat_le (content_of fault) limits.content)
@@ -64,9 +66,9 @@ unfit_names_are_unfit limits report relates unfit =
           let content = leb-true (content_of fault) limits.content parts.0 in
           let payload = leb-true (least_payload fault) limits.payload parts.1 in
           let counts = content-least report.names in
-          let all = fault-least item_content report relates in
+          let all = fault-least item_content version report relates in
           let least = payload-least report.names in
-          let whole = fault-least least_of_item report relates in
+          let whole = fault-least least_of_item version report relates in
           let names = le-leb (names_content report.names) limits.content
           (omega (arith, content, counts, all)) in
           let blocks = le-leb (least_of_name * length report.names) limits.payload

@@ -1,4 +1,5 @@
 -- What a prefix stands for in Body it stands for in a reply, by what an element there gets.
+use Rattle.soap_envelope.specs.declared.versions.Addressing.{Addressing}
 use Rattle.std.proofs.Common.{◌≡◌, ℕ, true, false, not, ◌&&◌, ◌⊎◌, List, [], ◌∷◌, ◌++◌, is_some}
 use Rattle.std.proofs.Common.{is_none, Some, None, codes, Option, bytes_eq, Ordering, Less, Equal}
 use Rattle.std.proofs.Common.{Greater, sym, refl, ap, ◌∙◌, subst, inl, inr}
@@ -8,10 +9,10 @@ use Rattle.std.proofs.lemmas.Slice.Eq.{bytes_eq-Decides}
 use Rattle.std.specs.{List.list_all, Option.option_or, Ordering.ordering_reverse}
 use Rattle.soap_envelope.specs.Body.{in_scope, is_missing, is_usual, missing, needed, placed, put}
 use Rattle.soap_envelope.specs.{Body.put_all, Body.unusual, Made.reply_scope}
-use Rattle.soap_envelope.specs.Names.{addressing, soap}
+use Rattle.soap_envelope.specs.{Names.soap, Versions.namespace}
 use Rattle.soap_envelope.specs.Scopes.{Declaration, is_bound, Scope, undeclared_uri, uri_in, uri_of}
 use Rattle.soap_envelope.proofs.Apart.{apart-parts, are_apart, has, lacks-filter, order}
-use Rattle.soap_envelope.proofs.{OnLiterals.envelopes_on_literals, Standing.missing-lacks}
+use Rattle.soap_envelope.proofs.OnLiterals.{envelopes_on_literals}
 
 -- what declarations say of a prefix
 none-in : (o : Option (List ℕ)) → is_some o ≡ false → o ≡ None
@@ -101,79 +102,82 @@ uri-known (layer ∷ outer) p =
     ∙ or-again (uri_in layer p) (known outer p) (undeclared_uri p)
 
 -- what every reply declares it means there
-usual-uri : (d : Declaration) → is_usual d ≡ true → uri_of reply_scope d.prefix ≡ Some d.uri
+usual-uri : (version : Addressing) (d : Declaration) → is_usual version d ≡ true
+    → uri_of (reply_scope version) d.prefix ≡ Some d.uri
 unfolding envelopes_on_literals
-usual-uri d h =
+usual-uri version d h =
     let of_soap = bytes_eq d.prefix (codes "s") && bytes_eq d.uri soap in
-    let of_addressing = bytes_eq d.prefix (codes "a") && bytes_eq d.uri addressing in
+    let of_addressing = bytes_eq d.prefix (codes "a") && bytes_eq d.uri (namespace version) in
     elim (or_cases of_soap of_addressing h) [
       | inl is ↦
           let r = and_parts (bytes_eq d.prefix (codes "s")) (bytes_eq d.uri soap) is in
-          ap (uri_of reply_scope) ((bytes_eq-Decides d.prefix (codes "s")).0 r.0)
+          ap (uri_of (reply_scope version)) ((bytes_eq-Decides d.prefix (codes "s")).0 r.0)
           ∙ ap (λ (u : List ℕ). Some u) (sym ((bytes_eq-Decides d.uri soap).0 r.1))
       | inr is ↦
-          let r = and_parts (bytes_eq d.prefix (codes "a")) (bytes_eq d.uri addressing) is in
-          ap (uri_of reply_scope) ((bytes_eq-Decides d.prefix (codes "a")).0 r.0)
-          ∙ ap (λ (u : List ℕ). Some u) (sym ((bytes_eq-Decides d.uri addressing).0 r.1))
+          let r = and_parts (bytes_eq d.prefix (codes "a")) (bytes_eq d.uri (namespace version)) is
+          in
+          ap (uri_of (reply_scope version)) ((bytes_eq-Decides d.prefix (codes "a")).0 r.0)
+          ∙ ap (λ (u : List ℕ). Some u) (sym ((bytes_eq-Decides d.uri (namespace version)).0 r.1))
     ]
 
 -- what means something undeclared means it there too
-undeclared-there : (p : List ℕ) → is_some (undeclared_uri p) ≡ true
-    → uri_of reply_scope p ≡ undeclared_uri p
+undeclared-there : (version : Addressing) (p : List ℕ) → is_some (undeclared_uri p) ≡ true
+    → uri_of (reply_scope version) p ≡ undeclared_uri p
 unfolding envelopes_on_literals
-undeclared-there [] h = refl
-undeclared-there (c ∷ q) h = elim (cases_Bool (bytes_eq (c ∷ q) (codes "xml"))) [
+undeclared-there version [] h = refl
+undeclared-there version (c ∷ q) h = elim (cases_Bool (bytes_eq (c ∷ q) (codes "xml"))) [
   | inl is ↦
       let same : c ∷ q ≡ codes "xml" = (bytes_eq-Decides (c ∷ q) (codes "xml")).0 is in
-      subst (λ p. uri_of reply_scope p ≡ undeclared_uri p) (sym same) refl
+      subst (λ p. uri_of (reply_scope version) p ≡ undeclared_uri p) (sym same) refl
   | inr other ↦
       let wrong : false ≡ true = rw other at h in absurd cc
 ]
 
 -- an element needs a declaration of a prefix, or a reply has it
-abbrev pub Reached : List Declaration → Scope → List ℕ → Type 0
-Reached needs base p =
+abbrev pub Reached : Addressing → List Declaration → Scope → List ℕ → Type 0
+Reached version needs base p =
     (uri_in needs p ≡ uri_of base p)
-    ⊎ ((uri_in needs p ≡ None) × (uri_of reply_scope p ≡ uri_of base p))
+    ⊎ ((uri_in needs p ≡ None) × (uri_of (reply_scope version) p ≡ uri_of base p))
 
-unusual-uri : (ds : List Declaration) (p u : List ℕ) → are_apart ds ≡ true
+unusual-uri : (version : Addressing) (ds : List Declaration) (p u : List ℕ) → are_apart ds ≡ true
     → uri_in ds p ≡ Some u
-    → (uri_in (unusual ds) p ≡ Some u)
-    ⊎ ((uri_in (unusual ds) p ≡ None) × (uri_of reply_scope p ≡ Some u))
-unusual-uri [] p u a h = absurd cc
-unusual-uri (d ∷ ds) p u a h =
+    → (uri_in (unusual version ds) p ≡ Some u)
+    ⊎ ((uri_in (unusual version ds) p ≡ None) × (uri_of (reply_scope version) p ≡ Some u))
+unusual-uri version [] p u a h = absurd cc
+unusual-uri version (d ∷ ds) p u a h =
     let parts = apart-parts d ds a in
     elim (cases_Bool (bytes_eq d.prefix p)) [
       | inl is ↦
           let same : d.prefix ≡ p = (bytes_eq-Decides d.prefix p).0 is in
           let own : Some d.uri ≡ Some u = rw is at h in
-          elim (cases_Bool (is_usual d)) [
+          elim (cases_Bool (is_usual version d)) [
             | inl usual ↦
-                let gone : uri_in (unusual ds) p ≡ None = lacks (unusual ds) p
-                (lacks-filter (λ e. not (is_usual e)) ds p (ap (has ds) (sym same) ∙ parts.0)) in
-                let there : uri_of reply_scope p ≡ Some u =
-                ap (uri_of reply_scope) (sym same) ∙ usual-uri d usual ∙ own in
+                let gone : uri_in (unusual version ds) p ≡ None = lacks (unusual version ds) p
+                (lacks-filter (λ e. not (is_usual version e)) ds p (ap (has ds) (sym same) ∙
+                parts.0)) in
+                let there : uri_of (reply_scope version) p ≡ Some u =
+                ap (uri_of (reply_scope version)) (sym same) ∙ usual-uri version d usual ∙ own in
                 rw usual (inr (gone, there))
             | inr other ↦ rw (other, is) (inl own)
           ]
       | inr other ↦
-          let rest = unusual-uri ds p u parts.1 (rw other at h) in
-          elim (cases_Bool (is_usual d)) [
+          let rest = unusual-uri version ds p u parts.1 (rw other at h) in
+          elim (cases_Bool (is_usual version d)) [
             | inl usual ↦ rw usual rest
             | inr kept ↦ rw (kept, other) rest
           ]
     ]
 
-pub needs-reach : (base : Scope) → list_all are_apart base ≡ true
+pub needs-reach : (version : Addressing) (base : Scope) → list_all are_apart base ≡ true
     → are_apart (in_scope base) ≡ true
-    → (p : List ℕ) → is_bound base p ≡ true → Reached (needed base) base p
-needs-reach base apart sorted p bound = by (known base p) refl
+    → (p : List ℕ) → is_bound base p ≡ true → Reached version (needed version base) base p
+needs-reach version base apart sorted p bound = by (known base p) refl
   where
-    by : (o : Option (List ℕ)) → known base p ≡ o → Reached (needed base) base p
+    by : (o : Option (List ℕ)) → known base p ≡ o → Reached version (needed version base) base p
     by (Some u) k =
         let here : uri_of base p ≡ Some u =
         uri-known base p ∙ ap (λ o. option_or o (undeclared_uri p)) k in
-        elim (unusual-uri (in_scope base) p u sorted (in-scope base p apart ∙ k)) [
+        elim (unusual-uri version (in_scope base) p u sorted (in-scope base p apart ∙ k)) [
           | inl kept ↦ inl (kept ∙ sym here)
           | inr left ↦ inr (left.0, left.1 ∙ sym here)
         ]
@@ -183,8 +187,9 @@ needs-reach base apart sorted p bound = by (known base p) refl
         let gone : has (in_scope base) p ≡ false =
         ap is_some (in-scope base p apart ∙ k) in
         inr (
-          lacks (needed base) p (lacks-filter (λ e. not (is_usual e)) (in_scope base) p gone),
-          undeclared-there p (ap is_some (sym here) ∙ bound) ∙ sym here,
+          lacks (needed version base) p (lacks-filter (λ e. not (is_usual version e)) (in_scope
+              base) p gone),
+          undeclared-there version p (ap is_some (sym here) ∙ bound) ∙ sym here,
         )
 
 -- in another scope each bound prefix means the same
@@ -202,6 +207,24 @@ means-deeper own scope other m p h = by (uri_in own p) refl
         let outer : is_bound scope p ≡ true =
         ap (λ o. is_some (option_or o (uri_of scope p))) (sym e) ∙ h in
         ap (option_or (uri_in own p)) (m p outer)
+
+-- a prefix that is declared isn't missing
+pub missing-lacks : (needs own : List Declaration) (p : List ℕ) → has own p ≡ true
+    → has (missing needs own) p ≡ false
+missing-lacks [] own p h = refl
+missing-lacks (d ∷ needs) own p h = elim (cases_Bool (is_missing own d)) [
+  | inl kept ↦ elim (cases_Bool (bytes_eq d.prefix p)) [
+    | inl is ↦
+        let same : d.prefix ≡ p = (bytes_eq-Decides d.prefix p).0 is in
+        absurd (declared_once (uri_in own p) h (rw same at kept))
+    | inr other ↦ rw (kept, other) (missing-lacks needs own p h)
+  ]
+  | inr left ↦ rw left (missing-lacks needs own p h)
+]
+  where
+    declared_once : (o : Option (List ℕ)) → is_some o ≡ true → is_none o ≡ true → ⊥
+    declared_once None h k = cc
+    declared_once (Some u) h k = cc
 
 missing-uri : (needs own : List Declaration) (p : List ℕ) → uri_in own p ≡ None
     → uri_in (missing needs own) p ≡ uri_in needs p
@@ -226,16 +249,17 @@ some-first None c h = absurd cc
 some-first (Some u) c h = refl
 
 -- a child means with what it gets what it did where it stood
-pub means-child : (needs : List Declaration) (base : Scope)
-    → ((p : List ℕ) → is_bound base p ≡ true → Reached needs base p) → (own : List Declaration)
-    → Means (own ∷ base) ((missing needs own ++ own) ∷ reply_scope)
-means-child needs base reach own p h = by (uri_in own p) refl
+pub means-child : (version : Addressing) (needs : List Declaration) (base : Scope)
+    → ((p : List ℕ) → is_bound base p ≡ true → Reached version needs base p)
+    → (own : List Declaration)
+    → Means (own ∷ base) ((missing needs own ++ own) ∷ (reply_scope version))
+means-child version needs base reach own p h = by (uri_in own p) refl
   where
     front : List Declaration
     front = missing needs own
 
     by : (o : Option (List ℕ)) → uri_in own p ≡ o
-        → option_or (uri_in (missing needs own ++ own) p) (uri_of reply_scope p)
+        → option_or (uri_in (missing needs own ++ own) p) (uri_of (reply_scope version) p)
         ≡ option_or (uri_in own p) (uri_of base p)
     by (Some u) e =
         let none : uri_in (missing needs own) p ≡ None = lacks (missing needs own) p
@@ -243,7 +267,7 @@ means-child needs base reach own p h = by (uri_in own p) refl
         let all : uri_in (missing needs own ++ own) p ≡ Some u =
         uri-append (missing needs own) own p
         ∙ ap (λ o. option_or o (uri_in own p)) none ∙ e in
-        ap (λ o. option_or o (uri_of reply_scope p)) all
+        ap (λ o. option_or o (uri_of (reply_scope version) p)) all
         ∙ sym (ap (λ o. option_or o (uri_of base p)) e)
     by None e =
         let outer : is_bound base p ≡ true =
@@ -252,12 +276,12 @@ means-child needs base reach own p h = by (uri_in own p) refl
         uri-append (missing needs own) own p
         ∙ ap (option_or (uri_in (missing needs own) p)) e
         ∙ or-none (uri_in (missing needs own) p) ∙ missing-uri needs own p e in
-        let there : option_or (uri_in needs p) (uri_of reply_scope p) ≡ uri_of base p =
+        let there : option_or (uri_in needs p) (uri_of (reply_scope version) p) ≡ uri_of base p =
         elim (reach p outer) [
           | inl own_need ↦
-              ap (λ o. option_or o (uri_of reply_scope p)) own_need
-              ∙ some-first (uri_of base p) (uri_of reply_scope p) outer
-          | inr usual ↦ ap (λ o. option_or o (uri_of reply_scope p)) usual.0 ∙ usual.1
+              ap (λ o. option_or o (uri_of (reply_scope version) p)) own_need
+              ∙ some-first (uri_of base p) (uri_of (reply_scope version) p) outer
+          | inr usual ↦ ap (λ o. option_or o (uri_of (reply_scope version) p)) usual.0 ∙ usual.1
         ] in
-        ap (λ o. option_or o (uri_of reply_scope p)) all ∙ there
+        ap (λ o. option_or o (uri_of (reply_scope version) p)) all ∙ there
         ∙ sym (ap (λ o. option_or o (uri_of base p)) e)

@@ -9,6 +9,7 @@ pub mod FitFacts
 pub mod ChildFacts
 pub mod Apart
 pub mod GoodNames
+pub mod InScope
 pub mod Standing
 pub mod Places
 pub mod PlainFacts
@@ -27,7 +28,7 @@ pub mod RootScope
 pub mod ResolvedViews
 pub mod Renamed
 pub mod BoundNames
-pub mod InScope
+pub mod BodyScope
 pub mod Usual
 pub mod BodyNames
 pub mod Declarations
@@ -37,10 +38,6 @@ pub mod Turning
 pub mod Worked
 mod WorkedMade
 mod WorkedNames
+mod WorkedVersions
 mod WorkedResolved
 pub mod WorkedRefusals
-pub mod WorkedPlaces
-pub mod WorkedStructure
-pub mod WorkedHeaders
-pub mod WorkedContents
-mod WorkedView

@@ -1,4 +1,5 @@
 -- The names of replies and faults are good.
+use Rattle.soap_envelope.specs.declared.versions.Addressing.{Addressing}
 use Rattle.std.proofs.Common.{◌≡◌, ℕ, ◌+◌, Bool, true, false, List, [], ◌∷◌, ◌++◌, length, is_some}
 use Rattle.std.proofs.Common.{if◌then◌else◌, Some, None, Option, flat_map, refl, ap, ◌∙◌}
 use Rattle.std.proofs.{Common.append_assoc, Common.arith, lemmas.Bool.and_parts}
@@ -111,13 +112,14 @@ begins-with-content (Attr p l v ∷ xs) ys h =
     absurd (nowhere xs 0 false (passed (is_valid_item (Attr p l v)) None xs (Within 0 false) h).1)
 
 -- from the end of Header on
-tail-named : (body : List Item) → IsContent body → StandsInReplies body → (at : ℕ)
-    → first_bad_name reply_scope at (middle ++ (body ++ ending)) ≡ None
+tail-named : (version : Addressing) (body : List Item) → IsContent body
+    → StandsInReplies version body → (at : ℕ)
+    → first_bad_name (reply_scope version) at (middle ++ (body ++ ending)) ≡ None
 unfolding envelopes_on_literals
-tail-named body content named at =
+tail-named version body content named at =
     let begins = begins-with-content body (Close ∷ []) content in
-    rw (begins.declares, begins.attributes reply_scope (at + 1 + 1))
-    (names-inside body (Close ∷ []) reply_scope (at + 1 + 1) (named (at + 1 + 1)))
+    rw (begins.declares, begins.attributes (reply_scope version) (at + 1 + 1))
+    (names-inside body (Close ∷ []) (reply_scope version) (at + 1 + 1) (named (at + 1 + 1)))
 
 -- what comes after texts
 texts-named : (texts rest : List Item) (scope : Scope) → list_all is_valid_text texts ≡ true
@@ -129,30 +131,35 @@ texts-named (Text v ∷ texts) rest scope h good at =
     (and_parts (is_valid_item (Text v)) (list_all is_valid_text texts) h).1 good (at + 1)
 texts-named (x ∷ texts) rest scope h good at = absurd cc
 
-relates-named : (texts rest : List Item) → list_all is_valid_text texts ≡ true
-    → ((at : ℕ) → first_bad_name reply_scope at rest ≡ None) → (at : ℕ)
-    → first_bad_name reply_scope at (relates_block texts ++ rest) ≡ None
+relates-named : (version : Addressing) (texts rest : List Item)
+    → list_all is_valid_text texts ≡ true
+    → ((at : ℕ) → first_bad_name (reply_scope version) at rest ≡ None) → (at : ℕ)
+    → first_bad_name (reply_scope version) at (relates_block texts ++ rest) ≡ None
 unfolding envelopes_on_literals
-relates-named [] rest h good at = good at
-relates-named (Text v ∷ texts) rest h good at =
+relates-named version [] rest h good at = good at
+relates-named version (Text v ∷ texts) rest h good at =
     rw (append_assoc texts (Close ∷ []) rest)
-    (texts-named texts (Close ∷ rest) ([] ∷ reply_scope)
+    (texts-named texts (Close ∷ rest) ([] ∷ (reply_scope version))
     (and_parts (is_valid_item (Text v)) (list_all is_valid_text texts) h).1
     (λ i. good (i + 1)) (at + 1 + 1))
-relates-named (x ∷ texts) rest h good at = absurd cc
+relates-named version (x ∷ texts) rest h good at = absurd cc
 
-blocks-named : (names : List Name) (rest : List Item)
-    → ((at : ℕ) → first_bad_name reply_scope at rest ≡ None) → (at : ℕ)
-    → first_bad_name reply_scope at (flat_map not_understood_block names ++ rest) ≡ None
+blocks-named : (version : Addressing) (names : List Name) (rest : List Item)
+    → ((at : ℕ) → first_bad_name (reply_scope version) at rest ≡ None) → (at : ℕ)
+    → first_bad_name (reply_scope version) at (flat_map not_understood_block names ++ rest) ≡ None
 unfolding envelopes_on_literals
-blocks-named [] rest good at = good at
-blocks-named (name ∷ names) rest good at = blocks-named names rest good (at + 1 + 1 + 1 + 1)
+blocks-named version [] rest good at = good at
+blocks-named version (name ∷ names) rest good at = blocks-named version names rest good (at + 1 + 1
+    + 1 + 1)
 
-pub made-named : (action : List ℕ) (relates : List Item) (names : List Name)
+pub made-named : (version : Addressing) (action : List ℕ) (relates : List Item) (names : List Name)
     (body : List Item) → list_all is_valid_text relates ≡ true → IsContent body
-    → StandsInReplies body
-    → bad_name (envelope_items action relates (flat_map not_understood_block names) body) ≡ None
+    → StandsInReplies version body
+    → bad_name (envelope_items version action relates (flat_map not_understood_block names) body) ≡
+    None
 unfolding envelopes_on_literals
-made-named action relates names body texts content named =
-    relates-named relates (flat_map not_understood_block names ++ (middle ++ (body ++ ending)))
-    texts (blocks-named names (middle ++ (body ++ ending)) (tail-named body content named)) 8
+made-named version action relates names body texts content named =
+    relates-named version relates (flat_map not_understood_block names ++ (middle ++ (body ++
+    ending)))
+    texts (blocks-named version names (middle ++ (body ++ ending)) (tail-named version body content
+    named)) 8

@@ -1,4 +1,5 @@
 -- The children of a reply's root and of its Header, by their places.
+use Rattle.soap_envelope.specs.declared.versions.Addressing.{Addressing}
 use Rattle.std.proofs.Common.{◌≡◌, ℕ, suc, ◌+◌, true, false, not, List, [], ◌∷◌, ◌++◌, length, drop}
 use Rattle.std.proofs.Common.{slice_get, Some, Ok, codes, filter, flat_map, sym, refl, ap, ◌∙◌}
 use Rattle.std.proofs.Common.{append_assoc, arith, length-append}
@@ -54,27 +55,32 @@ kept-both : (all : List Item) (at : ℕ) → slice_get all at ≡ Some (soap_sta
     → filter (λ (child : ℕ). not (is_passed (slice_get all child))) (3 ∷ at ∷ []) ≡ 3 ∷ at ∷ []
 kept-both all at got first = rw (first, got) refl
 
-parts-by : (all : List Item) (at : ℕ) → slice_get all at ≡ Some (soap_start (codes "Body"))
+parts-by : (version : Addressing) (all : List Item) (at : ℕ)
+    → slice_get all at ≡ Some (soap_start (codes "Body"))
     → declared (drop (at + 1) all) ≡ []
-    → is_element all reply_root soap (codes "Header") 3 ≡ true
-    → parts_among all reply_root (3 ∷ at ∷ []) ≡ Ok (record { header = Some 3; body = at })
+    → is_element all (reply_root version) soap (codes "Header") 3 ≡ true
+    → parts_among all (reply_root version) (3 ∷ at ∷ []) ≡ Ok (record {
+      header = Some 3;
+      body = at;
+    })
 unfolding envelopes_on_literals
-parts-by all at got none first = rw (first, got, none) refl
+parts-by version all at got none first = rw (first, got, none) refl
 
-module _ (action : List ℕ) (relates : List Item) (names : List Name) (body : List Item)
+module _ (version : Addressing) (action : List ℕ) (relates : List Item) (names : List Name) (body :
+    List Item)
     (texts : list_all is_valid_text relates ≡ true) (content : IsContent body) where
   abbrev pub blocks : List Item
   blocks = relates_block relates ++ flat_map not_understood_block names
 
   abbrev pub items : List Item
-  items = envelope_items action relates (flat_map not_understood_block names) body
+  items = envelope_items version action relates (flat_map not_understood_block names) body
 
   abbrev pub rest : List Item
   rest = middle ++ (body ++ ending)
 
   -- up to Body
   abbrev pub front : List Item
-  front = opening ++ (action_block action ++ (blocks ++ Close ∷ []))
+  front = opening version ++ (action_block action ++ (blocks ++ Close ∷ []))
 
   pub fronted : items ≡ front ++ soap_start (codes "Body") ∷ (body ++ ending)
   fronted = simp append_assoc
@@ -120,5 +126,5 @@ module _ (action : List ℕ) (relates : List Item) (names : List Name) (body : L
   unfolding envelopes_on_literals
   parts-there =
       ap (parts_among items (root_scope items)) kept-there
-      ∙ parts-by items (length front) body-there
+      ∙ parts-by version items (length front) body-there
       (ap declared behind-body ∙ (begins-with-content body (Close ∷ []) content).declares) refl

@@ -1,8 +1,9 @@
 -- The blocks of a reply's Header, and its view.
+use Rattle.soap_envelope.specs.declared.versions.Addressing.{Addressing}
 use Rattle.std.proofs.Common.{◌≡◌, ℕ, ◌+◌, true, false, not, List, [], ◌∷◌, ◌++◌, length, drop}
 use Rattle.std.proofs.Common.{slice_get, Some, None, Ok, codes, filter, option_map, flat_map}
 use Rattle.std.proofs.Common.{option_and_then, sym, refl, ap, ◌∙◌, append_assoc, append-nil, arith}
-use Rattle.std.proofs.Common.{length-append}
+use Rattle.std.proofs.Common.{length-append, ◌⊎◌, inl, inr, bytes_eq}
 use Rattle.std.specs.{Prelude.⊤, List.list_all, Option.option_or}
 use Rattle.nbfx_values.specs.declared.{content.Item.Item, scalars.Scalar.TheVariants.Text as TextOf}
 use Rattle.nbfx_values.specs.declared.content.Item.TheVariants.{Attr, Close, Text, Xmlns}
@@ -15,33 +16,39 @@ use Rattle.soap_envelope.specs.Body.{behind_head, body_items, needed, self_stand
 use Rattle.soap_envelope.specs.Characters.{is_passed, text_of}
 use Rattle.soap_envelope.specs.Children.{children_from, close_from, is_start}
 use Rattle.soap_envelope.specs.{Faults.not_understood_block, Made.StandsInReplies}
-use Rattle.soap_envelope.specs.Headers.{bad_header, bad_in_block, counted_at, counts_as}
-use Rattle.soap_envelope.specs.Headers.{first_counted, repeated_behind}
+use Rattle.soap_envelope.specs.Headers.{bad_children, bad_content, bad_in_block, counted_at}
+use Rattle.soap_envelope.specs.Headers.{is_bad_content}
+use Rattle.soap_envelope.specs.Headers.{first_counted, repeated, repeated_behind}
+use Rattle.soap_envelope.specs.Names.{qualified_name, soap}
+use Rattle.soap_envelope.specs.declared.versions.Addressing.TheVariants.{V10, V200408}
+use Rattle.soap_envelope.specs.{Made.blocks_seen, Versions.namespace, Versions.version_of}
 use Rattle.soap_envelope.specs.Made.{action_seen, behind_names, behind_relates, made_view}
 use Rattle.soap_envelope.specs.Made.{name_seen, names_seen, relates_seen, reply_root, reply_scope}
 use Rattle.soap_envelope.specs.Making.{action_block, ending, is_valid_text, IsContent, middle}
-use Rattle.soap_envelope.specs.Making.{opening, relates_block, soap_start}
+use Rattle.soap_envelope.specs.Making.{envelope_items, opening, relates_block, soap_start}
 use Rattle.soap_envelope.specs.Parts.{kept_children, parts_of, root_scope, wrong_root}
 use Rattle.soap_envelope.specs.View.{address_in, blocks_of, fault_among, header_fault, viewed_by}
-use Rattle.soap_envelope.specs.View.{reply_address_at, texts_at, unless, View, view, viewed}
+use Rattle.soap_envelope.specs.View.{texts_at, unless, View, view, viewed, viewed_in}
 use Rattle.soap_envelope.proofs.MadeNames.{begins-with-content, made-named}
 use Rattle.soap_envelope.proofs.MadeParts.{behind-body, drop-behind, front, get-behind, items}
 use Rattle.soap_envelope.proofs.MadeParts.{parts-there, texts-nested}
 use Rattle.soap_envelope.proofs.Nesting.{children-inside, close-inside, leads-nested}
 use Rattle.soap_envelope.proofs.{Nesting.standing-inside, OnLiterals.envelopes_on_literals}
 
--- a block begins at a place, and nothing is wrong with it
-record IsBlock (items : List Item) (scope : Scope) (at : ℕ) (b : Block) : Type 0 where
+-- a block begins at a place, and nothing is wrong with it in a version
+record IsBlock (version : Addressing) (items : List Item) (scope : Scope) (at : ℕ) (b : Block) :
+    Type 0 where
   kept : is_passed (slice_get items at) ≡ false
   start : is_start (slice_get items at) ≡ true
   block : block_of items scope at ≡ b
   good : bad_in_block items scope b ≡ None
+  content : is_bad_content version items scope b ≡ false
 
-module _ (items : List Item) (scope : Scope) where
+module _ (version : Addressing) (items : List Item) (scope : Scope) where
   -- and so at each of some places
   abbrev AreBlocks : List ℕ → List Block → Type 0
   AreBlocks [] [] = ⊤
-  AreBlocks (at ∷ more) (b ∷ bs) = IsBlock items scope at b × AreBlocks more bs
+  AreBlocks (at ∷ more) (b ∷ bs) = IsBlock version items scope at b × AreBlocks more bs
   AreBlocks places bs = ⊥
 
   kept-all : (places : List ℕ) (bs : List Block) → AreBlocks places bs
@@ -61,15 +68,23 @@ module _ (items : List Item) (scope : Scope) where
   blocks-all (at ∷ more) [] h = absurd h
 
   none-bad : (places : List ℕ) (bs : List Block) → AreBlocks places bs
-      → bad_header items scope places ≡ None
+      → bad_children items scope places ≡ None
   none-bad [] [] h = refl
   none-bad (at ∷ more) (b ∷ bs) (first, others) =
       rw first.start
-      (ap (λ o. option_or o (bad_header items scope more))
+      (ap (λ o. option_or o (bad_children items scope more))
       (ap (bad_in_block items scope) first.block ∙ first.good)
       ∙ none-bad more bs others)
   none-bad [] (b ∷ bs) h = absurd h
   none-bad (at ∷ more) [] h = absurd h
+
+  none-bad-content : (places : List ℕ) (bs : List Block) → AreBlocks places bs
+      → bad_content version items scope bs ≡ None
+  none-bad-content [] [] h = refl
+  none-bad-content (at ∷ more) (b ∷ bs) (first, others) =
+      rw first.content (none-bad-content more bs others)
+  none-bad-content [] (b ∷ bs) h = absurd h
+  none-bad-content (at ∷ more) [] h = absurd h
 
   both-blocks : (places others : List ℕ) (bs cs : List Block) → AreBlocks places bs
       → AreBlocks others cs → AreBlocks (places ++ others) (bs ++ cs)
@@ -109,61 +124,84 @@ relates-children (Text v ∷ texts) tail h =
 relates-children (x ∷ texts) tail h = absurd cc
 
 -- of these blocks none but Action counts, and none is repeated
-names-uncounted : (local : List ℕ) (names : List Name) (at : ℕ)
-    → ((n : ℕ) → counts_as local (name_seen n) ≡ false)
-    → first_counted local (names_seen at names) ≡ None
-names-uncounted local [] at h = refl
-names-uncounted local (name ∷ names) at h =
-    rw (h at) (names-uncounted local names (at + 4) h)
-
-names-unrepeated : (before : List Block) (names : List Name) (at : ℕ)
-    → repeated_behind before (names_seen at names) ≡ None
+names-uncounted : (version : Addressing) (local : List ℕ) (names : List Name) (at : ℕ)
+    → first_counted version local (names_seen at names) ≡ None
 unfolding envelopes_on_literals
-names-unrepeated before [] at = refl
-names-unrepeated before (name ∷ names) at =
-    names-unrepeated (before ++ name_seen at ∷ []) names (at + 4)
+names-uncounted version local [] at = refl
+names-uncounted V10 local (name ∷ names) at = names-uncounted V10 local names (at + 4)
+names-uncounted V200408 local (name ∷ names) at = names-uncounted V200408 local names (at + 4)
 
-module _ (action : List ℕ) (relates : List Item) (names : List Name) where
-  abbrev seen : List Block
-  seen = action_seen ∷ (relates_seen relates ++ names_seen (behind_relates relates) names)
+names-unrepeated : (version : Addressing) (before : List Block) (names : List Name) (at : ℕ)
+    → repeated_behind version before (names_seen at names) ≡ None
+unfolding envelopes_on_literals
+names-unrepeated version before [] at = refl
+names-unrepeated V10 before (name ∷ names) at =
+    names-unrepeated V10 (before ++ name_seen at ∷ []) names (at + 4)
+names-unrepeated V200408 before (name ∷ names) at =
+    names-unrepeated V200408 (before ++ name_seen at ∷ []) names (at + 4)
 
-  unrepeated : repeated_behind [] seen ≡ None
-  unfolding envelopes_on_literals
-  unrepeated = by relates
-    where
-      by : (texts : List Item) → repeated_behind []
-          (action_seen ∷ (relates_seen texts ++ names_seen (behind_relates texts) names)) ≡ None
-      by [] = names-unrepeated (action_seen ∷ []) names 8
-      by (text ∷ texts) =
-          names-unrepeated (action_seen ∷ relates_seen (text ∷ texts)) names
-          (behind_relates (text ∷ texts))
+unrepeated : (version : Addressing) (relates : List Item) (names : List Name)
+    → repeated version (blocks_seen version relates names) ≡ None
+unfolding envelopes_on_literals
+unrepeated V10 [] names = names-unrepeated V10 (action_seen V10 ∷ []) names 8
+unrepeated V200408 [] names = names-unrepeated V200408 (action_seen V200408 ∷ []) names 8
+unrepeated V10 (text ∷ texts) names =
+    names-unrepeated V10 (action_seen V10 ∷ relates_seen V10 (text ∷ texts)) names
+    (behind_relates (text ∷ texts))
+unrepeated V200408 (text ∷ texts) names =
+    names-unrepeated V200408 (action_seen V200408 ∷ relates_seen V200408 (text ∷ texts)) names
+    (behind_relates (text ∷ texts))
 
-  uncounted-reply : first_counted (codes "ReplyTo") seen ≡ None
-  unfolding envelopes_on_literals
-  uncounted-reply = by relates
-    where
-      by : (texts : List Item) → first_counted (codes "ReplyTo")
-          (action_seen ∷ (relates_seen texts ++ names_seen (behind_relates texts) names)) ≡ None
-      by [] = names-uncounted (codes "ReplyTo") names 8 (λ n. refl)
-      by (text ∷ texts) =
-          names-uncounted (codes "ReplyTo") names (behind_relates (text ∷ texts)) (λ n. refl)
+uncounted-reply : (version : Addressing) (relates : List Item) (names : List Name)
+    → first_counted version (codes "ReplyTo") (blocks_seen version relates names) ≡ None
+unfolding envelopes_on_literals
+uncounted-reply V10 [] names = names-uncounted V10 (codes "ReplyTo") names 8
+uncounted-reply V200408 [] names = names-uncounted V200408 (codes "ReplyTo") names 8
+uncounted-reply V10 (text ∷ texts) names =
+    names-uncounted V10 (codes "ReplyTo") names (behind_relates (text ∷ texts))
+uncounted-reply V200408 (text ∷ texts) names =
+    names-uncounted V200408 (codes "ReplyTo") names (behind_relates (text ∷ texts))
 
-  uncounted-message : first_counted (codes "MessageID") seen ≡ None
-  unfolding envelopes_on_literals
-  uncounted-message = by relates
-    where
-      by : (texts : List Item) → first_counted (codes "MessageID")
-          (action_seen ∷ (relates_seen texts ++ names_seen (behind_relates texts) names)) ≡ None
-      by [] = names-uncounted (codes "MessageID") names 8 (λ n. refl)
-      by (text ∷ texts) =
-          names-uncounted (codes "MessageID") names (behind_relates (text ∷ texts)) (λ n. refl)
+uncounted-message : (version : Addressing) (relates : List Item) (names : List Name)
+    → first_counted version (codes "MessageID") (blocks_seen version relates names) ≡ None
+unfolding envelopes_on_literals
+uncounted-message V10 [] names = names-uncounted V10 (codes "MessageID") names 8
+uncounted-message V200408 [] names = names-uncounted V200408 (codes "MessageID") names 8
+uncounted-message V10 (text ∷ texts) names =
+    names-uncounted V10 (codes "MessageID") names (behind_relates (text ∷ texts))
+uncounted-message V200408 (text ∷ texts) names =
+    names-uncounted V200408 (codes "MessageID") names (behind_relates (text ∷ texts))
+
+-- the Action has the version, and counts
+action-first : (version : Addressing) (more : List Block)
+    → (version_of (action_seen version ∷ more) ≡ version)
+    × (counted_at version (codes "Action") (action_seen version ∷ more) ≡ Some 4)
+unfolding envelopes_on_literals
+action-first V10 more = (refl, refl)
+action-first V200408 more = (refl, refl)
+
+has-namespace : (version : Addressing) → bytes_eq (namespace version) [] ≡ false
+unfolding envelopes_on_literals
+has-namespace V10 = refl
+has-namespace V200408 = refl
+
+-- the content of other blocks may be any
+content-free : (version : Addressing) (items : List Item) (scope : Scope) (b : Block)
+    → (b.name ≡ qualified_name soap (codes "NotUnderstood"))
+    ⊎ (b.name ≡ qualified_name (namespace version) (codes "RelatesTo")) → b.targeted ≡ true
+    → is_bad_content version items scope b ≡ false
+unfolding envelopes_on_literals
+content-free V10 items scope b (inl is) targeted = rw (targeted, is) refl
+content-free V200408 items scope b (inl is) targeted = rw (targeted, is) refl
+content-free V10 items scope b (inr is) targeted = rw (targeted, is) refl
+content-free V200408 items scope b (inr is) targeted = rw (targeted, is) refl
 
 -- the block of a name, where it stands after a front
-name-block : (all before more : List Item) (name : Name)
+name-block : (version : Addressing) (all before more : List Item) (name : Name)
     → all ≡ before ++ (not_understood_block name ++ more)
-    → IsBlock all reply_scope (length before) (name_seen (length before))
+    → IsBlock version all (reply_scope version) (length before) (name_seen (length before))
 unfolding envelopes_on_literals
-name-block all before more name is =
+name-block version all before more name is =
     let inner : List Item = Xmlns (codes "n") name.uri
     ∷ Attr [] (codes "qname") (One (TextOf (codes "n:" ++ name.local))) ∷ Close ∷ more in
     let got : slice_get all (length before) ≡ Some (soap_start (codes "NotUnderstood")) =
@@ -178,52 +216,71 @@ name-block all before more name is =
       block = rw (got, left)
           (ap (λ (n : ℕ). record (name_seen (length before)) { to = n }) (omega arith));
       good = rw left refl;
+      content = content-free version all (reply_scope version) (name_seen (length before))
+          (inl refl) refl;
     }
 
-names-blocks : (all before tail : List Item) (names : List Name) (at : ℕ)
+names-blocks : (version : Addressing) (all before tail : List Item) (names : List Name) (at : ℕ)
     → all ≡ before ++ (flat_map not_understood_block names ++ tail) → at ≡ length before
-    → AreBlocks all reply_scope (names_places at names) (names_seen at names)
-names-blocks all before tail [] at is place = tt
-names-blocks all before tail (name ∷ names) at is place =
+    → AreBlocks version all (reply_scope version) (names_places at names) (names_seen at names)
+names-blocks version all before tail [] at is place = tt
+names-blocks version all before tail (name ∷ names) at is place =
     let others = flat_map not_understood_block names ++ tail in
-    let one = name-block all before others name is in (
+    let one = name-block version all before others name is in (
       rw place one,
-      names-blocks all (before ++ not_understood_block name) tail names (at + 4)
+      names-blocks version all (before ++ not_understood_block name) tail names (at + 4)
           (is ∙ sym (append_assoc before (not_understood_block name) others))
           (omega (arith, place, length-append before (not_understood_block name))),
     )
 
 -- the content of Body, where this stands after its beginning
-abbrev standing_behind : List Item → List Item
-standing_behind tail =
-    self_standing (needed (declared tail ∷ reply_root)) (Some 0) (behind_head tail)
+abbrev standing_behind : Addressing → List Item → List Item
+standing_behind version tail =
+    self_standing (needed version (declared tail ∷ reply_root version)) (Some 0) (behind_head tail)
 
-body-stands : (body : List Item) → IsContent body → standing_behind (body ++ ending) ≡ body
+body-stands : (version : Addressing) (body : List Item) → IsContent body
+    → standing_behind version (body ++ ending) ≡ body
 unfolding envelopes_on_literals
-body-stands body content =
+body-stands version body content =
     let begins = begins-with-content body (Close ∷ []) content in
-    rw (begins.declares, begins.head)
+    rw (begins.declares, begins.head, none version)
     (standing-inside body ending 0 0 (leads-nested body 0 0 false false content)
     ∙ append-nil body)
+  where
+    none : (v : Addressing) → needed v (reply_scope v) ≡ []
+    none V10 = refl
+    none V200408 = refl
 
-module _ (action : List ℕ) (relates : List Item) (names : List Name) (body : List Item)
-    (texts : list_all is_valid_text relates ≡ true) (content : IsContent body)
-    (named : StandsInReplies body) where
+module _ (version : Addressing) (action : List ℕ) (relates : List Item) (names : List Name)
+    (body : List Item) (texts : list_all is_valid_text relates ≡ true) (content : IsContent body)
+    (named : StandsInReplies version body) where
   abbrev all : List Item
-  all = items action relates names body texts content
+  all = items version action relates names body texts content
 
   abbrev places : List ℕ
   places = 4 ∷ (relates_places relates ++ names_places (behind_relates relates) names)
 
   abbrev blocks : List Block
-  blocks = seen action relates names
+  blocks = blocks_seen version relates names
 
-  action-block : IsBlock all reply_scope 4 action_seen
+  action-block : IsBlock version all (reply_scope version) 4 (action_seen version)
   unfolding envelopes_on_literals
-  action-block = record { kept = refl; start = refl; block = refl; good = refl }
+  action-block =
+      record {
+        kept = refl;
+        start = refl;
+        block = refl;
+        good = rw (has-namespace version) refl;
+        content = by version;
+      }
+    where
+      by : (v : Addressing) → is_bad_content v (items v action relates names body texts content)
+          (reply_scope v) (action_seen v) ≡ false
+      by V10 = refl
+      by V200408 = refl
 
   relates-blocks : (ts : List Item) → list_all is_valid_text ts ≡ true → relates ≡ ts
-      → AreBlocks all reply_scope (relates_places ts) (relates_seen ts)
+      → AreBlocks version all (reply_scope version) (relates_places ts) (relates_seen version ts)
   unfolding envelopes_on_literals
   relates-blocks [] h is = tt
   relates-blocks (Text v ∷ ts) h is =
@@ -234,25 +291,33 @@ module _ (action : List ℕ) (relates : List Item) (names : List Name) (body : L
         rw is (record {
           kept = refl;
           start = refl;
-          block = ap (λ (n : ℕ). record (action_seen) {
-            name = Rattle.soap_envelope.specs.Names.qualified_name
-                Rattle.soap_envelope.specs.Names.addressing (codes "RelatesTo");
+          block = ap (λ (n : ℕ). record (action_seen version) {
+            name = qualified_name (namespace version) (codes "RelatesTo");
             must_understand = false;
             from = 8;
             to = n;
           }) closed;
-          good = refl;
+          good = rw (has-namespace version) refl;
+          content = content-free version
+              (envelope_items version action (Text v ∷ ts) (flat_map not_understood_block names)
+              body) (reply_scope version)
+              (record (action_seen version) {
+                name = qualified_name (namespace version) (codes "RelatesTo");
+                must_understand = false;
+                from = 8;
+                to = 9 + length (Text v ∷ ts);
+              }) (inr refl) refl;
         }),
         tt,
       )
   relates-blocks (x ∷ ts) h is = absurd cc
 
-  before-names : all ≡ (opening ++ (action_block action ++ relates_block relates))
+  before-names : all ≡ (opening version ++ (action_block action ++ relates_block relates))
       ++ (flat_map not_understood_block names ++ (middle ++ (body ++ ending)))
   before-names = simp append_assoc
 
   count-relates : (ts : List Item)
-      → behind_relates ts ≡ length (opening ++ (action_block action ++ relates_block ts))
+      → behind_relates ts ≡ length (opening version ++ (action_block action ++ relates_block ts))
   count-relates [] = refl
   count-relates (t ∷ ts) = omega (arith, length-append (t ∷ ts) (Close ∷ []))
 
@@ -266,16 +331,22 @@ module _ (action : List ℕ) (relates : List Item) (names : List Name) (body : L
         length-append (not_understood_block name) (flat_map not_understood_block more),
       )
 
-  all-blocks : AreBlocks all reply_scope places blocks
+  all-blocks : AreBlocks version all (reply_scope version) places blocks
   all-blocks = (
     action-block,
-    both-blocks all reply_scope (relates_places relates)
-        (names_places (behind_relates relates) names) (relates_seen relates)
+    both-blocks version all (reply_scope version) (relates_places relates)
+        (names_places (behind_relates relates) names) (relates_seen version relates)
         (names_seen (behind_relates relates) names) (relates-blocks relates texts refl)
-        (names-blocks all (opening ++ (action_block action ++ relates_block relates))
+        (names-blocks version all (opening version ++ (action_block action ++ relates_block
+        relates))
         (middle ++ (body ++ ending)) names (behind_relates relates) before-names
         (count-relates relates)),
   )
+
+  in-version : version_of blocks ≡ version
+  in-version =
+      (action-first version
+      (relates_seen version relates ++ names_seen (behind_relates relates) names)).0
 
   header-places : children_from (Some 0) 4 (drop 4 all) ≡ places
   unfolding envelopes_on_literals
@@ -290,43 +361,41 @@ module _ (action : List ℕ) (relates : List Item) (names : List Name) (body : L
   unfolding envelopes_on_literals
   kept-places =
       ap (filter (λ (child : ℕ). not (is_passed (slice_get all child)))) header-places
-      ∙ kept-all all reply_scope places blocks all-blocks
+      ∙ kept-all version all (reply_scope version) places blocks all-blocks
 
   blocks-there : blocks_of all (Some 3) ≡ blocks
   unfolding envelopes_on_literals
   blocks-there =
-      ap (blocks_among all reply_scope) kept-places
-      ∙ blocks-all all reply_scope places blocks all-blocks
+      ap (blocks_among all (reply_scope version)) kept-places
+      ∙ blocks-all version all (reply_scope version) places blocks all-blocks
 
   no-fault : header_fault all (Some 3) ≡ None
   unfolding envelopes_on_literals
   no-fault =
-      ap (λ cs. fault_among all reply_scope cs (blocks_of all (Some 3))) kept-places
-      ∙ ap (fault_among all reply_scope places) blocks-there
+      let scope = reply_scope version in
+      ap (λ cs. fault_among (version_of (blocks_of all (Some 3))) all scope
+      (bad_children all scope cs) (blocks_of all (Some 3))) kept-places
+      ∙ ap (λ o. fault_among (version_of (blocks_of all (Some 3))) all scope o
+      (blocks_of all (Some 3))) (none-bad version all scope places blocks all-blocks)
+      ∙ ap (λ bs. fault_among (version_of bs) all scope None bs) blocks-there
+      ∙ ap (λ v. fault_among v all scope None blocks) in-version
       ∙ ap (λ o. option_or (option_map RepeatedHeader o)
-      (option_map BadHeader (bad_header all reply_scope places)))
-      (unrepeated action relates names)
-      ∙ ap (option_map BadHeader) (none-bad all reply_scope places blocks all-blocks)
+      (option_map BadHeader (bad_content version all scope blocks)))
+      (unrepeated version relates names)
+      ∙ ap (option_map BadHeader) (none-bad-content version all scope places blocks all-blocks)
 
   abbrev at_body : ℕ
-  at_body = length (front action relates names body texts content)
+  at_body = length (front version action relates names body texts content)
 
-  body-again : body_items all (root_scope all) at_body ≡ body
+  body-again : body_items version all (root_scope all) at_body ≡ body
   unfolding envelopes_on_literals
   body-again =
-      ap standing_behind (behind-body action relates names body texts content)
-      ∙ body-stands body content
+      ap (standing_behind version) (behind-body version action relates names body texts content)
+      ∙ body-stands version body content
 
   -- what is seen with these blocks
-  abbrev seen_with : List Block → View
-  seen_with bs = record {
-    blocks = bs;
-    action = option_map (text_of all) (counted_at (codes "Action") bs);
-    reply_address = option_map (text_of all) (reply_address_at all reply_scope bs);
-    message_id = texts_at all (counted_at (codes "MessageID") bs);
-    body_at = at_body;
-    body = body_items all (root_scope all) at_body;
-  }
+  abbrev seen_with : Addressing → List Block → View
+  seen_with v bs = viewed_in v bs all (record { header = Some 3; body = at_body })
 
   body-placed : at_body ≡ behind_names (behind_relates relates) names + 1
   body-placed =
@@ -338,35 +407,45 @@ module _ (action : List ℕ) (relates : List Item) (names : List Name) (body : L
         count-names names (behind_relates relates),
       )
 
-  view-there : seen_with blocks ≡ made_view action relates names body
+  view-there : seen_with version blocks ≡ made_view version action relates names body
   unfolding envelopes_on_literals
   view-there =
-      ap (λ r. record (seen_with blocks) {
+      ap (λ r. record (seen_with version blocks) {
         reply_address = option_map (text_of all)
-            (option_and_then (address_in all reply_scope) (option_map (λ (b : Block). b.from) r));
-      }) (uncounted-reply action relates names)
-      ∙ ap (λ m. record (seen_with blocks) {
+            (option_and_then (address_in version all (reply_scope version))
+            (option_map (λ (b : Block). b.from) r));
+      }) (uncounted-reply version relates names)
+      ∙ ap (λ m. record (seen_with version blocks) {
         reply_address = None;
         message_id = texts_at all (option_map (λ (b : Block). b.from) m);
-      }) (uncounted-message action relates names)
-      ∙ ap (λ b. record (seen_with blocks) { reply_address = None; message_id = []; body = b })
-      body-again
-      ∙ ap (λ (n : ℕ). record (seen_with blocks) {
+      }) (uncounted-message version relates names)
+      ∙ ap (λ b. record (seen_with version blocks) {
+        reply_address = None;
+        message_id = [];
+        body = b;
+      }) body-again
+      ∙ ap (λ (n : ℕ). record (seen_with version blocks) {
         reply_address = None;
         message_id = [];
         body_at = n;
         body = body;
       }) body-placed
-      ∙ ap (λ t. record (made_view action relates names body) { action = Some t })
+      ∙ ap (λ a. record (made_view version action relates names body) {
+        action = option_map (text_of all) a;
+      })
+      (action-first version
+      (relates_seen version relates ++ names_seen (behind_relates relates) names)).1
+      ∙ ap (λ t. record (made_view version action relates names body) { action = Some t })
       (append-nil action)
 
-  pub made-viewed : view all ≡ Ok (made_view action relates names body)
+  pub made-viewed : view all ≡ Ok (made_view version action relates names body)
   unfolding envelopes_on_literals
   made-viewed =
       ap (λ o. unless (option_map BadNames o)
       (unless (wrong_root all) (viewed_by all (parts_of all))))
-      (made-named action relates names body texts content named)
-      ∙ ap (viewed_by all) (parts-there action relates names body texts content)
+      (made-named version action relates names body texts content named)
+      ∙ ap (viewed_by all) (parts-there version action relates names body texts content)
       ∙ ap (λ f. unless f (Ok (viewed all (record { header = Some 3; body = at_body })))) no-fault
-      ∙ ap (λ bs. Ok (seen_with bs)) blocks-there
+      ∙ ap (λ bs. Ok (seen_with (version_of bs) bs)) blocks-there
+      ∙ ap (λ v. Ok (seen_with v blocks)) in-version
       ∙ ap (λ (v : View). Ok v) view-there

@@ -1,4 +1,5 @@
 -- Where the items of replies and faults lead in a document.
+use Rattle.soap_envelope.specs.declared.versions.Addressing.{Addressing}
 use Rattle.std.proofs.Common.{◌≡◌, ℕ, zero, suc, Bool, true, false, List, [], ◌∷◌, ◌++◌, Some, None}
 use Rattle.std.proofs.Common.{Option, eqb, length, codes, sym, refl, ap, ◌∙◌, append_assoc}
 use Rattle.std.{proofs.lemmas.Bool.and_parts, specs.List.list_all, specs.Str.is_utf8}
@@ -8,7 +9,9 @@ use Rattle.nbfx_values.specs.declared.content.Item.{Item, TheVariants.Text, TheV
 use Rattle.nbfx_values.specs.declared.content.Item.TheVariants.{Array, Attr, Close, Comment, Start}
 use Rattle.nbfx_values.specs.{declared.position.Position.Position, Items.is_valid_item}
 use Rattle.nbfx_values.specs.declared.position.Position.TheVariants.{After, Before, Within}
-use Rattle.nbfx_values.specs.{Documents.IsDocument, Positions.position_from, Scalars.is_valid_value}
+use Rattle.nbfx_values.specs.{Documents.IsDocument, Positions.position_of, Scalars.is_valid_value}
+use Rattle.nbfx_values.specs.Positions.{position_from}
+use Rattle.soap_envelope.specs.declared.versions.Addressing.TheVariants.{V10, V200408}
 use Rattle.soap_envelope.specs.Making.{action_block, ending, envelope_items, is_valid_text, middle}
 use Rattle.soap_envelope.specs.Making.{addressing_start, opening, relates_block, words}
 use Rattle.soap_envelope.proofs.OnLiterals.{envelopes_on_literals}
@@ -106,16 +109,25 @@ relates-lead (text ∷ more) h =
     leads-on (Some (Within 2 true)) (Some (Within 2 p.0)) (Some (Within 1 false)) (text ∷ more)
     (Close ∷ []) p.1 refl
 
+-- the opening leads into Header
+pub opening-leads : (version : Addressing) (rest : List Item)
+    → position_from (Some (Within 1 true)) rest ≡ Some After
+    → position_of (opening version ++ rest) ≡ Some After
+unfolding envelopes_on_literals
+opening-leads V10 rest h = h
+opening-leads V200408 rest h = h
+
 -- an envelope is a document, where its action is UTF-8, its texts are valid, and its blocks and its
 -- content lead
 -- nowhere else
-pub envelope-document : (action : List ℕ) (relates blocks body : List Item) → is_utf8 action ≡ true
+pub envelope-document : (version : Addressing) (action : List ℕ) (relates blocks body : List Item)
+    → is_utf8 action ≡ true
     → list_all is_valid_text relates ≡ true
     → position_from (Some (Within 1 false)) blocks ≡ Some (Within 1 false)
     → position_from (Some (Within 0 false)) body ≡ Some (Within 0 false)
-    → IsDocument (envelope_items action relates blocks body)
+    → IsDocument (envelope_items version action relates blocks body)
 unfolding envelopes_on_literals
-envelope-document action relates blocks body utf8 texts leads content =
+envelope-document version action relates blocks body utf8 texts leads content =
     let inside = content-leads body 1 (deeper-leads body 0 0 false false content) in
     let closed = leads-on (Some (Within 1 true)) (Some (Within 1 inside.0)) (Some After) body ending
     inside.1 refl in
@@ -127,14 +139,19 @@ envelope-document action relates blocks body utf8 texts leads content =
     let from_action = leads-on (Some (Within 1 true)) (Some (Within 1 false)) (Some After)
     (action_block action) (relates_block relates ++ (blocks ++ (middle ++ (body ++ ending))))
     (action-leads action utf8) from_relates in
-    position_of-document (envelope_items action relates blocks body) from_action
+    position_of-document (envelope_items version action relates blocks body)
+    (opening-leads version
+    (action_block action ++ (relates_block relates ++ (blocks ++ (middle ++ (body ++ ending)))))
+    from_action)
 
 -- the items of an envelope in the order in which they are put
-pub grouped : (old : List Item) (action : List ℕ) (relates blocks body : List Item)
-    → ((((((old ++ opening) ++ action_block action) ++ relates_block relates) ++ blocks) ++ middle)
+pub grouped : (version : Addressing) (old : List Item) (action : List ℕ) (relates blocks body :
+    List Item)
+    → ((((((old ++ opening version) ++ action_block action) ++ relates_block relates) ++ blocks) ++
+    middle)
     ++ body) ++ ending
-    ≡ old ++ envelope_items action relates blocks body
-grouped old action relates blocks body = simp append_assoc
+    ≡ old ++ envelope_items version action relates blocks body
+grouped version old action relates blocks body = simp append_assoc
 
 -- the block that names the message that is answered, where there are texts
 pub relates_block-some : (texts : List Item) → eqb (length texts) 0 ≡ false

@@ -1,4 +1,5 @@
 -- An envelope with blocks of any standard is a document.
+use Rattle.soap_envelope.specs.declared.versions.Addressing.{Addressing}
 use Rattle.std.proofs.Common.{◌≡◌, ℕ, true, false, Bool, List, ◌++◌, Some, refl}
 use Rattle.nbfx_values.{proofs.Walks.position_of-document, specs.Documents.IsDocument}
 use Rattle.nbfx_values.specs.declared.content.Item.{Item}
@@ -7,16 +8,18 @@ use Rattle.nbfx_values.specs.Positions.{position_from}
 use Rattle.soap_envelope.specs.Making.{ending, IsContent, middle}
 use Rattle.soap_envelope.specs.Plain.{plain_items}
 use Rattle.soap_envelope.proofs.OnLiterals.{envelopes_on_literals}
-use Rattle.soap_envelope.proofs.Places.{content-leads, deeper-leads, leads-on}
+use Rattle.soap_envelope.proofs.Places.{content-leads, deeper-leads, leads-on, opening-leads}
 
-pub plain-document : (blocks body : List Item) → IsContent blocks → IsContent body
-    → IsDocument (plain_items blocks body)
+pub plain-document : (version : Addressing) (blocks body : List Item) → IsContent blocks
+    → IsContent body
+    → IsDocument (plain_items version blocks body)
 unfolding envelopes_on_literals
-plain-document blocks body leads content =
+plain-document version blocks body leads content =
     let inside = content-leads body 1 (deeper-leads body 0 0 false false content) in
     let closed = leads-on (Some (Within 1 true)) (Some (Within 1 inside.0)) (Some After) body ending
     inside.1 refl in
     let header = content-leads blocks 1 (deeper-leads blocks 0 0 false false leads) in
-    position_of-document (plain_items blocks body)
+    position_of-document (plain_items version blocks body)
+    (opening-leads version (blocks ++ (middle ++ (body ++ ending)))
     (leads-on (Some (Within 1 true)) (Some (Within 1 header.0)) (Some After) blocks
-    (middle ++ (body ++ ending)) header.1 closed)
+    (middle ++ (body ++ ending)) header.1 closed))

@@ -1,4 +1,5 @@
 -- Documents that are resolved to the same names, item by item, have the same view but for Body.
+use Rattle.soap_envelope.specs.declared.versions.Addressing.{Addressing}
 use Rattle.std.proofs.Common.{◌≡◌, ℕ, ◌+◌, Bool, true, not, ◌&&◌, List, [], ◌∷◌, map, drop}
 use Rattle.std.proofs.Common.{slice_get, Some, None, Ok, codes, filter, Option, Result, option_map}
 use Rattle.std.proofs.Common.{option_to_list, flat_map, option_and_then, sym, refl, ap, ◌∙◌, subst}
@@ -15,13 +16,16 @@ use Rattle.soap_envelope.specs.{Bindings.scope_to, Characters.text_of, Scopes.Sc
 use Rattle.soap_envelope.specs.Blocks.{block_of, blocks_among, soap_attribute_of}
 use Rattle.soap_envelope.specs.Characters.{characters_of, has_plain_content, is_passed, is_plain}
 use Rattle.soap_envelope.specs.Children.{children_of, close_of, is_start}
-use Rattle.soap_envelope.specs.Headers.{addresses, bad_child, bad_header, bad_in_block, counted_at}
+use Rattle.soap_envelope.specs.Headers.{addresses, bad_child, bad_children, bad_content}
+use Rattle.soap_envelope.specs.Headers.{bad_in_block, counted_at, earlier}
 use Rattle.soap_envelope.specs.Headers.{counts_as, is_address, is_bad_content, only, repeated}
-use Rattle.soap_envelope.specs.{Names.addressing, Names.soap, Parts.wrong_name, Parts.wrong_root}
+use Rattle.soap_envelope.specs.{Names.soap, Parts.wrong_name, Parts.wrong_root}
+use Rattle.soap_envelope.specs.Versions.{namespace, version_of}
 use Rattle.soap_envelope.specs.Parts.{element_name, is_element, is_some_name, kept_children}
 use Rattle.soap_envelope.specs.Parts.{name_by, parts_among, parts_behind, parts_of, root_scope}
 use Rattle.soap_envelope.specs.Renaming.{headed, headed_by}
-use Rattle.soap_envelope.specs.View.{address_in, blocks_of, header_children, header_fault}
+use Rattle.soap_envelope.specs.View.{address_in, blocks_of, fault_among, viewed_in, header_children}
+use Rattle.soap_envelope.specs.View.{header_fault}
 use Rattle.soap_envelope.specs.View.{header_scope, reply_address_at, text_item, texts_at, texts_of}
 use Rattle.soap_envelope.specs.View.{unless, View, viewed, viewed_by}
 use Rattle.soap_envelope.proofs.Bare.{all-bare, bare, bare_of, characters-by, children-bare}
@@ -174,47 +178,64 @@ module _ (items other : List Item) (alike : resolved items ≡ resolved other) w
         closes c,
       ) refl
 
-  addresses-alike : (one two : Scope) (p : ℕ) → Stands one two p → Begun p
-      → addresses items one p ≡ addresses other two p
-  addresses-alike one two p s b =
+  addresses-alike : (version : Addressing) (one two : Scope) (p : ℕ) → Stands one two p → Begun p
+      → addresses version items one p ≡ addresses version other two p
+  addresses-alike version one two p s b =
       let mine = within items p one in
       let its = within other p two in
-      filter-alike (is_address items mine) (is_address other its) (children_of items p)
-      (each-map (Stands mine its) (λ c. is_address items mine c ≡ is_address other its c)
+      filter-alike (is_address version items mine) (is_address version other its) (children_of
+      items p)
+      (each-map (Stands mine its) (λ c. is_address version items mine c ≡ is_address version other
+      its c)
       (λ c t. ap (λ (e : Bool). e && has_plain_content items c)
-      (elements mine its addressing (codes "Address") c t)
-      ∙ ap (λ (e : Bool). is_element other its addressing (codes "Address") c && e) (plain c))
+      (elements mine its (namespace version) (codes "Address") c t)
+      ∙ ap (λ (e : Bool). is_element other its (namespace version) (codes "Address") c && e) (plain
+      c))
       (children_of items p) (within-both one two p s b))
-      ∙ ap (filter (is_address other its)) (children p)
+      ∙ ap (filter (is_address version other its)) (children p)
 
-  contents : (one two : Scope) (b : Block) → Stands one two b.from → Begun b.from
-      → is_bad_content items one b ≡ is_bad_content other two b
-  contents one two b s h = rw (plain b.from, addresses-alike one two b.from s h) refl
+  contents : (version : Addressing) (one two : Scope) (b : Block) → Stands one two b.from
+      → Begun b.from
+      → is_bad_content version items one b ≡ is_bad_content version other two b
+  contents version one two b s h = rw (plain b.from, addresses-alike version one two b.from s h)
+      refl
 
   bad-blocks : (one two : Scope) (b : Block) → Stands one two b.from → Begun b.from
       → bad_in_block items one b ≡ bad_in_block other two b
   bad-blocks one two b s h =
       rw (
-        contents one two b s h,
         attributes one two (codes "mustUnderstand") b.from s h,
         attributes one two (codes "role") b.from s h,
       ) refl
 
-  bad-children : (one two : Scope) (c : ℕ) → Stands one two c
+  bad-child : (one two : Scope) (c : ℕ) → Stands one two c
       → bad_child items one c ≡ bad_child other two c
-  bad-children one two c s = elim (cases_Bool (is_start (slice_get items c))) [
+  bad-child one two c s = elim (cases_Bool (is_start (slice_get items c))) [
     | inl is ↦ rw (is, sym (starts c) ∙ is)
         (ap (bad_in_block items one) (blocks one two c s is)
         ∙ bad-blocks one two (block_of other two c) s is)
     | inr none ↦ rw (none, sym (starts c) ∙ none) refl
   ]
 
-  bad-headers : (one two : Scope) (cs : List ℕ) → Each (Stands one two) cs
-      → bad_header items one cs ≡ bad_header other two cs
-  bad-headers one two [] h = refl
-  bad-headers one two (c ∷ cs) h =
-      rw (bad-children one two c h.0)
-      (ap (option_or (bad_child other two c)) (bad-headers one two cs h.1))
+  bad-children : (one two : Scope) (cs : List ℕ) → Each (Stands one two) cs
+      → bad_children items one cs ≡ bad_children other two cs
+  bad-children one two [] h = refl
+  bad-children one two (c ∷ cs) h =
+      rw (bad-child one two c h.0)
+      (ap (option_or (bad_child other two c)) (bad-children one two cs h.1))
+
+  bad-contents : (version : Addressing) (one two : Scope) (cs : List ℕ) → Each (Stands one two) cs
+      → bad_content version items one (blocks_among items one cs)
+      ≡ bad_content version other two (blocks_among items one cs)
+  bad-contents version one two [] h = refl
+  bad-contents version one two (c ∷ cs) h = elim (cases_Bool (is_start (slice_get items c))) [
+    | inl is ↦ rw (is, contents version one two (block_of items one c) h.0 is)
+        (elim (cases_Bool (is_bad_content version other two (block_of items one c))) [
+          | inl bad ↦ rw bad refl
+          | inr good ↦ rw good (bad-contents version one two cs h.1)
+        ])
+    | inr none ↦ rw none (bad-contents version one two cs h.1)
+  ]
 
   all-blocks : (one two : Scope) (cs : List ℕ) → Each (Stands one two) cs
       → blocks_among items one cs ≡ blocks_among other two cs
@@ -227,35 +248,38 @@ module _ (items other : List Item) (alike : resolved items ≡ resolved other) w
   ]
 
   -- a block that counts begins an element in Header
-  counted-stands : (one two : Scope) (local cs : List ℕ) → Each (Stands one two) cs → (p : ℕ)
-      → counted_at local (blocks_among items one cs) ≡ Some p → Stands one two p × Begun p
-  counted-stands one two local [] h p k = absurd cc
-  counted-stands one two local (c ∷ cs) h p k =
+  counted-stands : (version : Addressing) (one two : Scope) (local cs : List ℕ)
+      → Each (Stands one two) cs → (p : ℕ)
+      → counted_at version local (blocks_among items one cs) ≡ Some p → Stands one two p × Begun p
+  counted-stands version one two local [] h p k = absurd cc
+  counted-stands version one two local (c ∷ cs) h p k =
       elim (cases_Bool (is_start (slice_get items c))) [
-        | inl is ↦ elim (cases_Bool (counts_as local (block_of items one c))) [
+        | inl is ↦ elim (cases_Bool (counts_as version local (block_of items one c))) [
           | inl counts ↦
               let found : Some c ≡ Some p = rw (is, counts) at k in
               let same : c ≡ p = cc in
               subst (λ q. Stands one two q × Begun q) same (h.0, is)
-          | inr passed ↦ counted-stands one two local cs h.1 p (rw (is, passed) at k)
+          | inr passed ↦ counted-stands version one two local cs h.1 p (rw (is, passed) at k)
         ]
-        | inr none ↦ counted-stands one two local cs h.1 p (rw none at k)
+        | inr none ↦ counted-stands version one two local cs h.1 p (rw none at k)
       ]
 
-  reply-to : (one two : Scope) (cs : List ℕ) → Each (Stands one two) cs
-      → reply_address_at items one (blocks_among items one cs)
-      ≡ reply_address_at other two (blocks_among other two cs)
-  reply-to one two cs h =
-      by (counted_at (codes "ReplyTo") (blocks_among items one cs)) refl
-      ∙ ap (λ l. option_and_then (address_in other two) (counted_at (codes "ReplyTo") l))
+  reply-to : (version : Addressing) (one two : Scope) (cs : List ℕ) → Each (Stands one two) cs
+      → reply_address_at version items one (blocks_among items one cs)
+      ≡ reply_address_at version other two (blocks_among other two cs)
+  reply-to version one two cs h =
+      by (counted_at version (codes "ReplyTo") (blocks_among items one cs)) refl
+      ∙ ap (λ l. option_and_then (address_in version other two) (counted_at version (codes
+      "ReplyTo") l))
       (all-blocks one two cs h)
     where
-      by : (o : Option ℕ) → counted_at (codes "ReplyTo") (blocks_among items one cs) ≡ o
-          → option_and_then (address_in items one) o ≡ option_and_then (address_in other two) o
+      by : (o : Option ℕ) → counted_at version (codes "ReplyTo") (blocks_among items one cs) ≡ o
+          → option_and_then (address_in version items one) o ≡ option_and_then (address_in version
+          other two) o
       by None k = refl
       by (Some p) k =
-          let r = counted-stands one two (codes "ReplyTo") cs h p k in
-          ap only (addresses-alike one two p r.0 r.1)
+          let r = counted-stands version one two (codes "ReplyTo") cs h p k in
+          ap only (addresses-alike version one two p r.0 r.1)
 
   -- Header
   abbrev root : Scope
@@ -292,59 +316,63 @@ module _ (items other : List Item) (alike : resolved items ≡ resolved other) w
   header-faults : (header : Option ℕ) → HeaderStands header
       → header_fault items header ≡ header_fault other header
   header-faults header s =
-      ap (λ (bs : List Block). option_or (option_map RepeatedHeader (repeated bs))
-      (option_map BadHeader
-      (bad_header items (header_scope items header) (header_children items header))))
-      (header-blocks header s)
-      ∙ ap (λ o. option_or (option_map RepeatedHeader (repeated (blocks_of other header)))
-      (option_map BadHeader o))
-      (bad-headers (header_scope items header) (header_scope other header)
-      (header_children items header) (in-header header s)
-      ∙ ap (bad_header other (header_scope other header)) (header-children header))
+      let one = header_scope items header in
+      let two = header_scope other header in
+      let cs = header_children items header in
+      let mine = blocks_of items header in
+      let version = version_of mine in
+      ap (λ o. fault_among version items one o mine) (bad-children one two cs (in-header header s))
+      ∙ ap (λ o. option_or (option_map RepeatedHeader (repeated version mine))
+      (option_map BadHeader (earlier (bad_children other two cs) o)))
+      (bad-contents version one two cs (in-header header s))
+      ∙ ap (λ l. fault_among version other two (bad_children other two l) mine)
+      (header-children header)
+      ∙ ap (λ bs. fault_among (version_of bs) other two
+      (bad_children other two (header_children other header)) bs) (header-blocks header s)
 
   -- the view, where Header and Body stand at the same places
   views : (parts : Parts) → HeaderStands parts.header
       → headed (viewed items parts) ≡ headed (viewed other parts)
   views parts s =
-      let seen : List Block → (action reply : Option (List ℕ)) → List Item → View =
-      (λ bs action reply message. record {
-        blocks = bs;
+      let mine = blocks_of items parts.header in
+      let its = blocks_of other parts.header in
+      let one = header_scope items parts.header in
+      let two = header_scope other parts.header in
+      let version = version_of its in
+      let seen : (action reply : Option (List ℕ)) → List Item → View =
+      (λ action reply message. record {
+        blocks = its;
+        version = version;
         action = action;
         reply_address = reply;
         message_id = message;
         body_at = parts.body;
         body = [];
       }) in
-      let mine = blocks_of items parts.header in
-      let its = blocks_of other parts.header in
-      let one = header_scope items parts.header in
-      let two = header_scope other parts.header in
+      let acts : option_map (text_of items) (counted_at version (codes "Action") its)
+      ≡ option_map (text_of other) (counted_at version (codes "Action") its) =
+      ap (λ (t : ℕ → List ℕ). option_map t (counted_at version (codes "Action") its))
+      (fun_ext characters) in
       let same : mine ≡ its = header-blocks parts.header s in
-      let acts : option_map (text_of items) (counted_at (codes "Action") mine)
-      ≡ option_map (text_of other) (counted_at (codes "Action") its) =
-      ap (λ (t : ℕ → List ℕ). option_map t (counted_at (codes "Action") mine))
+      let replies : option_map (text_of items) (reply_address_at version items one its)
+      ≡ option_map (text_of other) (reply_address_at version other two its) =
+      ap (λ (t : ℕ → List ℕ). option_map t (reply_address_at version items one its))
       (fun_ext characters)
-      ∙ ap (λ l. option_map (text_of other) (counted_at (codes "Action") l)) same in
-      let replies : option_map (text_of items) (reply_address_at items one mine)
-      ≡ option_map (text_of other) (reply_address_at other two its) =
-      ap (λ (t : ℕ → List ℕ). option_map t (reply_address_at items one mine)) (fun_ext characters)
       ∙ ap (option_map (text_of other))
-      (reply-to one two (header_children items parts.header) (in-header parts.header s)
-      ∙ ap (λ l. reply_address_at other two (blocks_among other two l))
+      (ap (reply_address_at version items one) (sym same)
+      ∙ reply-to version one two (header_children items parts.header) (in-header parts.header s)
+      ∙ ap (λ l. reply_address_at version other two (blocks_among other two l))
       (header-children parts.header)) in
-      let messages : texts_at items (counted_at (codes "MessageID") mine)
-      ≡ texts_at other (counted_at (codes "MessageID") its) =
-      texts-at (counted_at (codes "MessageID") mine)
-      ∙ ap (λ l. texts_at other (counted_at (codes "MessageID") l)) same in
-      ap (λ bs. seen bs (option_map (text_of items) (counted_at (codes "Action") mine))
-      (option_map (text_of items) (reply_address_at items one mine))
-      (texts_at items (counted_at (codes "MessageID") mine))) same
-      ∙ ap (λ a. seen its a (option_map (text_of items) (reply_address_at items one mine))
-      (texts_at items (counted_at (codes "MessageID") mine))) acts
-      ∙ ap (λ r. seen its (option_map (text_of other) (counted_at (codes "Action") its)) r
-      (texts_at items (counted_at (codes "MessageID") mine))) replies
-      ∙ ap (seen its (option_map (text_of other) (counted_at (codes "Action") its))
-      (option_map (text_of other) (reply_address_at other two its))) messages
+      let messages : texts_at items (counted_at version (codes "MessageID") its)
+      ≡ texts_at other (counted_at version (codes "MessageID") its) =
+      texts-at (counted_at version (codes "MessageID") its) in
+      ap (λ bs. headed (viewed_in (version_of bs) bs items parts)) same
+      ∙ ap (λ a. seen a (option_map (text_of items) (reply_address_at version items one its))
+      (texts_at items (counted_at version (codes "MessageID") its))) acts
+      ∙ ap (λ r. seen (option_map (text_of other) (counted_at version (codes "Action") its)) r
+      (texts_at items (counted_at version (codes "MessageID") its))) replies
+      ∙ ap (seen (option_map (text_of other) (counted_at version (codes "Action") its))
+      (option_map (text_of other) (reply_address_at version other two its))) messages
 
   by-parts : (parts : Parts) → HeaderStands parts.header
       → headed_by (viewed_by items (Ok parts)) ≡ headed_by (viewed_by other (Ok parts))

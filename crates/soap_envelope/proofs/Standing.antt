@@ -1,4 +1,5 @@
 -- The content of a view's Body has good names in any reply.
+use Rattle.soap_envelope.specs.declared.versions.Addressing.{Addressing}
 use Rattle.std.proofs.Common.{◌≡◌, ℕ, zero, suc, Bool, true, false, not, ◌&&◌, ◌||◌, ◌⊎◌, List, []}
 use Rattle.std.proofs.Common.{◌∷◌, ◌++◌, map, is_some, is_none, ◌==◌, Some, None, codes, Option}
 use Rattle.std.proofs.Common.{bytes_eq, sym, refl, ap, ◌∙◌, inl, inr, append_assoc, append-nil}
@@ -13,13 +14,13 @@ use Rattle.nbfx_values.specs.declared.content.Item.TheVariants.{Array, Attr, Clo
 use Rattle.soap_envelope.specs.BadNames.{are_good, is_good_array}
 use Rattle.soap_envelope.specs.Body.{array_with, attribute_of, in_scope, is_missing, is_usual}
 use Rattle.soap_envelope.specs.Body.{missing, needed, self_standing, standing_items, unusual}
-use Rattle.soap_envelope.specs.{Body.xmlns_of, Made.reply_scope, Names.addressing, Names.soap}
+use Rattle.soap_envelope.specs.{Body.xmlns_of, Made.reply_scope, Names.soap, Versions.namespace}
 use Rattle.soap_envelope.specs.Scopes.{around, Declaration, declaration, declared, declared_on}
 use Rattle.soap_envelope.specs.Scopes.{is_bound, Scope, undeclared_uri, uri_in, uri_of}
 use Rattle.soap_envelope.proofs.Apart.{apart-filter, apart-parts, are_apart, has, has-append}
 use Rattle.soap_envelope.proofs.Apart.{has-cons, has-in_scope, in_scope-apart}
 use Rattle.soap_envelope.proofs.GoodNames.{good_attributes, good_head, good_names, refuted}
-use Rattle.soap_envelope.proofs.OnLiterals.{envelopes_on_literals}
+use Rattle.soap_envelope.proofs.InScope.{Means, means-child, means-deeper, missing-lacks, Reached}
 
 or-first : (a b : Bool) → a ≡ true → (a || b) ≡ true
 or-first a b h = rw h refl
@@ -28,65 +29,10 @@ or-second : (a b : Bool) → b ≡ true → (a || b) ≡ true
 or-second true b h = refl
 or-second false b h = h
 
--- what binds a prefix, by layers
-bound-layer : (layer : List Declaration) (outer : Scope) (p : List ℕ)
-    → is_bound (layer ∷ outer) p ≡ (has layer p || is_bound outer p)
-bound-layer layer outer p = by (uri_in layer p) (uri_of outer p)
-  where
-    by : (a b : Option (List ℕ)) → is_some (option_or a b) ≡ (is_some a || is_some b)
-    by None b = refl
-    by (Some u) b = refl
-
--- a scope binds what another does
-abbrev Covers : Scope → Scope → Type 0
-Covers scope other = (p : List ℕ) → is_bound scope p ≡ true → is_bound other p ≡ true
-
-covers-deeper : (own : List Declaration) (scope other : Scope) → Covers scope other
-    → Covers (own ∷ scope) (own ∷ other)
-covers-deeper own scope other c p h = elim
-    (or_cases (has own p) (is_bound scope p) (sym (bound-layer own scope p) ∙ h)) [
-      | inl here ↦ bound-layer own other p ∙ or-first (has own p) (is_bound other p) here
-      | inr outer ↦ bound-layer own other p ∙ or-second (has own p) (is_bound other p) (c p outer)
-    ]
-
--- a prefix that is needed and not declared is missing, and one that is declared isn't
-missing-has : (needs own : List Declaration) (p : List ℕ) → has needs p ≡ true → has own p ≡ false
-    → has (missing needs own) p ≡ true
-missing-has [] own p h k = absurd cc
-missing-has (d ∷ needs) own p h k = elim (cases_Bool (bytes_eq d.prefix p)) [
-  | inl is ↦
-      let same : d.prefix ≡ p = (bytes_eq-Decides d.prefix p).0 is in
-      let lacks : is_missing own d ≡ true = none (uri_in own d.prefix) (ap (has own) same ∙ k) in
-      rw (lacks, is) refl
-  | inr other ↦
-      let rest : has (missing needs own) p ≡ true = missing-has needs own p (rw other at h) k in
-      elim (cases_Bool (is_missing own d)) [
-        | inl kept ↦ rw (kept, other) rest
-        | inr left ↦ rw left
-            rest
-      ]
-]
-  where
-    none : (o : Option (List ℕ)) → is_some o ≡ false → is_none o ≡ true
-    none None h = refl
-    none (Some u) h = absurd cc
-
-pub missing-lacks : (needs own : List Declaration) (p : List ℕ) → has own p ≡ true
-    → has (missing needs own) p ≡ false
-missing-lacks [] own p h = refl
-missing-lacks (d ∷ needs) own p h = elim (cases_Bool (is_missing own d)) [
-  | inl kept ↦ elim (cases_Bool (bytes_eq d.prefix p)) [
-    | inl is ↦
-        let same : d.prefix ≡ p = (bytes_eq-Decides d.prefix p).0 is in
-        absurd (declared_once (uri_in own p) h (rw same at kept))
-    | inr other ↦ rw (kept, other) (missing-lacks needs own p h)
-  ]
-  | inr left ↦ rw left (missing-lacks needs own p h)
-]
-  where
-    declared_once : (o : Option (List ℕ)) → is_some o ≡ true → is_none o ≡ true → ⊥
-    declared_once None h k = cc
-    declared_once (Some u) h k = cc
+-- what is bound stays so where it means the same
+still-bound : (scope other : Scope) → Means scope other → (p : List ℕ) → is_bound scope p ≡ true
+    → is_bound other p ≡ true
+still-bound scope other m p b = ap is_some (m p b) ∙ b
 
 -- one of another prefix than those behind it has none of theirs
 single : (d : Declaration) (ds : List Declaration) (q : List ℕ) → has ds q ≡ true
@@ -151,7 +97,7 @@ front-names scope [] rest = refl
 front-names scope (d ∷ ds) rest = front-names scope ds rest
 
 -- the attributes of an array's element keep good names behind other declarations
-on-stands : (front : List Declaration) (scope other : Scope) → Covers scope other
+on-stands : (front : List Declaration) (scope other : Scope) → Means scope other
     → (before : List Declaration) (xs : List AttrItem)
     → ((q : List ℕ) → has (declared_on xs) q ≡ true → has front q ≡ false)
     → are_good scope before xs ≡ true → are_good other (front ++ before) xs ≡ true
@@ -169,15 +115,16 @@ on-stands front scope other c before (DeclaresOn p u ∷ xs) lacks h =
     (has (declared_on xs) q) k)) r.1)
 on-stands front scope other c before (AttrOn p l v ∷ xs) lacks h =
     let r = and_parts (is_bound scope p) (are_good scope before xs) h in
-    rw (c p r.0) (on-stands front scope other c before xs lacks r.1)
+    rw (still-bound scope other c p r.0) (on-stands front scope other c before xs lacks r.1)
 
-array-deeper : (scope other : Scope) (a : ArrayItem) → Covers scope other
+array-deeper : (scope other : Scope) (a : ArrayItem) → Means scope other
     → is_good_array scope a ≡ true → is_good_array other a ≡ true
 array-deeper scope other a c h =
     let own = declared_on a.attrs in
     let r = and_parts (is_bound (own ∷ scope) a.prefix) (are_good (own ∷ scope) [] a.attrs) h in
-    let d = covers-deeper own scope other c in
-    rw (d a.prefix r.0) (on-stands [] (own ∷ scope) (own ∷ other) d [] a.attrs (λ q k. refl) r.1)
+    let d = means-deeper own scope other c in
+    rw (still-bound (own ∷ scope) (own ∷ other) d a.prefix r.0) (on-stands [] (own ∷ scope) (own ∷
+    other) d [] a.attrs (λ q k. refl) r.1)
 
 module _ (needs : List Declaration) where
   pub deep-item : (n : ℕ) (item : Item) (more : List Item)
@@ -200,7 +147,7 @@ module _ (needs : List Declaration) where
   deep-declared n (Array v ∷ xs) = rw (deep-item n (Array v) xs) refl
   deep-declared n (Close ∷ xs) = rw (deep-item n Close xs) refl
 
-  attributes-stand : (front : List Declaration) (scope other : Scope) → Covers scope other
+  attributes-stand : (front : List Declaration) (scope other : Scope) → Means scope other
       → (n : ℕ) (before : List Declaration) (xs : List Item)
       → ((q : List ℕ) → has (declared xs) q ≡ true → has front q ≡ false)
       → good_attributes scope before xs ≡ true
@@ -219,7 +166,8 @@ module _ (needs : List Declaration) where
       k)) r.1)
   attributes-stand front scope other c n before (Attr p l v ∷ xs) lacks h =
       let r = and_parts (is_bound scope p) (good_attributes scope before xs) h in
-      rw (deep-item n (Attr p l v) xs, c p r.0) (attributes-stand front scope other c n before xs
+      rw (deep-item n (Attr p l v) xs, still-bound scope other c p r.0) (attributes-stand front
+      scope other c n before xs
       lacks r.1)
   attributes-stand front scope other c n before (Start p l ∷ xs) lacks h =
       rw (deep-item n (Start p l) xs) refl
@@ -232,55 +180,29 @@ module _ (needs : List Declaration) where
   attributes-stand front scope other c n before (Close ∷ xs) lacks h = rw (deep-item n Close xs)
       refl
 
-  module _ (base : Scope) (apart : are_apart needs ≡ true)
-      (reach : (p : List ℕ) → is_bound base p ≡ true
-      → (has needs p ≡ true) ⊎ (is_bound reply_scope p ≡ true)) where
-    -- a child binds with what it gets what it did where it stood
-    covers-child : (own : List Declaration)
-        → Covers (own ∷ base) ((missing needs own ++ own) ∷ reply_scope)
-    covers-child own p h =
-        let all = missing needs own ++ own in
-        let split : is_bound (all ∷ reply_scope) p
-        ≡ ((has (missing needs own) p || has own p) || is_bound reply_scope p) =
-        bound-layer all reply_scope p ∙ ap (λ b. b || is_bound reply_scope p)
-        (has-append (missing needs own) own p) in
-        split ∙ elim (cases_Bool (has own p)) [
-          | inl is ↦ or-first (has (missing needs own) p || has own p) (is_bound reply_scope p)
-              (or-second (has (missing needs own) p) (has own p) is)
-          | inr other ↦
-              let outer : is_bound base p ≡ true = ap (λ b. b || is_bound base p) (sym other) ∙ sym
-              (bound-layer own base p) ∙ h in
-              elim (reach p outer) [
-                | inl needed ↦ or-first (has (missing needs own) p || has own p)
-                    (is_bound reply_scope p)
-                    (or-first (has (missing needs own) p) (has own p)
-                    (missing-has needs own p needed other))
-                | inr bound ↦ or-second (has (missing needs own) p || has own p)
-                    (is_bound reply_scope p) bound
-              ]
-        ]
-
+  module _ (version : Addressing) (base : Scope) (apart : are_apart needs ≡ true)
+      (reach : (p : List ℕ) → is_bound base p ≡ true → Reached version needs base p) where
     missing-apart : (own : List Declaration) → are_apart (missing needs own) ≡ true
     missing-apart own = apart-filter (is_missing own) needs apart
 
     array-child : (a : ArrayItem) → is_good_array base a ≡ true
-        → is_good_array reply_scope (array_with needs a) ≡ true
+        → is_good_array (reply_scope version) (array_with needs a) ≡ true
     array-child a h =
         let own = declared_on a.attrs in
         let front = missing needs own in
         let r = and_parts (is_bound (own ∷ base) a.prefix) (are_good (own ∷ base) [] a.attrs) h in
-        let c = covers-child own in
-        let scope = (front ++ own) ∷ reply_scope in
+        let c = means-child version needs base reach own in
+        let scope = (front ++ own) ∷ (reply_scope version) in
         let attributes : are_good scope (front ++ []) a.attrs ≡ true =
         on-stands front (own ∷ base) scope c [] a.attrs (λ q k. missing-lacks needs own q k) r.1 in
-        rw (front-declared-on front a.attrs, c a.prefix r.0)
+        rw (front-declared-on front a.attrs, still-bound (own ∷ base) scope c a.prefix r.0)
         (put-front-on scope [] front a.attrs (λ q k. refl) (missing-apart own)
         (rw append-nil at attributes))
 
     -- around so many elements stands Body, and there the reply
     abbrev Replaced : ℕ → Scope → Scope → Type 0
-    Replaced zero scope other = (scope ≡ base) × (other ≡ reply_scope)
-    Replaced (suc n) scope other = Covers scope other × Replaced n (around scope) (around other)
+    Replaced zero scope other = (scope ≡ base) × (other ≡ (reply_scope version))
+    Replaced (suc n) scope other = Means scope other × Replaced n (around scope) (around other)
 
     stands-good : (inner : ℕ) (scope other : Scope) (xs : List Item) → Replaced inner scope other
         → good_names scope xs ≡ true → good_names other (self_standing needs (Some inner) xs) ≡ true
@@ -293,8 +215,8 @@ module _ (needs : List Declaration) where
         let parts = and_parts (good_head (own ∷ base) p xs) (good_names (own ∷ base) xs) named in
         let head = and_parts (is_bound (own ∷ base) p) (good_attributes (own ∷ base) [] xs) parts.0
         in
-        let d = covers-child own in
-        let inside = (front ++ own) ∷ reply_scope in
+        let d = means-child version needs base reach own in
+        let inside = (front ++ own) ∷ (reply_scope version) in
         let declares : declared (map xmlns_of front ++ rest) ≡ front ++ own =
         front-declared front rest ∙ ap (λ l. front ++ l) (deep-declared 0 xs) in
         let attributes : good_attributes inside (front ++ []) rest ≡ true =
@@ -306,19 +228,25 @@ module _ (needs : List Declaration) where
         let names : good_names inside (map xmlns_of front ++ rest) ≡ true =
         front-names inside front rest ∙ stands-good 1 (own ∷ base) inside xs (d, (refl, refl))
         parts.1 in
-        rw (c.1, declares, d p head.0, put) names
+        rw (c.1, declares, still-bound (own ∷ base) inside d p head.0, put) names
     stands-good (suc n) scope other (Start p l ∷ xs) c h =
         let own = declared xs in
         let rest = self_standing needs (Some (suc (suc n))) xs in
         let parts = and_parts (good_head (own ∷ scope) p xs) (good_names (own ∷ scope) xs) h in
         let head = and_parts (is_bound (own ∷ scope) p) (good_attributes (own ∷ scope) [] xs)
         parts.0 in
-        let d = covers-deeper own scope other c.0 in
+        let d = means-deeper own scope other c.0 in
         let attributes : good_attributes (own ∷ other) [] rest ≡ true =
         attributes-stand [] (own ∷ scope) (own ∷ other) d (suc n) [] xs (λ q k. refl) head.1 in
         let names : good_names (own ∷ other) rest ≡ true =
         stands-good (suc (suc n)) (own ∷ scope) (own ∷ other) xs (d, c) parts.1 in
-        rw (deep-item n (Start p l) xs, add-one, deep-declared (suc n) xs, d p head.0, attributes)
+        rw (
+          deep-item n (Start p l) xs,
+          add-one,
+          deep-declared (suc n) xs,
+          still-bound (own ∷ scope) (own ∷ other) d p head.0,
+          attributes,
+        )
         names
     stands-good zero scope other (Array a ∷ xs) c h =
         let r = and_parts (is_good_array scope a) (good_names scope xs) h in
@@ -345,68 +273,12 @@ module _ (needs : List Declaration) where
     stands-good (suc n) scope other (Comment v ∷ xs) c h =
         rw (deep-item n (Comment v) xs) (stands-good (suc n) scope other xs c h)
 
--- what binds in Body is needed, or binds in every reply
-usual-bound : (d : Declaration) → is_usual d ≡ true → is_bound reply_scope d.prefix ≡ true
-unfolding envelopes_on_literals
-usual-bound d h =
-    let of_soap = bytes_eq d.prefix (codes "s") && bytes_eq d.uri soap in
-    let of_addressing = bytes_eq d.prefix (codes "a") && bytes_eq d.uri addressing in
-    elim (or_cases of_soap of_addressing h) [
-      | inl is ↦
-          let same = (bytes_eq-Decides d.prefix (codes "s")).0
-          (and_parts (bytes_eq d.prefix (codes "s")) (bytes_eq d.uri soap) is).0 in
-          ap (is_bound reply_scope) same
-      | inr is ↦
-          let same = (bytes_eq-Decides d.prefix (codes "a")).0
-          (and_parts (bytes_eq d.prefix (codes "a")) (bytes_eq d.uri addressing) is).0 in
-          ap (is_bound reply_scope) same
-    ]
-
-needed-reach : (ds : List Declaration) (p : List ℕ) → has ds p ≡ true
-    → (has (unusual ds) p ≡ true) ⊎ (is_bound reply_scope p ≡ true)
-needed-reach [] p h = absurd cc
-needed-reach (d ∷ ds) p h = elim (cases_Bool (bytes_eq d.prefix p)) [
-  | inl is ↦ elim (cases_Bool (is_usual d)) [
-    | inl usual ↦ inr (ap (is_bound reply_scope) (sym ((bytes_eq-Decides d.prefix p).0 is)) ∙
-        usual-bound d usual)
-    | inr other ↦ inl (rw (other, is) refl)
-  ]
-  | inr not_here ↦
-      let rest = needed-reach ds p (rw not_here at h) in
-      elim (cases_Bool (is_usual d)) [
-        | inl usual ↦ rw usual rest
-        | inr other ↦ rw (other, not_here) rest
-      ]
-]
-
-scope-reach : (scope : Scope) (p : List ℕ) → is_bound scope p ≡ true
-    → (has (in_scope scope) p ≡ true) ⊎ (is_some (undeclared_uri p) ≡ true)
-scope-reach [] p h = inr h
-scope-reach (layer ∷ outer) p h = elim
-    (or_cases (has layer p) (is_bound outer p) (sym (bound-layer layer outer p) ∙ h)) [
-      | inl here ↦ inl (has-in_scope layer outer p ∙ or-first (has layer p) (has (in_scope outer) p)
-          here)
-      | inr further ↦ elim (scope-reach outer p further) [
-        | inl there ↦ inl (has-in_scope layer outer p ∙ or-second (has layer p)
-            (has (in_scope outer) p)
-            there)
-        | inr undeclared ↦ inr undeclared
-      ]
-    ]
-
-undeclared-bound : (p : List ℕ) → is_some (undeclared_uri p) ≡ true → is_bound reply_scope p ≡ true
-undeclared-bound p h =
-    let usual = declaration (codes "s") soap ∷ declaration (codes "a") addressing ∷ [] in
-    bound-layer [] (usual ∷ []) p ∙ or-second (has [] p) (is_bound (usual ∷ []) p)
-    (bound-layer usual [] p ∙ or-second (has usual p) (is_bound [] p) h)
-
 -- items with good names at Body's place, with what their elements need, in a reply
-pub standing-good : (scope : Scope) (xs : List Item) → good_names scope xs ≡ true
-    → good_names reply_scope (self_standing (needed scope) (Some 0) xs) ≡ true
-standing-good scope xs h =
-    stands-good (needed scope) scope (apart-filter (λ d. not (is_usual d)) (in_scope scope)
-    (in_scope-apart scope))
-    (λ p bound. elim (scope-reach scope p bound) [
-      | inl there ↦ needed-reach (in_scope scope) p there
-      | inr undeclared ↦ inr (undeclared-bound p undeclared)
-    ]) 0 scope reply_scope xs (refl, refl) h
+pub standing-good : (version : Addressing) (scope : Scope) (xs : List Item)
+    → ((p : List ℕ) → is_bound scope p ≡ true → Reached version (needed version scope) scope p)
+    → good_names scope xs ≡ true
+    → good_names (reply_scope version) (self_standing (needed version scope) (Some 0) xs) ≡ true
+standing-good version scope xs reach h =
+    stands-good (needed version scope) version scope
+    (apart-filter (λ d. not (is_usual version d)) (in_scope scope) (in_scope-apart scope))
+    reach 0 scope (reply_scope version) xs (refl, refl) h

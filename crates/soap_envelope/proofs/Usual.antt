@@ -1,4 +1,5 @@
 -- Where the root and Body declare nothing but what every reply does, children need no declaration.
+use Rattle.soap_envelope.specs.declared.versions.Addressing.{Addressing}
 use Rattle.std.proofs.Common.{◌≡◌, Bool, true, not, List, [], ◌∷◌, filter, nat_cmp, Ordering, Less}
 use Rattle.std.proofs.{Common.Equal, Common.Greater, Common.refl, lemmas.Bool.and_parts}
 use Rattle.std.specs.{Cmp.Lexicographic.slice_cmp, List.list_all}
@@ -34,8 +35,10 @@ none-left p (d ∷ more) h =
     let parts = and_parts (p d) (list_all p more) h in
     rw parts.0 (none-left p more parts.1)
 
-pub needs_none : (root body : List Declaration) → list_all is_usual root ≡ true
-    → list_all is_usual body ≡ true → needed (body ∷ root ∷ []) ≡ []
-needs_none root body h k =
-    none-left is_usual (put_all body (put_all root []))
-    (all-put-all is_usual body (put_all root []) k (all-put-all is_usual root [] h refl))
+pub needs_none : (version : Addressing) (root body : List Declaration)
+    → list_all (is_usual version) root ≡ true → list_all (is_usual version) body ≡ true
+    → needed version (body ∷ root ∷ []) ≡ []
+needs_none version root body h k =
+    none-left (is_usual version) (put_all body (put_all root []))
+    (all-put-all (is_usual version) body (put_all root []) k (all-put-all (is_usual version) root
+    [] h refl))

@@ -6,6 +6,7 @@ use Rattle.nbfx_values.specs.declared.content.Item.{Item, TheVariants.Xmlns}
 use Rattle.nbfx_values.specs.declared.content.Item.TheVariants.{Attr, Close, Comment, Start, Text}
 use Rattle.nbfx_values.specs.declared.scalars.Scalar.TheVariants.{Float, Number, QName, Truth}
 use Rattle.nbfx_values.specs.declared.scalars.{Scalar.TheVariants.UniqueId, Value.TheVariants.One}
+use Rattle.soap_envelope.specs.declared.versions.Addressing.TheVariants.{V10}
 use Rattle.soap_envelope.specs.declared.{blocks.Block.Block, refusals.SoapFault.SoapFault}
 use Rattle.soap_envelope.specs.{Fitting.fits, Qualified.Name, View.View, View.view}
 use Rattle.soap_envelope.specs.Names.{addressing, qualified_name, role_next, role_ultimate_receiver}
@@ -34,6 +35,7 @@ an_echo : view echo ≡ Ok (record {
         to = 10;
       }
       ∷ [];
+  version = V10;
   action = Some (codes "urn:echo");
   reply_address = None;
   message_id = Text (One (UniqueId identifier)) ∷ [];
@@ -54,7 +56,7 @@ told f (Err fault) = Err fault
 abbrev seen : {X : Type 0} → X → Result X SoapFault
 seen v = Ok v
 
-abbrev AllTold : {X : Type 0} → (View → X) → List (List Item × X) → Type 0
+abbrev pub AllTold : {X : Type 0} → (View → X) → List (List Item × X) → Type 0
 AllTold {X} f rows =
     map (λ (r : List Item × X). told f (view r.0)) rows ≡ map (λ (r : List Item × X). seen r.1) rows
 
@@ -148,6 +150,10 @@ named = (
       qualified_name (codes "urn:d") (codes "x") ∷ [],
     )
     ∷ (with_blocks (a (codes "To") []), qualified_name addressing (codes "To") ∷ [])
+    ∷ (
+      with_blocks (Xmlns (codes "a") (codes "urn:a") ∷ a (codes "Action") []),
+      qualified_name (codes "urn:a") (codes "Action") ∷ [],
+    )
     ∷ (
       with_blocks (xml [] ++ xml (Xmlns (codes "xml") (codes "urn:q") ∷ [])),
       qualified_name xml_namespace (codes "x") ∷ qualified_name (codes "urn:q") (codes "x") ∷ [],
@@ -376,6 +382,17 @@ contents =
       x (Xmlns (codes "b") addressing ∷ []) ++ x (Xmlns (codes "b") addressing ∷ []),
     )
     ∷ (declaring (words (codes "hi") ∷ Comment [] ∷ []), words (codes "hi") ∷ Comment [] ∷ [])
+    ∷ (
+      with_body (Xmlns (codes "s") soap ∷ Xmlns (codes "a") soap ∷ x (Xmlns (codes "b") [] ∷ [])),
+      x (Xmlns (codes "a") soap ∷ Xmlns (codes "b") [] ∷ []),
+    )
+    ∷ (
+      with_body (Xmlns (codes "r") (codes "urn:r") ∷ Xmlns (codes "q") (codes "urn:q")
+          ∷ x (Xmlns (codes "q") [] ∷ Xmlns (codes "p") [] ∷ x []) ++ x (Xmlns (codes "r") [] ∷
+          [])),
+      x (Xmlns (codes "r") (codes "urn:r") ∷ Xmlns (codes "q") [] ∷ Xmlns (codes "p") [] ∷ x [])
+          ++ x (Xmlns (codes "q") (codes "urn:q") ∷ Xmlns (codes "r") [] ∷ []),
+    )
     ∷ (
       declaring (x (x [])),
       Start [] (codes "x") ∷ Xmlns [] (codes "urn:d") ∷ Xmlns (codes "a") (codes "urn:a")

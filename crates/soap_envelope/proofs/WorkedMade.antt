@@ -1,4 +1,5 @@
 -- Worked cases: replies and faults, item by item, and which names a fault reports.
+use Rattle.soap_envelope.specs.declared.versions.Addressing.TheVariants.{V10}
 use Rattle.std.proofs.Common.{◌≡◌, ℕ, true, false, List, [], ◌∷◌, ◌++◌, map, Ok, Err, codes, Result}
 use Rattle.{std.proofs.Common.refl, nbfx_values.specs.declared.content.Item.Item}
 use Rattle.nbfx_values.specs.Limits.{limits}
@@ -9,6 +10,7 @@ use Rattle.soap_envelope.specs.{declared.report.Code.TheVariants.VersionMismatch
 use Rattle.soap_envelope.specs.{declared.report.FaultReport.FaultReport, Faults.fault_items}
 use Rattle.soap_envelope.specs.{Making.reply_items, Understanding.not_understood}
 use Rattle.soap_envelope.specs.{Names.addressing, Names.qualified_name, View.View, View.view}
+use Rattle.soap_envelope.specs.Versions.{understood as understood_names}
 use Rattle.soap_envelope.proofs.Documents.{a, acting, action, addressing_action, attribute, echo}
 use Rattle.soap_envelope.proofs.Documents.{enveloped, fault, hi, identified, message, must, related}
 use Rattle.soap_envelope.proofs.Documents.{reply, role, s, secured, soap_action, subcode}
@@ -22,7 +24,7 @@ Row = List ℕ × List Item × List Item × List Item
 
 abbrev AllReplied : List Row → Type 0
 AllReplied rows =
-    map (λ (r : Row). reply_items r.0 r.1 r.2) rows ≡ map (λ (r : Row). r.3) rows
+    map (λ (r : Row). reply_items V10 r.0 r.1 r.2) rows ≡ map (λ (r : Row). r.3) rows
 
 replies : AllReplied (
     (codes "urn:echo", identified, hi, reply (codes "urn:echoResponse") hi)
@@ -56,7 +58,7 @@ FaultRow = FaultReport × List Item × List Item
 
 abbrev AllReported : List FaultRow → Type 0
 AllReported rows =
-    map (λ (r : FaultRow). fault_items r.0 r.1) rows ≡ map (λ (r : FaultRow). r.2) rows
+    map (λ (r : FaultRow). fault_items V10 r.0 r.1) rows ≡ map (λ (r : FaultRow). r.2) rows
 
 sec : Name
 sec = qualified_name (codes "urn:t") (codes "Sec")
@@ -155,8 +157,7 @@ next = codes "http://www.w3.org/2003/05/soap-envelope/role/next"
 
 -- the blocks of addressing that servers know, and a request with a block more before MessageID
 abbrev five : List Name
-five = map (qualified_name addressing)
-    (codes "Action" ∷ codes "To" ∷ codes "MessageID" ∷ codes "RelatesTo" ∷ codes "ReplyTo" ∷ [])
+five = understood_names V10
 
 abbrev request : List Item → List Item
 request block = enveloped (s (codes "Header") (action ++ block ++ message) ++ s (codes "Body") hi)

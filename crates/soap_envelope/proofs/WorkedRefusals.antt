@@ -11,7 +11,7 @@ use Rattle.soap_envelope.specs.declared.refusals.SoapFault.TheVariants.{BadHeade
 use Rattle.soap_envelope.specs.declared.refusals.SoapFault.TheVariants.{Misplaced, NoBody}
 use Rattle.soap_envelope.specs.declared.refusals.SoapFault.TheVariants.{RepeatedHeader}
 use Rattle.soap_envelope.specs.declared.refusals.SoapFault.TheVariants.{VersionMismatch}
-use Rattle.soap_envelope.specs.{Names.addressing, Names.soap, View.View, View.view}
+use Rattle.soap_envelope.specs.{Names.addressing, Names.role_next, Names.soap, View.View, View.view}
 use Rattle.soap_envelope.proofs.Documents.{a, action, array, attribute, enveloped, must, role, s}
 use Rattle.soap_envelope.proofs.Documents.{with_blocks, with_body, words, x}
 use Rattle.soap_envelope.proofs.OnLiterals.{envelopes_on_literals}
@@ -22,7 +22,7 @@ Row = List Item × SoapFault
 abbrev refused : SoapFault → Result View SoapFault
 refused fault = Err fault
 
-abbrev AllRefused : List Row → Type 0
+abbrev pub AllRefused : List Row → Type 0
 AllRefused rows =
     map (λ (r : Row). view r.0) rows ≡ map (λ (r : Row). refused r.1) rows
 
@@ -265,6 +265,30 @@ bad_headers =
     ∷ (with_blocks (a (codes "ReplyTo") (a (codes "x") (address []))), BadHeader 4)
     ∷ (with_blocks (a (codes "ReplyTo") (words (codes "urn:a") ∷ [])), BadHeader 4)
     ∷ (with_blocks (a (codes "Sec") [] ++ a (codes "To") (x []) ++ x []), BadHeader 6)
+    ∷ (
+      with_blocks (action
+          ++ a (codes "Sec") (attribute [] (codes "role") [] ∷ must (codes "no") ∷ [])),
+      BadHeader 10,
+    )
+    ∷ (
+      with_blocks (a (codes "Sec") (x (must (codes "TRUE") ∷ []) ++ x []) ++ x []),
+      BadHeader 11,
+    )
+    ∷ (
+      with_blocks (Start (codes "q") (codes "Sec") ∷ Attr (codes "q") (codes "role") (One (Float 0))
+          ∷ Xmlns (codes "q") soap ∷ Close ∷ []),
+      BadHeader 5,
+    )
+    ∷ (
+      with_blocks (a (codes "Action") (role (codes "urn:other") ∷ x []) ++ words (codes " ")
+          ∷ a (codes "Action") (Comment [] ∷ x [])),
+      BadHeader 10,
+    )
+    ∷ (
+      with_blocks (a (codes "ReplyTo") (role (codes "urn:other") ∷ [])
+          ++ a (codes "ReplyTo") (role role_next ∷ [])),
+      BadHeader 7,
+    )
     ∷ []
 
 headers : AllRefused bad_headers

@@ -8,12 +8,12 @@ use Rattle.std.specs.declared.cmp.Ordering.TheVariants.{Equal, Greater, Less}
 use Rattle.nbfx_values.specs.declared.content.{ArrayItem.ArrayItem, Item.Item}
 use Rattle.nbfx_values.specs.declared.content.AttrItem.{AttrItem, TheVariants.Xmlns as DeclaresOn}
 use Rattle.nbfx_values.specs.declared.content.Item.TheVariants.{Array, Attr, Start, Xmlns}
-use Rattle.soap_envelope.specs.{Children.open_behind, Names.addressing, Names.soap}
+use Rattle.soap_envelope.specs.{Children.open_behind, Names.soap, Versions.namespace}
+use Rattle.soap_envelope.specs.declared.versions.Addressing.{Addressing}
 use Rattle.soap_envelope.specs.Scopes.{Declaration, declared, declared_on, Scope, uri_in, within}
 
 -- one declaration and another with those behind it, by the order of the two; and those behind it
--- with
--- the first at its place
+-- with the first at its place
 abbrev pub placed : Ordering → (d e : Declaration) → (more put_behind : List Declaration)
     → List Declaration
 placed Less d e more put_behind = d ∷ e ∷ more
@@ -21,8 +21,7 @@ placed Equal d e more put_behind = d ∷ more
 placed Greater d e more put_behind = e ∷ put_behind
 
 -- a declaration at its place among others by the order of their prefixes' bytes, and in place of
--- one
--- of its prefix
+-- one of its prefix
 abbrev pub put : Declaration → List Declaration → List Declaration
 put d [] = d ∷ []
 put d (e ∷ more) = placed (slice_cmp nat_cmp d.prefix e.prefix) d e more (put d more)
@@ -36,19 +35,19 @@ abbrev pub in_scope : Scope → List Declaration
 in_scope [] = []
 in_scope (layer ∷ outer) = put_all layer (in_scope outer)
 
--- whether every reply declares it
-abbrev pub is_usual : Declaration → Bool
-is_usual d =
+-- whether every reply in a version declares it
+abbrev pub is_usual : Addressing → Declaration → Bool
+is_usual version d =
     (bytes_eq d.prefix (codes "s") && bytes_eq d.uri soap)
-    || (bytes_eq d.prefix (codes "a") && bytes_eq d.uri addressing)
+    || (bytes_eq d.prefix (codes "a") && bytes_eq d.uri (namespace version))
 
 -- those among declarations that not every reply has
-abbrev pub unusual : List Declaration → List Declaration
-unusual declarations = filter (λ d. not (is_usual d)) declarations
+abbrev pub unusual : Addressing → List Declaration → List Declaration
+unusual version declarations = filter (λ d. not (is_usual version d)) declarations
 
 -- those that an element in Body may rest on
-abbrev pub needed : Scope → List Declaration
-needed scope = unusual (in_scope scope)
+abbrev pub needed : Addressing → Scope → List Declaration
+needed version scope = unusual version (in_scope scope)
 
 -- whether an element with these declarations doesn't declare a prefix itself
 abbrev pub is_missing : List Declaration → Declaration → Bool
@@ -116,7 +115,9 @@ behind_head (Xmlns prefix uri ∷ more) = behind_head more
 behind_head (Attr prefix local value ∷ more) = behind_head more
 behind_head items = items
 
--- the content of the Body that begins at a place, by the declarations within the root
-abbrev pub body_items : List Item → Scope → ℕ → List Item
-body_items items root at =
-    self_standing (needed (within items at root)) (Some 0) (behind_head (drop (at + 1) items))
+-- the content of the Body that begins at a place, by the declarations within the root, for replies
+-- in a version
+abbrev pub body_items : Addressing → List Item → Scope → ℕ → List Item
+body_items version items root at =
+    self_standing (needed version (within items at root)) (Some 0)
+    (behind_head (drop (at + 1) items))

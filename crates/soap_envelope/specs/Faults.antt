@@ -9,7 +9,8 @@ use Rattle.soap_envelope.specs.declared.report.Code.TheVariants.{MustUnderstand,
 use Rattle.soap_envelope.specs.declared.report.{FaultReport.FaultReport, Sub.Sub}
 use Rattle.soap_envelope.specs.Making.{action_block, addressing_start, ending, envelope_items}
 use Rattle.soap_envelope.specs.Making.{middle, opening, soap_start, words}
-use Rattle.soap_envelope.specs.{Names.addressing_fault, Names.soap_fault, Qualified.Name}
+use Rattle.soap_envelope.specs.{Qualified.Name, Versions.fault_action}
+use Rattle.soap_envelope.specs.declared.versions.Addressing.{Addressing}
 use Rattle.soap_envelope.specs.declared.report.Sub.TheVariants as sub
 
 -- the name of each code, with the prefix that every fault declares
@@ -28,11 +29,6 @@ sub_texts sub.OnlyAnonymous =
     codes "a:InvalidAddressingHeader" ∷ codes "a:OnlyAnonymousAddressSupported" ∷ []
 sub_texts sub.InvalidCardinality =
     codes "a:InvalidAddressingHeader" ∷ codes "a:InvalidCardinality" ∷ []
-
--- a fault of addressing has a subcode, and its action
-abbrev pub fault_action : Sub → List ℕ
-fault_action sub.None = soap_fault
-fault_action _ = addressing_fault
 
 -- the Value of a code or a subcode
 abbrev pub value_items : List ℕ → List Item
@@ -72,10 +68,10 @@ not_understood_block name =
 abbrev pub is_nameable : Name → Bool
 is_nameable name = is_utf8 name.uri && is_utf8 (codes "n:" ++ name.local)
 
-abbrev pub fault_items : FaultReport → List Item → List Item
-fault_items report relates =
-    envelope_items (fault_action report.sub) relates (flat_map not_understood_block report.names)
-    (fault_body report)
+abbrev pub fault_items : Addressing → FaultReport → List Item → List Item
+fault_items version report relates =
+    envelope_items version (fault_action version report.sub) relates
+    (flat_map not_understood_block report.names) (fault_body report)
 
 -- what stands in a fault behind the block that names the message
 abbrev pub rest_items : FaultReport → List Item
@@ -92,8 +88,9 @@ abbrev pub relates_start : Bool → List Item
 relates_start true = addressing_start (codes "RelatesTo") ∷ []
 relates_start false = []
 
-abbrev pub front_items : (action : List ℕ) → (relates : Bool) → List Item
-front_items action relates = opening ++ (action_block action ++ relates_start relates)
+abbrev pub front_items : Addressing → (action : List ℕ) → (relates : Bool) → List Item
+front_items version action relates = opening version ++ (action_block action ++ relates_start
+    relates)
 
 -- the texts that a fault relates to, which are so many
 abbrev pub related_texts : ℕ → List Item → List Item

@@ -10,6 +10,7 @@ pub mod Parts
 pub mod Blocks
 pub mod Headers
 pub mod Understanding
+pub mod Versions
 pub mod Body
 pub mod Fitting
 pub mod View

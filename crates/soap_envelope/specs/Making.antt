@@ -5,7 +5,8 @@ use Rattle.nbfx_values.specs.declared.{content.Item.Item, position.Position.TheV
 use Rattle.nbfx_values.specs.declared.content.Item.TheVariants.{Attr, Close, Start, Text, Xmlns}
 use Rattle.nbfx_values.specs.declared.scalars.Scalar.TheVariants.{Number, Text as TextOf}
 use Rattle.nbfx_values.specs.{declared.scalars.Value.TheVariants.One, Scalars.is_valid_value}
-use Rattle.soap_envelope.specs.Names.{addressing, soap}
+use Rattle.soap_envelope.specs.{Names.soap, Versions.namespace}
+use Rattle.soap_envelope.specs.declared.versions.Addressing.{Addressing}
 
 -- a valid text
 abbrev pub is_valid_text : Item → Bool
@@ -17,8 +18,7 @@ abbrev pub AreTexts : List Item → Type 0
 AreTexts items = IsTrue (list_all is_valid_text items)
 
 -- the items may stand inside an element behind its attributes: as many elements are open behind
--- them
--- as before them, and never fewer
+-- them as before them, and never fewer
 abbrev pub IsContent : List Item → Type 0
 IsContent items = position_from (Some (Within 0 false)) items ≡ Some (Within 0 false)
 
@@ -45,10 +45,10 @@ relates_block [] = []
 relates_block texts = addressing_start (codes "RelatesTo") ∷ (texts ++ Close ∷ [])
 
 -- up to the first block, from the end of Header to the content of Body, and behind that
-abbrev pub opening : List Item
-opening =
-    soap_start (codes "Envelope") ∷ Xmlns (codes "s") soap ∷ Xmlns (codes "a") addressing
-    ∷ soap_start (codes "Header") ∷ []
+abbrev pub opening : Addressing → List Item
+opening version =
+    soap_start (codes "Envelope") ∷ Xmlns (codes "s") soap
+    ∷ Xmlns (codes "a") (namespace version) ∷ soap_start (codes "Header") ∷ []
 
 abbrev pub middle : List Item
 middle = Close ∷ soap_start (codes "Body") ∷ []
@@ -56,16 +56,17 @@ middle = Close ∷ soap_start (codes "Body") ∷ []
 abbrev pub ending : List Item
 ending = Close ∷ Close ∷ []
 
--- an envelope with this action, these texts of RelatesTo, these further blocks, and this content of
--- Body
-abbrev pub envelope_items : List ℕ → (relates blocks body : List Item) → List Item
-envelope_items action relates blocks body =
-    opening ++
+-- an envelope in a version with this action, these texts of RelatesTo, these further blocks, and
+-- this content of Body
+abbrev pub envelope_items : Addressing → List ℕ → (relates blocks body : List Item) → List Item
+envelope_items version action relates blocks body =
+    opening version ++
     (action_block action ++ (relates_block relates ++ (blocks ++ (middle ++ (body ++ ending)))))
 
 -- the action of the reply to a request
 abbrev pub response_action : List ℕ → List ℕ
 response_action action = action ++ codes "Response"
 
-abbrev pub reply_items : List ℕ → (relates body : List Item) → List Item
-reply_items action relates body = envelope_items (response_action action) relates [] body
+abbrev pub reply_items : Addressing → List ℕ → (relates body : List Item) → List Item
+reply_items version action relates body =
+    envelope_items version (response_action action) relates [] body

@@ -1,15 +1,17 @@
--- The names to which SOAP 1.2, WS-Addressing 1.0 and XML Namespaces 1.0 give a meaning. The
--- namespace
--- of addressing stands here alone.
+-- The names to which SOAP 1.2, WS-Addressing (1.0, and that of August 2004) and XML Namespaces 1.0
+-- give a meaning. The namespaces of addressing stand here alone.
 use Rattle.std.specs.Prelude.{ℕ, Bool, ◌&&◌, List, codes, bytes_eq}
 use Rattle.soap_envelope.specs.Qualified.{Name}
 
--- the namespaces of envelopes, of addressing, and of the prefix `xml`
+-- the namespaces of envelopes, of both versions of addressing, and of the prefix `xml`
 unfoldable pub soap : List ℕ
 soap = codes "http://www.w3.org/2003/05/soap-envelope"
 
 unfoldable pub addressing : List ℕ
 addressing = codes "http://www.w3.org/2005/08/addressing"
+
+unfoldable pub addressing_2004 : List ℕ
+addressing_2004 = codes "http://schemas.xmlsoap.org/ws/2004/08/addressing"
 
 unfoldable pub xml_namespace : List ℕ
 xml_namespace = codes "http://www.w3.org/XML/1998/namespace"
@@ -28,12 +30,18 @@ no_address = codes "http://www.w3.org/2005/08/addressing/none"
 unfoldable pub anonymous_address : List ℕ
 anonymous_address = codes "http://www.w3.org/2005/08/addressing/anonymous"
 
+unfoldable pub anonymous_address_2004 : List ℕ
+anonymous_address_2004 = codes "http://schemas.xmlsoap.org/ws/2004/08/addressing/role/anonymous"
+
 -- the actions of faults: those of addressing, and those of SOAP
 unfoldable pub addressing_fault : List ℕ
 addressing_fault = codes "http://www.w3.org/2005/08/addressing/fault"
 
 unfoldable pub soap_fault : List ℕ
 soap_fault = codes "http://www.w3.org/2005/08/addressing/soap/fault"
+
+unfoldable pub addressing_fault_2004 : List ℕ
+addressing_fault_2004 = codes "http://schemas.xmlsoap.org/ws/2004/08/addressing/fault"
 
 abbrev pub qualified_name : (uri local : List ℕ) → Name
 qualified_name uri local = record { uri = uri; local = local }

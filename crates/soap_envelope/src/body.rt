@@ -11,10 +11,11 @@ use crate::bindings::Bindings;
 use crate::children::{behind, open_behind};
 use crate::fitting::body_may_fit;
 use crate::layers::Declared;
-use crate::namespaces::{ADDRESSING, SOAP};
+use crate::namespaces::SOAP;
 use crate::puts::put_copies;
 use crate::ring::{with_needs, xmlns_items};
 use crate::scopes::declarations_in;
+use crate::versions::Addressing;
 use nbfx_values::{Item, Items, Quotas};
 use std::alloc::Global;
 use std::collections::BTreeMap;
@@ -42,25 +43,26 @@ fn put_all<'d>(
     Ok(())
 }
 
-// Whether every reply has this declaration.
-#[tactic(auto, unfolding(crate::specs::Names::soap, crate::specs::Names::addressing))]
-pub(crate) fn is_usual(one: &Declared<'_>) -> bool
-    ensures { result ≡ spec.is_usual (kept one.now) }
+// Whether every reply in a version has this declaration.
+#[tactic(auto, unfolding(crate::specs::Names::soap))]
+pub(crate) fn is_usual(version: Addressing, one: &Declared<'_>) -> bool
+    ensures { result ≡ spec.is_usual version (kept one.now) }
 {
-    (one.prefix == "s" && one.uri == SOAP) || (one.prefix == "a" && one.uri == ADDRESSING)
+    (one.prefix == "s" && one.uri == SOAP) || (one.prefix == "a" && one.uri == version.namespace())
 }
 
 // Those of sorted declarations that not every reply has.
 fn unusual<'d>(
     alloc: Global,
+    version: Addressing,
     sorted: BTreeMap<&'d str, &'d str>,
 ) -> Result<Vec<Declared<'d>>, Memory>
-    ensures { IfOk result (λ needs. layer_of needs ≡ spec.unusual (shown sorted.entry)) }
+    ensures { IfOk result (λ needs. layer_of needs ≡ spec.unusual version (shown sorted.entry)) }
 {
     let mut needs = Vec::new(alloc);
     for (prefix, uri) in sorted {
         let one = Declared { prefix, uri };
-        if !is_usual(&one) {
+        if !is_usual(version, &one) {
             needs.push(one)?;
         }
     }
@@ -68,16 +70,21 @@ fn unusual<'d>(
 }
 
 // The declarations in scope at the Body that begins at a place, on which an element in it may rely.
-fn needed_at<'d>(alloc: Global, items: &'d [Item], at: usize) -> Result<Vec<Declared<'d>>, Memory>
-    ensures { IfOk result
-        (λ needs. layer_of needs ≡ spec.needed (within items.now at (root_scope items.now))) }
+fn needed_at<'d>(
+    alloc: Global,
+    version: Addressing,
+    items: &'d [Item],
+    at: usize,
+) -> Result<Vec<Declared<'d>>, Memory>
+    ensures { IfOk result (λ needs. layer_of needs
+        ≡ spec.needed version (within items.now at (root_scope items.now))) }
 {
     let root = declarations_in(alloc, behind(items, 0))?;
     let body = declarations_in(alloc, behind(items, at))?;
     let mut sorted = BTreeMap::new(alloc);
     put_all(&mut sorted, root.as_slice())?;
     put_all(&mut sorted, body.as_slice())?;
-    unusual(alloc, sorted)
+    unusual(alloc, version, sorted)
 }
 
 // Whether an element doesn't declare a prefix itself.
@@ -110,23 +117,24 @@ fn is_empty(content: &[Item]) -> bool
     matches!(content.first(), None | Some(Item::Close))
 }
 
-// What children of the Body that begins at a place need, as items that declare it, where the content
-// may fit the quotas with that.
+// What children of the Body that begins at a place need, as items that declare it, where the
+// content may fit the quotas with that.
 pub(crate) fn fitting_needs(
     alloc: Global,
     quotas: &Quotas,
+    version: Addressing,
     items: &[Item],
     at: usize,
 ) -> Result<Option<Items>, Memory>
     ensures { IfOk result (AreNeeds (limits_of quotas.now)
         (spec.behind_head (drop (at + 1) items.now))
-        (spec.body_items items.now (root_scope items.now) at)) }
+        (spec.body_items version items.now (root_scope items.now) at)) }
 {
     let content = behind_head(behind(items, at));
     if is_empty(content) {
         return Ok(Some(Items::new(alloc)));
     }
-    let needs = needed_at(alloc, items, at)?;
+    let needs = needed_at(alloc, version, items, at)?;
     if !body_may_fit(alloc, quotas, needs.as_slice(), content)? {
         return Ok(None);
     }
@@ -149,13 +157,14 @@ pub(crate) fn copies(alloc: Global, items: &[Item]) -> Result<Items, Memory>
 pub(crate) fn body_items(
     alloc: Global,
     quotas: &Quotas,
+    version: Addressing,
     items: &[Item],
     at: usize,
 ) -> Result<Option<Items>, Memory>
-    ensures { IfOk result (λ body. body
-        ≡ fitting (limits_of quotas.now) (spec.body_items items.now (root_scope items.now) at)) }
+    ensures { IfOk result (λ body. body ≡ fitting (limits_of quotas.now)
+        (spec.body_items version items.now (root_scope items.now) at)) }
 {
-    let Some(needs) = fitting_needs(alloc, quotas, items, at)? else {
+    let Some(needs) = fitting_needs(alloc, quotas, version, items, at)? else {
         return Ok(None);
     };
     let content = copies(alloc, behind_head(behind(items, at)))?;

@@ -2,41 +2,43 @@
 
 ghost use Rattle.std.specs.Prelude.{◌≡◌, ◌≢◌, ◌++◌, Err, IfOk, IfSome, IsTrue, MatchResult, Ok, OnOk, slice_get};
 ghost use Rattle.std.specs.List.{list_all};
-ghost use Rattle.std.specs.Option.{option_copied, option_map, option_or};
+ghost use Rattle.std.specs.Option.{option_copied, option_map};
 ghost use Rattle.nbfx_values.specs.Documents.{IsDocument};
 ghost use Rattle.nbfx_values.specs.Items.{is_valid_item};
 ghost use Rattle.nbfx_values.specs.QuotasOf.{limits_of};
 ghost use Rattle.soap_envelope.specs.Characters as characters;
-ghost use Rattle.soap_envelope.specs.declared.refusals.SoapFault.TheVariants.{BadHeader, RepeatedHeader};
 ghost use Rattle.soap_envelope.specs.Fitting.{fitting};
-ghost use Rattle.soap_envelope.specs.Headers.{repeated};
 ghost use Rattle.soap_envelope.specs.Making.{AreTexts, IsContent};
 ghost use Rattle.soap_envelope.specs.Parts.{root_scope};
 ghost use Rattle.soap_envelope.specs.Seen.{BodyStands, HasBody};
 ghost use Rattle.soap_envelope.specs.Understanding as understanding;
 ghost use Rattle.soap_envelope.specs.View as spec;
-ghost use Rattle.soap_envelope.specs.View.{blocks_of, header_children, header_scope, view};
+ghost use Rattle.soap_envelope.specs.View.{header_children, header_scope, view};
 
 use crate::blocks::{Block, Blocks, Names, QualifiedName};
 use crate::body::body_items;
 use crate::children::{Children, behind};
-use crate::headers::{Header, counted_at, first_repeated, foreign_names, header_of, only_address};
+use crate::headers::{
+    Header, counted_at, first_bad, first_repeated, foreign_names, header_of, only_address,
+};
 use crate::names::bad_name;
 use crate::parts::{Parts, kept_children, parts_of, wrong_root};
 use crate::refusals::SoapFault;
 use crate::scopes::Scopes;
 use crate::texts::text_of;
+use crate::versions::{Addressing, version_of};
 use nbfx_values::{Copied, Doc, Item, Items, Quotas, Txt};
 use std::alloc::Global;
 use std::marker::Model;
 use unit_streams::Memory;
 
 /// The view of a document as an envelope of SOAP 1.2 (Part 1, 5) with the message addressing
-/// properties of WS-Addressing 1.0 (Core, 3), by which servers and callers go.
+/// properties of WS-Addressing (1.0, Core, 3), by which servers and callers go.
 #[derive(Drop)]
 pub struct Envelope<'d> {
     items: &'d [Item],
     blocks: Blocks<'d>,
+    version: Addressing,
     action: Option<Txt>,
     reply_address: Option<Txt>,
     message: Option<usize>,
@@ -49,7 +51,7 @@ impl<'d> Model for Envelope<'d> {
 
     ghost Value = { View };
 
-    ghost view = { λ e. seen e.items.now e.blocks e.action e.reply_address e.message e.body };
+    ghost view = { λ e. seen e.items.now e.blocks e.version e.action e.reply_address e.message e.body };
 
     ghost invariant = { λ e. HasBody e.items.now e.body };
 }
@@ -84,17 +86,25 @@ fn children_in_header(
     }
 }
 
-// The first fault of Header.
-fn fault_in(header: &Header<'_>) -> Option<SoapFault>
-    ensures { result ≡ option_or (option_map RepeatedHeader (repeated header.now.blocks))
-        (option_map BadHeader header.now.bad) }
+// The first fault of a Header.
+fn fault_in<'d>(
+    alloc: Global,
+    version: Addressing,
+    items: &'d [Item],
+    scopes: &mut Scopes<'d>,
+    header: &Header<'d>,
+) -> Result<Option<SoapFault>, Memory>
+    requires { IsTrue (list_all is_valid_item items.now) }
+    ensures fault { IfOk result (λ fault. fault
+        ≡ spec.fault_among version items.now scopes.old header.now.bad header.now.blocks) }
+    ensures unchanged { OnOk result (scopes.new ≡ scopes.old) }
 {
-    if let Some(item) = first_repeated(header.blocks.as_slice()) {
-        return Some(SoapFault::RepeatedHeader { item });
+    if let Some(item) = first_repeated(version, header.blocks.as_slice()) {
+        return Ok(Some(SoapFault::RepeatedHeader { item }));
     }
-    match header.bad {
-        Some(item) => Some(SoapFault::BadHeader { item }),
-        None => None,
+    match first_bad(alloc, version, items, scopes, header)? {
+        Some(item) => Ok(Some(SoapFault::BadHeader { item })),
+        None => Ok(None),
     }
 }
 
@@ -115,16 +125,17 @@ fn item_text(alloc: Global, items: &[Item], at: Option<usize>) -> Result<Option<
 // The Address of the ReplyTo that counts.
 fn reply_address_at<'d>(
     alloc: Global,
+    version: Addressing,
     items: &'d [Item],
     scopes: &mut Scopes<'d>,
     blocks: &[Block<'_>],
 ) -> Result<Option<usize>, Memory>
     requires { IsTrue (list_all is_valid_item items.now) }
     ensures { IfOk result
-        (λ at. at ≡ spec.reply_address_at items.now scopes.old blocks.now) }
+        (λ at. at ≡ spec.reply_address_at version items.now scopes.old blocks.now) }
 {
-    match counted_at(blocks, "ReplyTo") {
-        Some(at) => only_address(alloc, items, scopes, at),
+    match counted_at(version, blocks, "ReplyTo") {
+        Some(at) => only_address(alloc, version, items, scopes, at),
         None => Ok(None),
     }
 }
@@ -132,6 +143,7 @@ fn reply_address_at<'d>(
 // The view, where these are the parts and Header is as the standards have it.
 fn envelope_with<'d>(
     alloc: Global,
+    version: Addressing,
     items: &'d [Item],
     scopes: &mut Scopes<'d>,
     blocks: Blocks<'d>,
@@ -139,16 +151,20 @@ fn envelope_with<'d>(
 ) -> Result<Envelope<'d>, Memory>
     requires body { HasBody items.now parts.body }
     requires scope { scopes.old ≡ header_scope items.now parts.header }
-    requires blocks { blocks ≡ blocks_of items.now parts.header }
-    ensures { IfOk result (λ e. e ≡ spec.viewed items.now parts) }
+    ensures { IfOk result (λ e. e ≡ spec.viewed_in version blocks.entry items.now parts) }
 {
-    let action = item_text(alloc, items, counted_at(blocks.as_slice(), "Action"))?;
-    let address = reply_address_at(alloc, items, scopes, blocks.as_slice())?;
+    let action = item_text(
+        alloc,
+        items,
+        counted_at(version, blocks.as_slice(), "Action"),
+    )?;
+    let address = reply_address_at(alloc, version, items, scopes, blocks.as_slice())?;
     let reply_address = item_text(alloc, items, address)?;
-    let message = counted_at(blocks.as_slice(), "MessageID");
+    let message = counted_at(version, blocks.as_slice(), "MessageID");
     Ok(Envelope {
         items,
         blocks,
+        version,
         action,
         reply_address,
         message,
@@ -169,11 +185,12 @@ fn viewed<'d>(
 {
     enter_header(items, &mut scopes, parts.header)?;
     let children = children_in_header(alloc, items, parts.header)?;
-    let header = header_of(alloc, items, &mut scopes, children.as_slice())?;
-    if let Some(fault) = fault_in(&header) {
+    let header = header_of(alloc, items, &scopes, children.as_slice())?;
+    let version = version_of(header.blocks.as_slice());
+    if let Some(fault) = fault_in(alloc, version, items, &mut scopes, &header)? {
         return Ok(Err(fault));
     }
-    let seen = envelope_with(alloc, items, &mut scopes, header.blocks, parts)?;
+    let seen = envelope_with(alloc, version, items, &mut scopes, header.blocks, parts)?;
     Ok(Ok(seen))
 }
 
@@ -264,6 +281,13 @@ impl<'d> Envelope<'d> {
         &self.blocks
     }
 
+    /// The version of addressing that the message is in.
+    pub fn version(&self) -> Addressing
+        ensures { result ≡ self.now.version }
+    {
+        self.version
+    }
+
     /// The characters of the Action, if there is one that is targeted.
     pub fn action(&self) -> Option<&str>
         ensures { option_copied result ≡ self.now.action }
@@ -300,15 +324,15 @@ impl<'d> Envelope<'d> {
         texts_at(alloc, self.items, self.message)
     }
 
-    /// A copy of the content of Body that means the same in a reply: each child element declares
-    /// what is in scope at Body and it doesn't declare itself. None if that has more content than
-    /// the quotas admit, or more bytes in any payload; its declarations may be many more than the
-    /// document's. It fails without memory for the copy.
+    /// A copy of the content of Body that means the same in a reply in its version: each child
+    /// element declares what is in scope at Body and it doesn't declare itself. None if that has
+    /// more content than the quotas admit, or more bytes in any payload; its declarations may be
+    /// many more than the document's. It fails without memory for the copy.
     pub fn body(&self, alloc: Global, quotas: &Quotas) -> Result<Option<Items>, Memory>
         ensures same { IfOk result (λ body. body ≡ fitting (limits_of quotas.now) self.now.body) }
         ensures content { IfOk result (λ body. IfSome body IsContent) }
     {
-        body_items(alloc, quotas, self.items, self.body)
+        body_items(alloc, quotas, self.version, self.items, self.body)
     }
 
     /// The place of Body's Start in the document's items, counted from 0.

@@ -11,9 +11,9 @@ use crate::blocks::QualifiedName;
 use crate::body::copies;
 use crate::making::{document, put_action, put_ending, put_middle, put_opening};
 use crate::moving::turned;
-use crate::namespaces;
 use crate::puts::{put_attribute, put_close, put_start, put_text, put_xmlns};
 use crate::report::{Code, FaultReport, Sub};
+use crate::versions::Addressing;
 use nbfx_values::{Copied, Doc, Items, Scalar, Txt, Value};
 use std::alloc::Global;
 use unit_streams::Memory;
@@ -32,17 +32,6 @@ impl Code {
             Code::Sender => "s:Sender",
             Code::Receiver => "s:Receiver",
         }
-    }
-}
-
-// A fault of addressing has a subcode, and its action.
-#[tactic(auto, unfolding(crate::specs::Names::addressing_fault, crate::specs::Names::soap_fault))]
-fn fault_action(sub: Sub) -> &'static str
-    ensures { result.now ≡ spec.fault_action sub }
-{
-    match sub {
-        Sub::None => namespaces::SOAP_FAULT,
-        _ => namespaces::ADDRESSING_FAULT,
     }
 }
 
@@ -184,10 +173,16 @@ fn ended_relates(relates: Items) -> Result<Items, Memory>
 }
 
 // A fault with this action up to the texts that it relates to, if there are some.
-fn put_front(alloc: Global, items: &mut Items, action: Txt, relates: bool) -> Result<(), Memory>
-    ensures { OnOk result (items.new ≡ items.old ++ front_items action relates) }
+fn put_front(
+    alloc: Global,
+    items: &mut Items,
+    version: Addressing,
+    action: Txt,
+    relates: bool,
+) -> Result<(), Memory>
+    ensures { OnOk result (items.new ≡ items.old ++ front_items version action relates) }
 {
-    put_opening(alloc, items)?;
+    put_opening(alloc, items, version)?;
     put_action(alloc, items, action)?;
     if relates {
         put_start(alloc, items, "a", "RelatesTo")?;
@@ -211,11 +206,12 @@ fn put_rest(alloc: Global, items: &mut Items, report: &FaultReport<'_>) -> Resul
 // changes place with them then, so that there is one list of items, that of the texts.
 fn report_with(
     alloc: Global,
+    version: Addressing,
     action: Txt,
     relates: Items,
     report: &FaultReport<'_>,
 ) -> Result<Items, Memory>
-    ensures made { IfOk result (λ items. items ≡ envelope_items action relates
+    ensures made { IfOk result (λ items. items ≡ envelope_items version action relates
         (flat_map not_understood_block report.now.names) (fault_body report.now)) }
     ensures names { OnOk result (IsTrue (list_all is_nameable report.now.names)) }
 {
@@ -223,33 +219,40 @@ fn report_with(
     let mut items = ended_relates(relates)?;
     put_rest(alloc, &mut items, report)?;
     let behind = items.len();
-    put_front(alloc, &mut items, action, has_relates)?;
+    put_front(alloc, &mut items, version, action, has_relates)?;
     Ok(turned(items, behind))
 }
 
-/// The envelope of a fault (SOAP 1.2 Part 1, 5.4; WS-Addressing 1.0, SOAP Binding, 6): its
-/// RelatesTo has these texts, those of the MessageID of the request that it answers. Its Action is
-/// that of WS-Addressing's faults if it has a subcode, else that of SOAP's. It fails without memory
-/// for it.
-pub fn fault_doc(alloc: Global, report: &FaultReport<'_>, relates: &Items) -> Result<Doc, Memory>
+/// The envelope of a fault (SOAP 1.2 Part 1, 5.4; WS-Addressing 1.0, SOAP Binding, 6), in the
+/// version of addressing of the request that it answers: its RelatesTo has these texts, those of
+/// the request's MessageID. Under version 1.0 its Action is that of WS-Addressing's faults if it
+/// has a subcode, else that of SOAP's; the version of August 2004 has one Action for all faults. It
+/// fails without memory for it.
+pub fn fault_doc(
+    alloc: Global,
+    version: Addressing,
+    report: &FaultReport<'_>,
+    relates: &Items,
+) -> Result<Doc, Memory>
     requires { AreTexts relates.now }
-    ensures { IfOk result (λ doc. doc ≡ fault_items report.now relates.now) }
+    ensures { IfOk result (λ doc. doc ≡ fault_items version report.now relates.now) }
 {
-    fault_doc_with(alloc, report, relates.copy()?)
+    fault_doc_with(alloc, version, report, relates.copy()?)
 }
 
 /// The same fault, but the texts aren't copied: their list becomes the fault's. It fails without
 /// memory for the rest.
 pub fn fault_doc_with(
     alloc: Global,
+    version: Addressing,
     report: &FaultReport<'_>,
     relates: Items,
 ) -> Result<Doc, Memory>
     requires { AreTexts relates }
-    ensures { IfOk result (λ doc. doc ≡ fault_items report.now relates) }
+    ensures { IfOk result (λ doc. doc ≡ fault_items version report.now relates) }
 {
-    let action = Txt::of(alloc, fault_action(report.sub))?;
-    let items = report_with(alloc, action, relates, report)?;
+    let action = Txt::of(alloc, version.fault_action(report.sub))?;
+    let items = report_with(alloc, version, action, relates, report)?;
 
     // Characters are UTF-8.
     let _reason = report.reason.as_str();

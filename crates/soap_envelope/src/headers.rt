@@ -15,10 +15,10 @@ use crate::attributes::{
 use crate::bindings::Bindings;
 use crate::blocks::{Block, Blocks, Names, QualifiedName};
 use crate::children::{Children, behind, close_of, is_start};
-use crate::namespaces::ADDRESSING;
 use crate::parts::{element_uri, is_element};
 use crate::scopes::{Scopes, declared_in};
 use crate::texts::has_plain_content;
+use crate::versions::Addressing;
 use nbfx_values::Item;
 use std::alloc::Global;
 use unit_streams::Memory;
@@ -76,30 +76,31 @@ pub(crate) fn is_same_name(name: &QualifiedName<'_>, other: &QualifiedName<'_>) 
     name.uri == other.uri && name.local == other.local
 }
 
-// Whether a block counts as the one of WS-Addressing with this local name.
-#[tactic(auto, unfolding(crate::specs::Names::addressing))]
-pub(crate) fn counts_as(block: &Block<'_>, local: &str) -> bool
-    ensures { result ≡ spec.counts_as local.now block.now }
+// Whether a block counts as the one of addressing with this local name.
+pub(crate) fn counts_as(version: Addressing, block: &Block<'_>, local: &str) -> bool
+    ensures { result ≡ spec.counts_as version local.now block.now }
 {
     let name = &block.name;
     if name.local != local {
         return false;
     }
-    block.targeted && name.uri == ADDRESSING
+    block.targeted && name.uri == version.namespace()
 }
 
 // Whether a block counts as one with content of characters alone.
-fn is_textual(block: &Block<'_>) -> bool
-    ensures { result ≡ spec.is_textual block.now }
+fn is_textual(version: Addressing, block: &Block<'_>) -> bool
+    ensures { result ≡ spec.is_textual version block.now }
 {
-    counts_as(block, "Action") || counts_as(block, "To") || counts_as(block, "MessageID")
+    counts_as(version, block, "Action")
+        || counts_as(version, block, "To")
+        || counts_as(version, block, "MessageID")
 }
 
 // Whether a block counts as one that may stand once.
-fn is_single(block: &Block<'_>) -> bool
-    ensures { result ≡ spec.is_single block.now }
+fn is_single(version: Addressing, block: &Block<'_>) -> bool
+    ensures { result ≡ spec.is_single version block.now }
 {
-    is_textual(block) || counts_as(block, "ReplyTo")
+    is_textual(version, block) || counts_as(version, block, "ReplyTo")
 }
 
 // Whether another block is targeted, and has the block's name.
@@ -117,18 +118,18 @@ fn comes_behind(before: &[Block<'_>], block: &Block<'_>) -> bool
 }
 
 // Whether a block that may stand once follows one of its name that counts.
-fn is_again(before: &[Block<'_>], block: &Block<'_>) -> bool
-    ensures { result ≡ spec.is_again before.now block.now }
+fn is_again(version: Addressing, before: &[Block<'_>], block: &Block<'_>) -> bool
+    ensures { result ≡ spec.is_again version before.now block.now }
 {
-    is_single(block) && comes_behind(before, block)
+    is_single(version, block) && comes_behind(before, block)
 }
 
 // The place of the first such block's Start.
-pub(crate) fn first_repeated(blocks: &[Block<'_>]) -> Option<usize>
-    ensures { result ≡ spec.repeated blocks.now }
+pub(crate) fn first_repeated(version: Addressing, blocks: &[Block<'_>]) -> Option<usize>
+    ensures { result ≡ spec.repeated version blocks.now }
 {
     for (i, block) in blocks.iter().enumerate() {
-        if is_again(&blocks[..i], block) {
+        if is_again(version, &blocks[..i], block) {
             return Some(block.from);
         }
     }
@@ -136,17 +137,17 @@ pub(crate) fn first_repeated(blocks: &[Block<'_>]) -> Option<usize>
 }
 
 // Whether an Address of characters alone begins at a place.
-#[tactic(auto, unfolding(crate::specs::Names::addressing))]
 fn is_address<'d>(
     alloc: Global,
+    version: Addressing,
     items: &'d [Item],
     outer: &Scopes<'d>,
     at: usize,
 ) -> Result<bool, Memory>
     requires { IsTrue (list_all is_valid_item items.now) }
-    ensures { IfOk result (λ found. found ≡ spec.is_address items.now outer.now at) }
+    ensures { IfOk result (λ found. found ≡ spec.is_address version items.now outer.now at) }
 {
-    if !is_element(alloc, items, outer, ADDRESSING, "Address", at)? {
+    if !is_element(alloc, items, outer, version.namespace(), "Address", at)? {
         return Ok(false);
     }
     Ok(has_plain_content(items, at))
@@ -155,18 +156,19 @@ fn is_address<'d>(
 // The only child of the element that begins at a place that is an Address of characters alone.
 fn only_address_in<'d>(
     alloc: Global,
+    version: Addressing,
     items: &'d [Item],
     inner: &Scopes<'d>,
     at: usize,
 ) -> Result<Option<usize>, Memory>
     requires { IsTrue (list_all is_valid_item items.now) }
-    ensures { IfOk result (λ found. found
-        ≡ spec.only (spec.addresses_among items.now inner.now (children_of items.now at))) }
+    ensures { IfOk result (λ found. found ≡ spec.only
+        (spec.addresses_among version items.now inner.now (children_of items.now at))) }
 {
     let mut found = None;
     let mut children = Children::of(items, at);
     while let Some(child) = children.next() {
-        if is_address(alloc, items, inner, child)? {
+        if is_address(alloc, version, items, inner, child)? {
             if found.is_some() {
                 return Ok(None);
             }
@@ -179,17 +181,18 @@ fn only_address_in<'d>(
 // The same of the ReplyTo that begins at a place: its only Address.
 pub(crate) fn only_address<'d>(
     alloc: Global,
+    version: Addressing,
     items: &'d [Item],
     scopes: &mut Scopes<'d>,
     at: usize,
 ) -> Result<Option<usize>, Memory>
     requires { IsTrue (list_all is_valid_item items.now) }
     ensures found { IfOk result
-        (λ found. found ≡ spec.only (spec.addresses items.now scopes.old at)) }
+        (λ found. found ≡ spec.only (spec.addresses version items.now scopes.old at)) }
     ensures unchanged { OnOk result (scopes.new ≡ scopes.old) }
 {
     scopes.enter(behind(items, at))?;
-    let found = only_address_in(alloc, items, scopes, at)?;
+    let found = only_address_in(alloc, version, items, scopes, at)?;
     scopes.close();
     Ok(found)
 }
@@ -197,22 +200,23 @@ pub(crate) fn only_address<'d>(
 // Whether the content of a block that counts isn't what WS-Addressing asks of it.
 fn is_bad_content<'d>(
     alloc: Global,
+    version: Addressing,
     items: &'d [Item],
     scopes: &mut Scopes<'d>,
     block: &Block<'_>,
 ) -> Result<bool, Memory>
     requires { IsTrue (list_all is_valid_item items.now) }
     ensures bad { IfOk result
-        (λ bad. bad ≡ spec.is_bad_content items.now scopes.old block.now) }
+        (λ bad. bad ≡ spec.is_bad_content version items.now scopes.old block.now) }
     ensures unchanged { OnOk result (scopes.new ≡ scopes.old) }
 {
-    if is_textual(block) && !has_plain_content(items, block.from) {
+    if is_textual(version, block) && !has_plain_content(items, block.from) {
         return Ok(true);
     }
-    if !counts_as(block, "ReplyTo") {
+    if !counts_as(version, block, "ReplyTo") {
         return Ok(false);
     }
-    let only = only_address(alloc, items, scopes, block.from)?;
+    let only = only_address(alloc, version, items, scopes, block.from)?;
     Ok(only.is_none())
 }
 
@@ -227,53 +231,40 @@ fn earlier(first: Option<usize>, second: Option<usize>) -> Option<usize>
     }
 }
 
-// The first item of a block with these SOAP attributes that isn't valid.
-fn bad_in_block<'d>(
-    alloc: Global,
-    items: &'d [Item],
-    scopes: &mut Scopes<'d>,
-    block: &Block<'_>,
-    attributes: &SoapAttributes<'_>,
-) -> Result<Option<usize>, Memory>
-    requires valid { IsTrue (list_all is_valid_item items.now) }
-    requires must_understand { attributes.now.must_understand
-        ≡ blocks.must_understand_of items.now scopes.old block.now.from }
-    requires role { attributes.now.role ≡ blocks.role_of items.now scopes.old block.now.from }
-    ensures bad { IfOk result
-        (λ bad. bad ≡ spec.bad_in_block items.now scopes.old block.now) }
-    ensures unchanged { OnOk result (scopes.new ≡ scopes.old) }
+// The first item of a block with these SOAP attributes that isn't as SOAP asks.
+fn bad_in_block(block: &Block<'_>, attributes: &SoapAttributes<'_>) -> Option<usize>
+    ensures { result
+        ≡ spec.bad_by block.now attributes.now.must_understand attributes.now.role }
 {
-    let name = &block.name;
-    if name.uri == "" || is_bad_content(alloc, items, scopes, block)? {
-        return Ok(Some(block.from));
+    if block.name.uri == "" {
+        return Some(block.from);
     }
-    Ok(earlier(
+    earlier(
         bad_must_understand(&attributes.must_understand),
         bad_role(&attributes.role),
-    ))
+    )
 }
 
 // Appends the block that begins at a place to others, and says which of its items is the first that
-// isn't valid.
+// isn't as SOAP asks.
 fn put_block<'d>(
     alloc: Global,
     items: &'d [Item],
-    scopes: &mut Scopes<'d>,
+    outer: &Scopes<'d>,
     found: &mut Blocks<'d>,
     at: usize,
 ) -> Result<Option<usize>, Memory>
     requires within { at < length items.now }
     requires valid { IsTrue (list_all is_valid_item items.now) }
     ensures bad { IfOk result (λ bad. bad
-        ≡ spec.bad_in_block items.now scopes.old (blocks.block_of items.now scopes.old at)) }
+        ≡ spec.bad_in_block items.now outer.now (blocks.block_of items.now outer.now at)) }
     ensures put { OnOk result
-        (found.new ≡ found.old ++ blocks.block_of items.now scopes.old at ∷ []) }
-    ensures unchanged { OnOk result (scopes.new ≡ scopes.old) }
+        (found.new ≡ found.old ++ blocks.block_of items.now outer.now at ∷ []) }
 {
     let own = declared_in(alloc, behind(items, at))?;
-    let attributes = soap_attributes(alloc, items, scopes, &own, at)?;
-    let block = block_of(items, scopes, &own, &attributes, at);
-    let bad = bad_in_block(alloc, items, scopes, &block, &attributes)?;
+    let attributes = soap_attributes(alloc, items, outer, &own, at)?;
+    let block = block_of(items, outer, &own, &attributes, at);
+    let bad = bad_in_block(&block, &attributes);
     found.push(block)?;
     Ok(bad)
 }
@@ -282,23 +273,22 @@ fn put_block<'d>(
 fn put_child<'d>(
     alloc: Global,
     items: &'d [Item],
-    scopes: &mut Scopes<'d>,
+    outer: &Scopes<'d>,
     found: &mut Blocks<'d>,
     at: usize,
 ) -> Result<Option<usize>, Memory>
     requires { IsTrue (list_all is_valid_item items.now) }
-    ensures bad { IfOk result (λ bad. bad ≡ spec.bad_child items.now scopes.old at) }
+    ensures bad { IfOk result (λ bad. bad ≡ spec.bad_child items.now outer.now at) }
     ensures put { OnOk result
-        (found.new ≡ found.old ++ blocks.blocks_among items.now scopes.old (at ∷ [])) }
-    ensures unchanged { OnOk result (scopes.new ≡ scopes.old) }
+        (found.new ≡ found.old ++ blocks.blocks_among items.now outer.now (at ∷ [])) }
 {
     if !is_start(items, at) {
         return Ok(Some(at));
     }
-    put_block(alloc, items, scopes, found, at)
+    put_block(alloc, items, outer, found, at)
 }
 
-// The blocks of a Header, and the first item of it that isn't valid.
+// The blocks of a Header, and the first item of it that isn't as SOAP asks.
 #[derive(Drop)]
 pub(crate) struct Header<'d> {
     pub(crate) blocks: Blocks<'d>,
@@ -309,20 +299,19 @@ pub(crate) struct Header<'d> {
 pub(crate) fn header_of<'d>(
     alloc: Global,
     items: &'d [Item],
-    scopes: &mut Scopes<'d>,
+    outer: &Scopes<'d>,
     children: &[usize],
 ) -> Result<Header<'d>, Memory>
     requires { IsTrue (list_all is_valid_item items.now) }
     ensures blocks { IfOk result
-        (λ header. header.blocks ≡ blocks.blocks_among items.now scopes.old children.now) }
+        (λ header. header.blocks ≡ blocks.blocks_among items.now outer.now children.now) }
     ensures bad { IfOk result
-        (λ header. header.bad ≡ spec.bad_header items.now scopes.old children.now) }
-    ensures unchanged { OnOk result (scopes.new ≡ scopes.old) }
+        (λ header. header.bad ≡ spec.bad_children items.now outer.now children.now) }
 {
     let mut found = Blocks::new(alloc);
     let mut bad = None;
     for child in children {
-        let here = put_child(alloc, items, scopes, &mut found, *child)?;
+        let here = put_child(alloc, items, outer, &mut found, *child)?;
         if bad.is_none() {
             bad = here;
         }
@@ -330,12 +319,50 @@ pub(crate) fn header_of<'d>(
     Ok(Header { blocks: found, bad })
 }
 
-// The place of the first block that counts as the one of WS-Addressing with this local name.
-pub(crate) fn counted_at(blocks: &[Block<'_>], local: &str) -> Option<usize>
-    ensures { result ≡ spec.counted_at local.now blocks.now }
+// The place of the first of these blocks whose content isn't what addressing asks of it.
+fn bad_content<'d>(
+    alloc: Global,
+    version: Addressing,
+    items: &'d [Item],
+    scopes: &mut Scopes<'d>,
+    blocks: &[Block<'_>],
+) -> Result<Option<usize>, Memory>
+    requires { IsTrue (list_all is_valid_item items.now) }
+    ensures bad { IfOk result
+        (λ bad. bad ≡ spec.bad_content version items.now scopes.old blocks.now) }
+    ensures unchanged { OnOk result (scopes.new ≡ scopes.old) }
 {
     for block in blocks {
-        if counts_as(block, local) {
+        if is_bad_content(alloc, version, items, scopes, block)? {
+            return Ok(Some(block.from));
+        }
+    }
+    Ok(None)
+}
+
+// The first item of a Header of a version that isn't as it should be.
+pub(crate) fn first_bad<'d>(
+    alloc: Global,
+    version: Addressing,
+    items: &'d [Item],
+    scopes: &mut Scopes<'d>,
+    header: &Header<'d>,
+) -> Result<Option<usize>, Memory>
+    requires { IsTrue (list_all is_valid_item items.now) }
+    ensures bad { IfOk result (λ bad. bad ≡ spec.earlier header.now.bad
+        (spec.bad_content version items.now scopes.old header.now.blocks)) }
+    ensures unchanged { OnOk result (scopes.new ≡ scopes.old) }
+{
+    let content = bad_content(alloc, version, items, scopes, header.blocks.as_slice())?;
+    Ok(earlier(header.bad, content))
+}
+
+// The place of the first block that counts as the one of addressing with this local name.
+pub(crate) fn counted_at(version: Addressing, blocks: &[Block<'_>], local: &str) -> Option<usize>
+    ensures { result ≡ spec.counted_at version local.now blocks.now }
+{
+    for block in blocks {
+        if counts_as(version, block, local) {
             return Some(block.from);
         }
     }

@@ -1,40 +1,28 @@
 //! What holds of views by the definitions alone. Each function does nothing: its contract is a law,
 //! which a caller has where it calls the function.
 
-ghost use Rattle.std.specs.Prelude.{◌≡◌};
 ghost use Rattle.soap_envelope.specs.Laws.{BodiesAreNamed, BodiesStand, FaultsAreViewed, NamesAreAll, PrefixesAreFree, RelatesAreKept, RepliesAreViewed, UnfitNamesAreUnfit};
 ghost use Rattle.soap_envelope.specs.Sizes.{UnfitBodiesAreUnfit};
-ghost use Rattle.soap_envelope.specs.Names.{addressing, anonymous_address, no_address};
 
-use crate::namespaces::{ADDRESSING, ANONYMOUS_ADDRESS, NO_ADDRESS};
-
-/// The names in `namespaces` are spelled as the standard has them.
-#[tactic(auto, unfolding(crate::specs::Names::addressing, crate::specs::Names::no_address, crate::specs::Names::anonymous_address))]
-pub fn names()
-    ensures addressing { ADDRESSING.now ≡ addressing }
-    ensures nobody { NO_ADDRESS.now ≡ no_address }
-    ensures sender { ANONYMOUS_ADDRESS.now ≡ anonymous_address }
-{}
-
-/// A reply is an envelope whose Action is the request's followed by `Response`, whose RelatesTo has
-/// the given texts, and whose Body has the given content. The names of the content have to be good
-/// where only the reply's own two prefixes are declared.
+/// A reply is an envelope of its version whose Action is the request's followed by `Response`,
+/// whose RelatesTo has the given texts, and whose Body has the given content. The names of the
+/// content have to be good where only the reply's own two prefixes are declared.
 pub fn replies()
     ensures viewed { RepliesAreViewed }
     ensures relates { RelatesAreKept }
 {}
 
-/// The content of Body, as a view has it, may be put into any reply: its names are good there and
-/// mean what they mean in its document, and the reply's view has the same content. If the content
-/// doesn't fit a quota, no reply with it does.
+/// The content of Body, as a view has it, may be put into any reply in its version: its names are
+/// good there and mean what they mean in its document, and the reply's view has the same content.
+/// If the content doesn't fit a quota, no reply with it does.
 pub fn bodies()
     ensures stand { BodiesStand }
     ensures named { BodiesAreNamed }
     ensures unfit { UnfitBodiesAreUnfit }
 {}
 
-/// A fault is an envelope whose Body has one Fault and nothing else, and whose Action is that of
-/// its subcode. If its names don't fit the quotas, it doesn't either.
+/// A fault is an envelope of its version whose Body has one Fault and nothing else, and whose
+/// Action is that of its subcode. If its names don't fit the quotas, it doesn't either.
 pub fn faults()
     ensures viewed { FaultsAreViewed }
     ensures unfit { UnfitNamesAreUnfit }

@@ -1,4 +1,4 @@
-//! The view of a SOAP 1.2 envelope with WS-Addressing 1.0 that servers and callers go by, and exact
+//! The view of a SOAP 1.2 envelope with WS-Addressing that servers and callers go by, and exact
 //! replies and faults.
 //!
 //! The one idea: an envelope is a document seen by the namespaces that its prefixes are bound to.
@@ -8,6 +8,9 @@
 //! `Envelope::of` is proved to answer that view, or the first refusal. `take_body` takes the
 //! content of Body out of a document that isn't needed any more: its items are moved, and stay in
 //! the document's list.
+//!
+//! A message is in a version of WS-Addressing, 1.0 or that of August 2004. What a version changes
+//! stands in `specs/Versions.antt` alone: all else is handed the version.
 //!
 //! `reply_doc` and `fault_doc` make documents whose items `specs/Making.antt` and
 //! `specs/Faults.antt` list one by one. The names of the standards are in `src/namespaces.rt` and
@@ -30,7 +33,7 @@ mod layers;
 mod making;
 mod moving;
 mod names;
-pub mod namespaces;
+mod namespaces;
 mod naming;
 mod parts;
 mod plain;
@@ -41,6 +44,7 @@ mod ring;
 mod scopes;
 mod taking;
 mod texts;
+mod versions;
 
 pub use blocks::{Block, Blocks, Names, QualifiedName};
 pub use elements::BlockElement;
@@ -52,3 +56,4 @@ pub use plain::envelope_doc;
 pub use refusals::SoapFault;
 pub use report::{Code, FaultReport, Sub};
 pub use taking::{return_body, take_body};
+pub use versions::Addressing;

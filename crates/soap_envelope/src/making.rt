@@ -8,20 +8,25 @@ ghost use Rattle.soap_envelope.specs.Sizes.{head_items};
 ghost use Rattle.soap_envelope.specs.Making.{AreTexts, IsContent, action_block, ending, envelope_items, middle, opening, relates_block, reply_items};
 
 use crate::moving::turned;
-use crate::namespaces::{ADDRESSING, SOAP};
+use crate::namespaces::SOAP;
 use crate::puts::{put_attribute, put_close, put_copies, put_start, put_text, put_xmlns};
+use crate::versions::Addressing;
 use nbfx_values::{Copied, Doc, Item, Items, Scalar, Txt, Value};
 use std::alloc::Global;
 use unit_streams::Memory;
 
 // From the root to the first block.
-#[tactic(auto, unfolding(crate::specs::Names::soap, crate::specs::Names::addressing))]
-pub(crate) fn put_opening(alloc: Global, items: &mut Items) -> Result<(), Memory>
-    ensures { OnOk result (items.new ≡ items.old ++ opening) }
+#[tactic(auto, unfolding(crate::specs::Names::soap))]
+pub(crate) fn put_opening(
+    alloc: Global,
+    items: &mut Items,
+    version: Addressing,
+) -> Result<(), Memory>
+    ensures { OnOk result (items.new ≡ items.old ++ opening version) }
 {
     put_start(alloc, items, "s", "Envelope")?;
     put_xmlns(alloc, items, "s", SOAP)?;
-    put_xmlns(alloc, items, "a", ADDRESSING)?;
+    put_xmlns(alloc, items, "a", version.namespace())?;
     put_start(alloc, items, "s", "Header")?;
     Ok(())
 }
@@ -96,10 +101,16 @@ fn response_action(alloc: Global, action: &str) -> Result<Txt, Memory>
 }
 
 // A reply with this action, up to the content of Body.
-fn put_head(alloc: Global, items: &mut Items, action: Txt, relates: &[Item]) -> Result<(), Memory>
-    ensures { OnOk result (items.new ≡ items.old ++ head_items action relates.now) }
+fn put_head(
+    alloc: Global,
+    items: &mut Items,
+    version: Addressing,
+    action: Txt,
+    relates: &[Item],
+) -> Result<(), Memory>
+    ensures { OnOk result (items.new ≡ items.old ++ head_items version action relates.now) }
 {
-    put_opening(alloc, items)?;
+    put_opening(alloc, items, version)?;
     put_action(alloc, items, action)?;
     put_relates(alloc, items, relates)?;
     put_middle(alloc, items)?;
@@ -108,43 +119,56 @@ fn put_head(alloc: Global, items: &mut Items, action: Txt, relates: &[Item]) -> 
 
 // A reply with this action. What stands before the content of Body is put behind it, and changes
 // place with it then, so that there is one list of items, that of the content.
-fn reply_with(alloc: Global, action: Txt, relates: &[Item], body: Items) -> Result<Items, Memory>
+fn reply_with(
+    alloc: Global,
+    version: Addressing,
+    action: Txt,
+    relates: &[Item],
+    body: Items,
+) -> Result<Items, Memory>
     ensures { IfOk result
-        (λ items. items ≡ envelope_items action relates.now [] body) }
+        (λ items. items ≡ envelope_items version action relates.now [] body) }
 {
     let mut items = body;
     let content = items.len();
-    put_head(alloc, &mut items, action, relates)?;
+    put_head(alloc, &mut items, version, action, relates)?;
     let mut items = turned(items, content);
     put_ending(&mut items)?;
     Ok(items)
 }
 
 /// The reply to a request with this action, as an envelope of SOAP 1.2 (Part 1, 5) with the
-/// properties of a reply (WS-Addressing 1.0, Core, 3.4): its Action is the request's, followed by
-/// `Response`; its RelatesTo has these texts, those of the request's MessageID; its Body has a copy
-/// of this content. It fails without memory for it.
-pub fn reply_doc(alloc: Global, action: &str, relates: &Items, body: &Items) -> Result<Doc, Memory>
+/// properties of a reply (WS-Addressing 1.0, Core, 3.4), in the request's version of addressing:
+/// its Action is the request's, followed by `Response`; its RelatesTo has these texts, those of the
+/// request's MessageID; its Body has a copy of this content. It fails without memory for it.
+pub fn reply_doc(
+    alloc: Global,
+    version: Addressing,
+    action: &str,
+    relates: &Items,
+    body: &Items,
+) -> Result<Doc, Memory>
     requires texts { AreTexts relates.now }
     requires content { IsContent body.now }
-    ensures { IfOk result (λ doc. doc ≡ reply_items action.now relates.now body.now) }
+    ensures { IfOk result (λ doc. doc ≡ reply_items version action.now relates.now body.now) }
 {
-    reply_doc_with(alloc, action, relates, body.copy()?)
+    reply_doc_with(alloc, version, action, relates, body.copy()?)
 }
 
 /// The same reply, but the content isn't copied: its list becomes the reply's. It fails without
 /// memory for the rest.
 pub fn reply_doc_with(
     alloc: Global,
+    version: Addressing,
     action: &str,
     relates: &Items,
     body: Items,
 ) -> Result<Doc, Memory>
     requires texts { AreTexts relates.now }
     requires content { IsContent body }
-    ensures { IfOk result (λ doc. doc ≡ reply_items action.now relates.now body) }
+    ensures { IfOk result (λ doc. doc ≡ reply_items version action.now relates.now body) }
 {
     let action = response_action(alloc, action)?;
-    let items = reply_with(alloc, action, relates.as_slice(), body)?;
+    let items = reply_with(alloc, version, action, relates.as_slice(), body)?;
     Ok(document(items))
 }

@@ -17,19 +17,21 @@ use crate::layers::Declared;
 use crate::making::reply_doc_with;
 use crate::moving::{first_of, rest};
 use crate::ring::with_needs;
+use crate::versions::Addressing;
 use nbfx_values::{Doc, Item, Items, Quotas};
 use std::alloc::Global;
 use unit_streams::Memory;
 
-// Whether an element declares nothing but what every reply does, if these items follow its start.
-fn declares_the_usual(behind: &[Item]) -> bool
-    ensures { result ≡ list_all is_usual (declared behind.now) }
+// Whether an element declares nothing but what every reply in a version does, if these items follow
+// its start.
+fn declares_the_usual(version: Addressing, behind: &[Item]) -> bool
+    ensures { result ≡ list_all (is_usual version) (declared behind.now) }
 {
     for item in behind {
         match item {
             Item::Xmlns { prefix, uri } => {
                 let (prefix, uri) = (prefix.as_str(), uri.as_str());
-                if !is_usual(&Declared { prefix, uri }) {
+                if !is_usual(version, &Declared { prefix, uri }) {
                     return false;
                 }
             }
@@ -43,10 +45,10 @@ fn declares_the_usual(behind: &[Item]) -> bool
 // Whether the children of the Body that begins at a place need no declaration, since the root and
 // Body declare only what every reply does.
 #[tactic(auto, using(crate::proofs::Usual::needs_none))]
-fn needs_nothing(items: &[Item], at: usize) -> bool
-    ensures { result ≡ true → needed (within items.now at (root_scope items.now)) ≡ [] }
+fn needs_nothing(version: Addressing, items: &[Item], at: usize) -> bool
+    ensures { result ≡ true → needed version (within items.now at (root_scope items.now)) ≡ [] }
 {
-    declares_the_usual(behind(items, 0)) && declares_the_usual(behind(items, at))
+    declares_the_usual(version, behind(items, 0)) && declares_the_usual(version, behind(items, at))
 }
 
 // How many items come before the end of the element that holds them.
@@ -80,25 +82,27 @@ fn content_places(items: &[Item], at: usize) -> (usize, usize)
 /// The content of the Body that begins at a place of a document, as
 /// [`Envelope::body`](crate::Envelope::body) gives it, taken out of the document. The items are
 /// moved, within the document's own list, which gets the declarations that children need besides:
-/// those of the root and of Body, but for what every reply declares. None only if the content with
-/// its declarations counts more than the quotas admit, or has more bytes in any payload; content
-/// that needs no declarations is given whatever it counts. It fails without memory.
+/// those of the root and of Body, but for what every reply in this version declares. None only if
+/// the content with its declarations counts more than the quotas admit, or has more bytes in any
+/// payload; content that needs no declarations is given whatever it counts. It fails without
+/// memory.
 pub fn take_body(
     alloc: Global,
     quotas: &Quotas,
+    version: Addressing,
     doc: Doc,
     at: usize,
 ) -> Result<Option<Items>, Memory>
     requires { IsTrue (is_start (slice_get doc at)) }
-    ensures same { let body = spec.body_items doc (root_scope doc) at in
+    ensures same { let body = spec.body_items version doc (root_scope doc) at in
         IfOk result (IsTaken (limits_of quotas.now) body body) }
     ensures content { IfOk result (λ body. IfSome body IsContent) }
 {
     let (first, end) = content_places(doc.items().as_slice(), at);
-    if needs_nothing(doc.items().as_slice(), at) {
+    if needs_nothing(version, doc.items().as_slice(), at) {
         return Ok(Some(rest(first_of(doc.into_items(), end), first)));
     }
-    let Some(needs) = fitting_needs(alloc, quotas, doc.items().as_slice(), at)? else {
+    let Some(needs) = fitting_needs(alloc, quotas, version, doc.items().as_slice(), at)? else {
         return Ok(None);
     };
     let body = with_needs(alloc, quotas, &needs, rest(doc.into_items(), first))?;
@@ -112,6 +116,7 @@ pub fn take_body(
 pub fn return_body(
     alloc: Global,
     quotas: &Quotas,
+    version: Addressing,
     action: &str,
     relates: &Items,
     doc: Doc,
@@ -119,13 +124,13 @@ pub fn return_body(
 ) -> Result<Option<Doc>, Memory>
     requires texts { AreTexts relates.now }
     requires starts { IsTrue (is_start (slice_get doc at)) }
-    ensures { let body = spec.body_items doc (root_scope doc) at in
+    ensures { let body = spec.body_items version doc (root_scope doc) at in
         IfOk result (IsTaken (limits_of quotas.now) body
-        (reply_items action.now relates.now body)) }
+        (reply_items version action.now relates.now body)) }
 {
-    let Some(body) = take_body(alloc, quotas, doc, at)? else {
+    let Some(body) = take_body(alloc, quotas, version, doc, at)? else {
         return Ok(None);
     };
-    let reply = reply_doc_with(alloc, action, relates, body)?;
+    let reply = reply_doc_with(alloc, version, action, relates, body)?;
     Ok(Some(reply))
 }

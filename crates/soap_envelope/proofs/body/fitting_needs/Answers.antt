@@ -14,7 +14,7 @@ returns c =
     let content = c.behind_head-content.result.now in
     let behind = behind_head (drop (c.args.at + 1) items) in
     let is : content ≡ behind = c.behind_head-content.ensures ∙ ap behind_head c.behind.ensures in
-    let needs = needed (within items c.args.at (root_scope items)) in
+    let needs = needed c.args.version (within items c.args.at (root_scope items)) in
     let found : map kept c.in_ok-needs.needs.items ≡ needs = c.in_ok-needs.ensures in
     let again : declared c.in_ok-declarations.declarations ≡ needs =
     ap declared

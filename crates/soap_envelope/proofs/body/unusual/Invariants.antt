@@ -5,4 +5,4 @@ use Rattle.soap_envelope.proofs.body.unusual.Given as goal
 
 abbrev pub invariant-loop-prefix : goal.invariant-loop-prefix
 invariant-loop-prefix l = layer_of l.needs
-    ≡ unusual (map (λ entry. declaration entry.0.now entry.1.now) l.yielded)
+    ≡ unusual l.version (map (λ entry. declaration entry.0.now entry.1.now) l.yielded)

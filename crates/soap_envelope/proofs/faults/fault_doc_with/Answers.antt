@@ -11,7 +11,8 @@ document-requires c =
     let report = c.args.report.now in
     let blocks = flat_map not_understood_block report.names in
     subst IsDocument (sym c.in_ok-items.ensures.made)
-    (envelope-document action relates blocks (fault_body report) c.in_ok-action.ensures.utf8
+    (envelope-document c.args.version action relates blocks (fault_body report)
+    c.in_ok-action.ensures.utf8
     c.requires
     (names-lead report.names c.in_ok-items.ensures.names)
     (fault-content report c.as_str-reason.ensures.utf8))

@@ -3,5 +3,6 @@ use Rattle.{std.proofs.Common.◌≡◌, std.proofs.Common.drop, soap_envelope.s
 use Rattle.soap_envelope.proofs.headers.counted_at.Given as goal
 
 abbrev pub invariant-loop-block : goal.invariant-loop-block
-invariant-loop-block l = counted_at l.local (drop l.block-index l.blocks) ≡ counted_at l.local
-    l.blocks
+invariant-loop-block l =
+    counted_at l.version l.local (drop l.block-index l.blocks)
+    ≡ counted_at l.version l.local l.blocks

@@ -9,5 +9,6 @@ document-requires c =
     let body = c.args.body in
     let made = rw c.as_slice.ensures at c.in_ok-items.ensures in
     subst IsDocument (sym made)
-    (envelope-document action relates [] body c.in_ok-action.ensures.utf8 c.requires.texts refl
+    (envelope-document c.args.version action relates [] body c.in_ok-action.ensures.utf8
+    c.requires.texts refl
     c.requires.content)

@@ -6,4 +6,4 @@ pub document-requires : goal.document-requires
 document-requires c =
     let made = rw c.new-items.ensures at c.in_ok-put_plain.ensures in
     subst IsDocument (sym made)
-    (plain-document c.args.blocks c.args.body c.requires.blocks c.requires.content)
+    (plain-document c.args.version c.args.blocks c.args.body c.requires.blocks c.requires.content)

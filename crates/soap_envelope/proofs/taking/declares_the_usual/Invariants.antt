@@ -5,5 +5,5 @@ use Rattle.soap_envelope.proofs.taking.declares_the_usual.Given as goal
 
 abbrev pub invariant-loop-item : goal.invariant-loop-item
 invariant-loop-item l =
-    list_all is_usual (declared (drop l.item-index l.behind))
-    ≡ list_all is_usual (declared l.behind)
+    list_all (is_usual l.version) (declared (drop l.item-index l.behind))
+    ≡ list_all (is_usual l.version) (declared l.behind)

@@ -10,11 +10,12 @@ pub returns-clause-content : goal.returns-clause-content
 returns-clause-content c =
     let items = c.self.inside.items.now in
     let at = c.self.inside.body in
+    let version = c.self.inside.version in
     let limits = limits_of c.args.quotas.now in
-    let content = fitting-all IsContent limits (body_items items (root_scope items) at)
-    (body-content items at c.self.invariant.document c.self.invariant.starts) in
+    let content = fitting-all IsContent limits (body_items version items (root_scope items) at)
+    (body-content version items at c.self.invariant.document c.self.invariant.starts) in
     IfOk-weaker c.body_items.result
-    (λ body. body ≡ fitting limits (body_items items (root_scope items) at))
+    (λ body. body ≡ fitting limits (body_items version items (root_scope items) at))
     (λ body. IfSome body IsContent)
     (λ body same. subst (λ (b : Option (List Item)). IfSome b IsContent) (sym same) content)
     c.body_items.ensures

@@ -1,0 +1,122 @@
+-- Worked cases: requests of the older version of addressing, and of both.
+use Rattle.std.proofs.Common.{◌≡◌, List, [], ◌∷◌, ◌++◌, codes, refl}
+use Rattle.nbfx_values.specs.declared.content.Item.{Item}
+use Rattle.nbfx_values.specs.declared.content.Item.TheVariants.{Close, Start, Xmlns}
+use Rattle.soap_envelope.proofs.Documents.{action, addressing_action, aged, attribute, echo, fault}
+use Rattle.soap_envelope.proofs.Documents.{hi, identified, message, must, older, older_action}
+use Rattle.soap_envelope.proofs.Documents.{related, reply, s, secured, soap_action, subcode}
+use Rattle.soap_envelope.proofs.OnLiterals.{envelopes_on_literals}
+use Rattle.soap_envelope.specs.declared.versions.Addressing.TheVariants.{V10, V200408}
+use Rattle.action_dispatch.specs.declared.answers.Answer.TheVariants.{Nothing, Reply}
+use Rattle.action_dispatch.specs.{Refusals.unfit_fault, Services.echoed}
+use Rattle.action_dispatch.proofs.{Requests.reply_to, Requests.request, Worked.AllAnswered}
+
+anonymous : List Item
+anonymous = reply_to (codes "http://www.w3.org/2005/08/addressing/anonymous")
+
+older_anonymous : List Item
+older_anonymous = reply_to (codes "http://schemas.xmlsoap.org/ws/2004/08/addressing/role/anonymous")
+
+nobody : List Item
+nobody = reply_to (codes "http://www.w3.org/2005/08/addressing/none")
+
+-- a request is answered in its version, whose anonymous address alone is served
+echoed_again : List Item
+echoed_again = reply (codes "urn:echoResponse") hi
+
+elsewhere : List Item
+elsewhere =
+    fault older_action related (codes "s:Sender")
+    (subcode (codes "a:InvalidAddressingHeader")
+    (subcode (codes "a:OnlyAnonymousAddressSupported") []))
+    (codes "Only the anonymous reply address is supported.")
+
+elsewhere_now : List Item
+elsewhere_now =
+    fault addressing_action related (codes "s:Sender")
+    (subcode (codes "a:InvalidAddressingHeader")
+    (subcode (codes "a:OnlyAnonymousAddressSupported") []))
+    (codes "Only the anonymous reply address is supported.")
+
+served : AllAnswered echoed (
+    (aged echo, Reply (aged echoed_again) identified V200408)
+    ∷ (
+      aged (request (action ++ message ++ older_anonymous)),
+      Reply (aged echoed_again) identified V200408,
+    )
+    ∷ (aged (request (action ++ message ++ anonymous)), Reply (aged elsewhere) identified V200408)
+    ∷ (aged (request (action ++ message ++ nobody)), Reply (aged elsewhere) identified V200408)
+    ∷ (request (action ++ message ++ older_anonymous), Reply elsewhere_now identified V10)
+    ∷ (request (action ++ message ++ nobody), Nothing)
+    ∷ [])
+unfolding envelopes_on_literals anonymous older_anonymous nobody echoed_again elsewhere
+    elsewhere_now
+served = refl
+
+-- a block of the other version isn't understood where it must be, and doesn't count
+other_reply_to : List Item
+other_reply_to =
+    fault soap_action
+    (related ++ s (codes "NotUnderstood")
+    (Xmlns (codes "n") (codes "http://schemas.xmlsoap.org/ws/2004/08/addressing")
+    ∷ attribute [] (codes "qname") (codes "n:ReplyTo") ∷ []))
+    (codes "s:MustUnderstand") [] (codes "A header block was not understood.")
+
+other_action : List Item
+other_action =
+    fault older_action
+    (s (codes "NotUnderstood")
+    (Xmlns (codes "n") (codes "http://www.w3.org/2005/08/addressing")
+    ∷ attribute [] (codes "qname") (codes "n:Action") ∷ []))
+    (codes "s:MustUnderstand") [] (codes "A header block was not understood.")
+
+mixed : AllAnswered echoed ((
+  request (action ++ message ++ older (codes "ReplyTo") (must (codes "1") ∷ [])),
+  Reply other_reply_to identified V10,
+)
+    ∷ (
+      request (action ++ message ++ older (codes "ReplyTo") []),
+      Reply echoed_again identified V10,
+    )
+    ∷ (request (older (codes "To") [] ++ action), Reply (aged other_action) [] V200408)
+    ∷ [])
+unfolding envelopes_on_literals echoed_again other_reply_to other_action
+mixed = refl
+
+-- other refusals of the older version, and one of a document without a view, which is in 1.0
+no_action : List Item
+no_action =
+    fault older_action related (codes "s:Sender")
+    (subcode (codes "a:MessageAddressingHeaderRequired") [])
+    (codes "The Action header is required.")
+
+not_understood : List Item
+not_understood =
+    fault older_action
+    (related ++ s (codes "NotUnderstood")
+    (Xmlns (codes "n") (codes "urn:t") ∷ attribute [] (codes "qname") (codes "n:Sec") ∷ []))
+    (codes "s:MustUnderstand") [] (codes "A header block was not understood.")
+
+repeated : List Item
+repeated =
+    fault addressing_action [] (codes "s:Sender")
+    (subcode (codes "a:InvalidAddressingHeader") (subcode (codes "a:InvalidCardinality") []))
+    (codes "An addressing header is repeated.")
+
+refused : AllAnswered echoed (
+    (aged (request message), Reply (aged no_action) identified V200408)
+    ∷ (
+      aged (request (secured [] ++ action ++ message)),
+      Reply (aged not_understood) identified V200408,
+    )
+    ∷ (aged (request (action ++ action ++ message)), Reply repeated [] V10)
+    ∷ [])
+unfolding envelopes_on_literals no_action not_understood repeated
+refused = refl
+
+does_not_fit : List Item
+does_not_fit = fault older_action related (codes "s:Receiver") [] (codes "The reply does not fit.")
+
+unfit : unfit_fault V200408 identified ≡ aged does_not_fit
+unfolding envelopes_on_literals does_not_fit
+unfit = refl
