@@ -112,11 +112,12 @@ module _ (s : Sent) (r : Received) (bodies : List (List Item)) (marks : List Mar
             body = body_or_none o;
           })) (sent-submitted w f.faithful number body is).body
 
-  pub handed-next : (at : ℕ) (end : Received)
+  pub handed-next : (at : ℕ) (end : Received) (same : List (List Range)) → same ≡ ranges
       → end ≡ after_data r (option_map (data_at bodies) (slice_get marks at))
-      → world_of s end bodies marks ranges ≡ rebuilt (happens w (Hand at))
-  handed-next at end is =
-      ap (λ (e : Received). world_of s e bodies marks ranges) is
+      → world_of s end bodies marks same ≡ rebuilt (happens w (Hand at))
+  handed-next at end same kept is =
+      ap (λ (rs : List (List Range)). world_of s end bodies marks rs) kept
+      ∙ ap (λ (e : Received). world_of s e bodies marks ranges) is
       ∙ ap (λ (o : Option Data). world_of s (after_data r o) bodies marks ranges)
       (sym (slice_get-map (data_at bodies) marks at))
       ∙ go (slice_get w.data_sent at)
@@ -132,13 +133,18 @@ module _ (s : Sent) (r : Received) (bodies : List (List Item)) (marks : List Mar
       go None = refl
       go (Some d) = by (received r d)
 
-  pub delivered-next : (end : Received) → end ≡ after_delivery r
-      → world_of s end bodies marks ranges ≡ rebuilt (happens w Deliver)
-  delivered-next end is = ap (λ (e : Received). world_of s e bodies marks ranges) is
+  pub delivered-next : (end : Received) (same : List (List Range)) → same ≡ ranges
+      → end ≡ after_delivery r → world_of s end bodies marks same ≡ rebuilt (happens w Deliver)
+  delivered-next end same kept is =
+      ap (λ (rs : List (List Range)). world_of s end bodies marks rs) kept
+      ∙ ap (λ (e : Received). world_of s e bodies marks ranges) is
 
-  pub ranged-next : (more : List (List Range)) → more ≡ ranges ++ received_ranges r ∷ []
-      → world_of s r bodies marks more ≡ rebuilt (happens w SendAck)
-  ranged-next more is = ap (λ (rs : List (List Range)). world_of s r bodies marks rs) is
+  pub ranged-next : (same : Received) (more : List (List Range)) → same ≡ r
+      → more ≡ ranges ++ received_ranges r ∷ []
+      → world_of s same bodies marks more ≡ rebuilt (happens w SendAck)
+  ranged-next same more kept is =
+      ap (λ (e : Received). world_of s e bodies marks more) kept
+      ∙ ap (λ (rs : List (List Range)). world_of s r bodies marks rs) is
 
   pub heard-next : (at : ℕ) (end : Sent) → end ≡ after_ranges s (slice_get ranges at)
       → world_of end r bodies marks ranges ≡ rebuilt (happens w (Ack at))

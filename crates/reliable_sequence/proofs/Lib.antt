@@ -17,5 +17,6 @@ pub mod ReadRanges
 pub mod RehearsalFacts
 pub mod RehearsalLaws
 pub mod ExchangeFacts
+pub mod ReceiptLists
 mod Worked
 mod WorkedDocuments

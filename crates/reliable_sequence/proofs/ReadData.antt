@@ -1,4 +1,5 @@
 -- A document that sends a body is read as what it sends.
+use Rattle.soap_envelope.specs.declared.versions.Addressing.TheVariants.{V10}
 use Rattle.std.proofs.Common.{◌≡◌, ℕ, ◌+◌, ◌^◌, ◌<◌, Bool, true, false, not, List, [], ◌∷◌, ◌++◌, drop}
 use Rattle.std.proofs.Common.{slice_get, Some, None, Ok, codes, filter, option_map}
 use Rattle.std.proofs.Common.{refl, ap, ◌∙◌, append-nil}
@@ -32,13 +33,13 @@ use Rattle.reliable_sequence.specs.Reading.{sequence_at, then_by}
 use Rattle.reliable_sequence.proofs.ReadNumbers.{number-read}
 
 -- from the end of Header on, names are good
-pub tail-named : (body : List Item) → IsContent body → StandsInReplies body → (at : ℕ)
-    → first_bad_name reply_scope at (middle ++ (body ++ ending)) ≡ None
+pub tail-named : (body : List Item) → IsContent body → StandsInReplies V10 body → (at : ℕ)
+    → first_bad_name (reply_scope V10) at (middle ++ (body ++ ending)) ≡ None
 unfolding envelopes_on_literals
 tail-named body content named at =
     let begins = begins-with-content body (Close ∷ []) content in
-    rw (begins.declares, begins.attributes reply_scope (at + 1 + 1))
-    (names-inside body (Close ∷ []) reply_scope (at + 1 + 1) (named (at + 1 + 1)))
+    rw (begins.declares, begins.attributes (reply_scope V10) (at + 1 + 1))
+    (names-inside body (Close ∷ []) (reply_scope V10) (at + 1 + 1) (named (at + 1 + 1)))
 
 -- the place of Body, and that of the block's end
 abbrev pub body_place : Bool → ℕ
@@ -63,7 +64,7 @@ sent_items identifier number last body =
     data_items identifier (record { number = number; last = last; body = body })
 
 pub names-good : (identifier : List ℕ) (number : ℕ) (last : Bool) (body : List Item)
-    → IsContent body → StandsInReplies body
+    → IsContent body → StandsInReplies V10 body
     → bad_name (sent_items identifier number last body) ≡ None
 unfolding envelopes_on_literals messaging
 names-good identifier number true body content named = tail-named body content named 16
@@ -72,8 +73,8 @@ names-good identifier number false body content named = tail-named body content 
 -- a Header and a Body are the parts of an envelope
 pub parts-by : (all : List Item) (at : ℕ) → slice_get all at ≡ Some (soap_start (codes "Body"))
     → declared (drop (at + 1) all) ≡ []
-    → is_element all reply_root soap (codes "Header") 3 ≡ true
-    → parts_among all reply_root (3 ∷ at ∷ []) ≡ Ok (record { header = Some 3; body = at })
+    → is_element all (reply_root V10) soap (codes "Header") 3 ≡ true
+    → parts_among all (reply_root V10) (3 ∷ at ∷ []) ≡ Ok (record { header = Some 3; body = at })
 unfolding envelopes_on_literals
 parts-by all at got none first = rw (first, got, none) refl
 
@@ -86,7 +87,7 @@ root-ended body at content =
 -- the content of Body, where this stands after its beginning
 abbrev pub standing_behind : List Item → List Item
 standing_behind tail =
-    self_standing (needed (declared tail ∷ reply_root)) (Some 0) (behind_head tail)
+    self_standing (needed V10 (declared tail ∷ (reply_root V10))) (Some 0) (behind_head tail)
 
 pub body-stands : (body : List Item) → IsContent body → standing_behind (body ++ ending) ≡ body
 unfolding envelopes_on_literals
@@ -144,6 +145,7 @@ parts-there identifier number last body content =
 abbrev pub view_with : Bool → List Item → View
 view_with last body = record {
   blocks = sequence_seen last ∷ [];
+  version = V10;
   action = None;
   reply_address = None;
   message_id = [];
@@ -154,7 +156,7 @@ view_with last body = record {
 viewed-with : (identifier : List ℕ) (number : ℕ) (last : Bool) (body : List Item)
     → let all = sent_items identifier number last body in
     viewed_by all (Ok (record { header = Some 3; body = body_place last }))
-    ≡ Ok (view_with last (body_items all (root_scope all) (body_place last)))
+    ≡ Ok (view_with last (body_items V10 all (root_scope all) (body_place last)))
 unfolding envelopes_on_literals messaging
 viewed-with identifier number true body = refl
 viewed-with identifier number false body = refl
@@ -162,13 +164,13 @@ viewed-with identifier number false body = refl
 body-again : (identifier : List ℕ) (number : ℕ) (last : Bool) (body : List Item)
     → IsContent body
     → let all = sent_items identifier number last body in
-    body_items all (root_scope all) (body_place last) ≡ body
+    body_items V10 all (root_scope all) (body_place last) ≡ body
 unfolding envelopes_on_literals messaging
 body-again identifier number last body content =
     ap standing_behind (behind-body identifier number last body) ∙ body-stands body content
 
 pub sent-viewed : (identifier : List ℕ) (number : ℕ) (last : Bool) (body : List Item)
-    → IsContent body → StandsInReplies body
+    → IsContent body → StandsInReplies V10 body
     → view (sent_items identifier number last body) ≡ Ok (view_with last body)
 unfolding envelopes_on_literals messaging
 sent-viewed identifier number last body content named =
@@ -226,7 +228,7 @@ pub same-if : {X : Type 0} (identifier : List ℕ) (x : X) → if_same identifie
 same-if identifier x = rw ((bytes_eq-Decides identifier identifier).1 refl) refl
 
 pub data-read : (identifier : List ℕ) (sent : Data) → IsContent sent.body
-    → StandsInReplies sent.body → 0 < sent.number → sent.number < 2 ^ 63
+    → StandsInReplies V10 sent.body → 0 < sent.number → sent.number < 2 ^ 63
     → data_in identifier (data_items identifier sent) ≡ Ok sent
 data-read identifier sent content named some small =
     let all = data_items identifier sent in

@@ -1,7 +1,10 @@
 -- A document that sends ranges is read as these ranges.
-use Rattle.std.proofs.Common.{◌≡◌, ℕ, ◌+◌, ◌-◌, ◌^◌, ◌<◌, ◌≤◌, true, false, not, ◌&&◌, List, [], ◌∷◌, ◌++◌}
+use Rattle.soap_envelope.specs.declared.versions.Addressing.TheVariants.{V10}
+use Rattle.std.proofs.Common.{◌≡◌, ℕ, ◌+◌, ◌-◌, ◌^◌, ◌<◌, ◌≤◌, true, false, not, ◌&&◌, List, []}
+use Rattle.std.proofs.Common.{◌∷◌, ◌++◌}
 use Rattle.std.proofs.Common.{length, drop, slice_get, Some, None, Ok, codes, filter}
-use Rattle.std.proofs.Common.{flat_map, nat_le, option_map, refl, sym, ap, ◌∙◌, append-nil, append_assoc}
+use Rattle.std.proofs.Common.{flat_map, nat_le, option_map, refl, sym, ap, ◌∙◌, append-nil}
+use Rattle.std.proofs.Common.{append_assoc}
 use Rattle.std.proofs.Common.{arith, length-append}
 use Rattle.std.proofs.lemmas.Bool.{le-leb, leb-true}
 use Rattle.std.specs.{Fmt.decimal, Prelude.⊤}
@@ -15,34 +18,38 @@ use Rattle.soap_envelope.specs.Body.{body_items}
 use Rattle.soap_envelope.specs.Characters.{is_passed, text_of}
 use Rattle.soap_envelope.specs.Children.{children_from}
 use Rattle.soap_envelope.specs.Elements.{Element, header_in}
-use Rattle.soap_envelope.specs.Headers.{counted_at}
+use Rattle.soap_envelope.specs.Headers.{bad_children}
 use Rattle.soap_envelope.specs.Made.{reply_scope}
 use Rattle.soap_envelope.specs.Making.{ending, middle, opening, soap_start}
 use Rattle.soap_envelope.specs.Names.{qualified_name}
 use Rattle.soap_envelope.specs.Parts.{kept_children, parts_among, parts_of, root_scope, wrong_root}
 use Rattle.soap_envelope.specs.Scopes.{declaration, declared, Scope, within}
-use Rattle.soap_envelope.specs.View.{blocks_of, fault_among, header_fault, header_scope, reply_address_at}
-use Rattle.soap_envelope.specs.View.{texts_at, unless, View, viewed}
+use Rattle.soap_envelope.specs.View.{blocks_of, fault_among, header_fault, header_scope}
+use Rattle.soap_envelope.specs.View.{unless, View, viewed, viewed_in}
+use Rattle.soap_envelope.specs.Versions.{version_of}
 use Rattle.soap_envelope.specs.View.{view, viewed_by}
 use Rattle.soap_envelope.proofs.MadeParts.{drop-behind, get-behind}
 use Rattle.soap_envelope.proofs.Nesting.{children-inside, close-inside, nested}
 use Rattle.soap_envelope.proofs.OnLiterals.{envelopes_on_literals}
 use Rattle.reliable_sequence.specs.declared.{ranges.Range.Range, reading.Acknowledged.Acknowledged}
-use Rattle.reliable_sequence.specs.Blocks.{acknowledged, acknowledgement_from, acknowledgement_in, or_broken}
+use Rattle.reliable_sequence.specs.Blocks.{acknowledged, acknowledgement_from, acknowledgement_in}
+use Rattle.reliable_sequence.specs.Blocks.{or_broken}
 use Rattle.reliable_sequence.specs.Blocks.{range_at, range_of, ranges_from}
 use Rattle.reliable_sequence.specs.Made.{block_start, identifier_items, messaging_start, numeral}
 use Rattle.reliable_sequence.specs.Made.{range_items, ranges_items}
 use Rattle.reliable_sequence.specs.{Names.messaging, Numbers.number_in, Ranges.rise_from}
-use Rattle.reliable_sequence.specs.Reading.{acknowledgement_at, if_same, Place, placed_by, ranges_in}
+use Rattle.reliable_sequence.specs.Reading.{acknowledgement_at, if_same, Place, placed_by}
+use Rattle.reliable_sequence.specs.Reading.{ranges_in}
 use Rattle.reliable_sequence.specs.Reading.{said, then_by}
 use Rattle.reliable_sequence.{specs.Ranges.Below, proofs.NumberFacts.both-true}
-use Rattle.reliable_sequence.proofs.ReadData.{body-stands, kept-both, parts-by, same-if, standing_behind}
+use Rattle.reliable_sequence.proofs.ReadData.{body-stands, kept-both, parts-by, same-if}
+use Rattle.reliable_sequence.proofs.ReadData.{standing_behind}
 use Rattle.reliable_sequence.proofs.ReadNumbers.{number-read}
 
 -- the document in front of its ranges, the ranges, and what stands behind them
 abbrev head : List ℕ → List Item
 head identifier =
-    opening ++ (block_start (codes "SequenceAcknowledgement") ++ identifier_items identifier)
+    opening V10 ++ (block_start (codes "SequenceAcknowledgement") ++ identifier_items identifier)
 
 abbrev inner : List Range → List Item
 inner ranges = flat_map range_items ranges
@@ -70,7 +77,7 @@ nested-header (r ∷ more) = nested-header more
 
 -- names are good
 abbrev block_scope : Scope
-block_scope = (declaration (codes "r") messaging ∷ []) ∷ reply_scope
+block_scope = (declaration (codes "r") messaging ∷ []) ∷ (reply_scope V10)
 
 ranges-named : (ranges : List Range) (at : ℕ)
     → first_bad_name block_scope at (inner ranges ++ behind) ≡ None
@@ -159,7 +166,7 @@ header-children identifier ranges =
     (children-inside (inner ranges) behind 0 0 9 (nested-header ranges))
 
 block-there : (identifier : List ℕ) (ranges : List Range)
-    → block_of (laid identifier ranges) reply_scope 4 ≡ seen ranges
+    → block_of (laid identifier ranges) (reply_scope V10) 4 ≡ seen ranges
 unfolding envelopes_on_literals messaging
 block-there identifier ranges =
     ap (λ (n : ℕ). record (seen ranges) { to = n })
@@ -169,7 +176,7 @@ blocks-there : (identifier : List ℕ) (ranges : List Range)
     → blocks_of (laid identifier ranges) (Some 3) ≡ seen ranges ∷ []
 unfolding envelopes_on_literals messaging
 blocks-there identifier ranges =
-    ap (blocks_among (laid identifier ranges) reply_scope) (header-children identifier ranges)
+    ap (blocks_among (laid identifier ranges) (reply_scope V10)) (header-children identifier ranges)
     ∙ ap (λ (b : Block). b ∷ []) (block-there identifier ranges)
 
 no-fault : (identifier : List ℕ) (ranges : List Range)
@@ -177,13 +184,17 @@ no-fault : (identifier : List ℕ) (ranges : List Range)
 unfolding envelopes_on_literals messaging
 no-fault identifier ranges =
     let all = laid identifier ranges in
-    ap (λ cs. fault_among all reply_scope cs (blocks_of all (Some 3)))
+    let scope = reply_scope V10 in
+    ap (λ cs. fault_among (version_of (blocks_of all (Some 3))) all scope
+    (bad_children all scope cs) (blocks_of all (Some 3)))
     (header-children identifier ranges)
-    ∙ ap (fault_among all reply_scope (4 ∷ [])) (blocks-there identifier ranges)
+    ∙ ap (λ bs. fault_among (version_of bs) all scope (bad_children all scope (4 ∷ [])) bs)
+    (blocks-there identifier ranges)
 
 abbrev view_with : List Range → List Block → List Item → View
 view_with ranges blocks body = record {
   blocks = blocks;
+  version = V10;
   action = None;
   reply_address = None;
   message_id = [];
@@ -194,27 +205,19 @@ view_with ranges blocks body = record {
 viewed-with : (identifier : List ℕ) (ranges : List Range)
     → let all = laid identifier ranges in
     viewed_by all (Ok (record { header = Some 3; body = body_place ranges }))
-    ≡ Ok (view_with ranges (seen ranges ∷ []) (body_items all (root_scope all) (body_place ranges)))
+    ≡ Ok (view_with ranges (seen ranges ∷ []) (body_items V10 all (root_scope all) (body_place
+    ranges)))
 unfolding envelopes_on_literals messaging
 viewed-with identifier ranges =
     let all = laid identifier ranges in
     ap (λ f. unless f (Ok (viewed all (record { header = Some 3; body = body_place ranges }))))
     (no-fault identifier ranges)
-    ∙ ap (λ bs. Ok (viewed_blocks all bs)) (blocks-there identifier ranges)
-  where
-    viewed_blocks : List Item → List Block → View
-    viewed_blocks all bs = record {
-      blocks = bs;
-      action = option_map (text_of all) (counted_at (codes "Action") bs);
-      reply_address = option_map (text_of all) (reply_address_at all reply_scope bs);
-      message_id = texts_at all (counted_at (codes "MessageID") bs);
-      body_at = body_place ranges;
-      body = body_items all (root_scope all) (body_place ranges);
-    }
+    ∙ ap (λ bs. Ok (viewed_in (version_of bs) bs all
+    (record { header = Some 3; body = body_place ranges }))) (blocks-there identifier ranges)
 
 body-again : (identifier : List ℕ) (ranges : List Range)
     → let all = laid identifier ranges in
-    body_items all (root_scope all) (body_place ranges) ≡ []
+    body_items V10 all (root_scope all) (body_place ranges) ≡ []
 unfolding envelopes_on_literals messaging
 body-again identifier ranges =
     ap standing_behind (behind-body identifier ranges) ∙ body-stands [] refl

@@ -1,4 +1,5 @@
 -- Worked cases: documents that are read or refused, and literal events over documents.
+use Rattle.soap_envelope.specs.declared.versions.Addressing.TheVariants.{V10}
 use Rattle.std.proofs.Common.{◌≡◌, ℕ, Bool, true, false, List, [], ◌∷◌, ◌++◌, map, Ok, Err}
 use Rattle.std.proofs.Common.{codes, Result, refl}
 use Rattle.nbfx_values.specs.declared.content.Item.{Item, TheVariants.Close}
@@ -25,7 +26,7 @@ body = Start [] (codes "x") ∷ words (codes "hi") ∷ Close ∷ []
 
 -- an envelope with these items in its Header
 abbrev with_header : List Item → List Item
-with_header items = opening ++ (items ++ (middle ++ (body ++ ending)))
+with_header items = opening V10 ++ (items ++ (middle ++ (body ++ ending)))
 
 -- a block with these children
 abbrev sequence_of : List Item → List Item

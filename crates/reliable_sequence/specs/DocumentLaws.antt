@@ -1,4 +1,5 @@
 -- What documents say that are made.
+use Rattle.soap_envelope.specs.declared.versions.Addressing.TheVariants.{V10}
 use Rattle.std.specs.Prelude.{◌≡◌, ℕ, ◌-◌, ◌^◌, ◌<◌, List, None, Ok, IsTrue}
 use Rattle.soap_envelope.specs.{Made.StandsInReplies, Making.IsContent}
 use Rattle.reliable_sequence.specs.declared.{parts.Data.Data, ranges.Range.Range}
@@ -9,7 +10,7 @@ use Rattle.reliable_sequence.specs.Reading.{data_in, ranges_in}
 -- a body that may stand in Body, by names of which each has its namespace there
 pub record IsFit (sent : Data) : Type 0 where
   pub content : IsContent sent.body
-  pub named : StandsInReplies sent.body
+  pub named : StandsInReplies V10 sent.body
   pub some : 0 < sent.number
   pub small : sent.number < 2 ^ 63
 

@@ -14,6 +14,7 @@ pub mod DocumentLaws
 pub mod Laws
 pub mod Acknowledged
 -- private calls cite these
+pub mod Receipts
 pub mod PlainWorld
 pub mod Soundness
 pub mod Exchange

@@ -1,4 +1,5 @@
 -- The documents that are sent, item by item.
+use Rattle.soap_envelope.specs.declared.versions.Addressing.TheVariants.{V10}
 use Rattle.std.specs.Prelude.{ℕ, ◌^◌, ◌<◌, Bool, true, false, List, [], ◌∷◌, ◌++◌, pos, codes, flat_map}
 use Rattle.nbfx_values.specs.declared.content.Item.{Item}
 use Rattle.nbfx_values.specs.declared.content.Item.TheVariants.{Attr, Close, Start, Text, Xmlns}
@@ -43,7 +44,7 @@ sequence_items identifier number last =
 
 abbrev pub data_items : List ℕ → Data → List Item
 data_items identifier sent =
-    plain_items (sequence_items identifier sent.number sent.last) sent.body
+    plain_items V10 (sequence_items identifier sent.number sent.last) sent.body
 
 -- the element of a range
 abbrev pub range_items : Range → List Item
@@ -60,7 +61,7 @@ acknowledgement_items identifier ranges =
     (identifier_items identifier ++ (flat_map range_items ranges ++ Close ∷ []))
 
 abbrev pub ranges_items : List ℕ → List Range → List Item
-ranges_items identifier ranges = plain_items (acknowledgement_items identifier ranges) []
+ranges_items identifier ranges = plain_items V10 (acknowledgement_items identifier ranges) []
 
 -- the ends of ranges have 64 bits
 pub record IsSmall (r : Range) : Type 0 where

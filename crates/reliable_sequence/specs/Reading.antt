@@ -57,7 +57,7 @@ pub record IsPlaceOf (local : List ℕ) (items : List Item) (p : Places) : Type 
   pub place : place_of local items ≡ Ok (record {
     span = p.span;
     body_at = p.body_at;
-    body = body_items items (root_scope items) p.body_at;
+    body = body_items p.version items (root_scope items) p.body_at;
   })
 
 -- what a block says

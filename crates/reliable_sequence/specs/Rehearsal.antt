@@ -1,5 +1,6 @@
 -- Both ends of a sequence and all documents that were ever sent between them, of which any may be
 -- lost, come twice or come in another order.
+use Rattle.soap_envelope.specs.declared.versions.Addressing.TheVariants.{V10}
 use Rattle.std.specs.Prelude.{◌≡◌, ℕ, ◌-◌, ◌^◌, ◌<◌, List, [], ◌∷◌, ◌++◌, slice_get, Some, None}
 use Rattle.std.specs.Prelude.{Option, Ok, Err, Result, option_map}
 use Rattle.std.specs.Option.{option_to_list}
@@ -101,7 +102,7 @@ counts_of k = record {
 -- a body may stand in Body, and its names have their namespaces there
 pub record IsBody (body : List Item) : Type 0 where
   pub content : IsContent body
-  pub named : StandsInReplies body
+  pub named : StandsInReplies V10 body
 
 -- it may be submitted: fewer than 2^63 - 1 were before
 pub record MaySubmit (s : Sent) (body : List Item) : Type 0 where

@@ -3,17 +3,16 @@
 ghost use Rattle.std.specs.Prelude.{◌≡◌, ◌+◌, ◌-◌, ◌^◌, ◌<◌, ◌++◌, ◌∷◌, [], IfOk, OnOk, option_map, slice_get};
 ghost use Rattle.std.specs.Option.{option_to_list};
 ghost use Rattle.reliable_sequence.specs.Exchange.{after_data, after_ranges, body_or_none, data_at, mark_of, with_submission};
-ghost use Rattle.reliable_sequence.specs.Received.{received, received_ranges};
+ghost use Rattle.reliable_sequence.specs.Received.{received};
 ghost use Rattle.reliable_sequence.specs.Rehearsal.{MayHappen, MaySubmit, after_receipt, counts_of, delivered_by, kept_after};
 ghost use Rattle.reliable_sequence.specs.Sent.{submitted, submitted_count};
 ghost use Rattle.reliable_sequence.specs.declared.events.Event.TheVariants as events;
 
 use crate::events::{Counts, Event};
-use crate::faults::{RmFault, SubmitFault};
-use crate::incoming::Incoming;
+use crate::faults::SubmitFault;
 use crate::outgoing::Outgoing;
 use crate::parts::{Data, Marked};
-use crate::ranges::Ranges;
+use crate::receipts::Receipts;
 use nbfx_values::{Copied, Items, Sequence, Txt};
 use std::alloc::Global;
 use std::marker::Model;
@@ -26,11 +25,10 @@ use unit_streams::Memory;
 pub(crate) struct Exchange {
     pub(crate) identifier: Txt,
     pub(crate) outgoing: Outgoing,
-    pub(crate) incoming: Incoming,
+    pub(crate) receipts: Receipts,
     // The bodies that were submitted, in the order of their numbers.
     pub(crate) bodies: Sequence<Items>,
     pub(crate) marks: Sequence<Marked>,
-    pub(crate) ranges: Sequence<Ranges>,
 }
 
 impl Model for Exchange {
@@ -40,9 +38,9 @@ impl Model for Exchange {
 
     ghost Value = { Kept };
 
-    ghost view = { λ e. kept_of e.identifier (world_of e.outgoing e.incoming e.bodies e.marks e.ranges) };
+    ghost view = { λ e. kept_of e.identifier (world_of e.outgoing e.receipts.received e.bodies e.marks e.receipts.sent) };
 
-    ghost invariant = { λ e. IsSound (world_of e.outgoing e.incoming e.bodies e.marks e.ranges) };
+    ghost invariant = { λ e. IsSound (world_of e.outgoing e.receipts.received e.bodies e.marks e.receipts.sent) };
 }
 
 // Submits a body, of which one copy is kept apart.
@@ -88,15 +86,17 @@ fn body_of(alloc: Global, bodies: &Sequence<Items>, number: u64) -> Result<Items
 // What is sent under a number, to an end that looks at its body only where the number is new to it.
 fn data_for(
     alloc: Global,
-    incoming: &Incoming,
+    receipts: &Receipts,
     bodies: &Sequence<Items>,
     mark: Marked,
 ) -> Result<Data, Memory>
-    ensures { IfOk result (λ sent. after_receipt incoming.now (received incoming.now sent)
-        ≡ after_receipt incoming.now (received incoming.now (data_at bodies.now mark))) }
+    ensures { IfOk result (λ sent.
+        after_receipt receipts.now.received (received receipts.now.received sent)
+        ≡ after_receipt receipts.now.received
+        (received receipts.now.received (data_at bodies.now mark))) }
 {
     let Marked { number, last } = mark;
-    if incoming.wants(number) {
+    if receipts.wants(number) {
         let body = body_of(alloc, bodies, number)?;
         return Ok(Data { number, last, body });
     }
@@ -107,29 +107,27 @@ fn data_for(
 // Hands over what was sent at a place.
 fn hand_over(
     alloc: Global,
-    incoming: &mut Incoming,
+    receipts: &mut Receipts,
     bodies: &Sequence<Items>,
     marks: &Sequence<Marked>,
     at: u64,
 ) -> Result<(), Memory>
-    ensures { OnOk result (incoming.new ≡ after_data incoming.old
+    ensures received { OnOk result (receipts.new.received ≡ after_data receipts.old.received
         (option_map (data_at bodies.now) (slice_get marks.now at))) }
+    ensures sent { receipts.new.sent ≡ receipts.old.sent }
 {
     let Some(mark) = marks.get(at as usize) else {
         return Ok(());
     };
-    let sent = data_for(alloc, incoming, bodies, *mark)?;
-    match incoming.take(sent) {
-        Err(RmFault::Memory) => Err(Memory),
-        _ => Ok(()),
-    }
+    let sent = data_for(alloc, receipts, bodies, *mark)?;
+    receipts.take(sent)
 }
 
 // Hands over the ranges that were sent at a place.
-fn hand_back(outgoing: &mut Outgoing, ranges: &Sequence<Ranges>, at: u64)
-    ensures { outgoing.new ≡ after_ranges outgoing.old (slice_get ranges.now at) }
+fn hand_back(outgoing: &mut Outgoing, receipts: &Receipts, at: u64)
+    ensures { outgoing.new ≡ after_ranges outgoing.old (slice_get receipts.now.sent at) }
 {
-    if let Some(ranges) = ranges.get(at as usize) {
+    if let Some(ranges) = receipts.ranges(at) {
         let _ = outgoing.acknowledge(ranges.as_slice());
     }
 }
@@ -140,7 +138,7 @@ impl Exchange {
     {
         Counts {
             submitted: self.outgoing.submitted(),
-            delivered: self.incoming.delivered(),
+            delivered: self.receipts.delivered(),
             acknowledged: self.outgoing.acknowledged_count(),
         }
     }
@@ -152,19 +150,17 @@ impl Exchange {
         let Exchange {
             identifier,
             mut outgoing,
-            incoming,
+            receipts,
             mut bodies,
             marks,
-            ranges,
         } = self;
         submit(&mut outgoing, &mut bodies, body, last)?;
         Ok(Exchange {
             identifier,
             outgoing,
-            incoming,
+            receipts,
             bodies,
             marks,
-            ranges,
         })
     }
 
@@ -174,19 +170,17 @@ impl Exchange {
         let Exchange {
             identifier,
             outgoing,
-            incoming,
+            receipts,
             bodies,
             mut marks,
-            ranges,
         } = self;
         send(&outgoing, &mut marks, number)?;
         Ok(Exchange {
             identifier,
             outgoing,
-            incoming,
+            receipts,
             bodies,
             marks,
-            ranges,
         })
     }
 
@@ -196,19 +190,17 @@ impl Exchange {
         let Exchange {
             identifier,
             outgoing,
-            mut incoming,
+            mut receipts,
             bodies,
             marks,
-            ranges,
         } = self;
-        hand_over(alloc, &mut incoming, &bodies, &marks, at)?;
+        hand_over(alloc, &mut receipts, &bodies, &marks, at)?;
         Ok(Exchange {
             identifier,
             outgoing,
-            incoming,
+            receipts,
             bodies,
             marks,
-            ranges,
         })
     }
 
@@ -219,19 +211,17 @@ impl Exchange {
         let Exchange {
             identifier,
             outgoing,
-            mut incoming,
+            mut receipts,
             bodies,
             marks,
-            ranges,
         } = self;
-        let body = incoming.deliver();
+        let body = receipts.deliver();
         let next = Exchange {
             identifier,
             outgoing,
-            incoming,
+            receipts,
             bodies,
             marks,
-            ranges,
         };
         (next, body)
     }
@@ -242,19 +232,17 @@ impl Exchange {
         let Exchange {
             identifier,
             outgoing,
-            incoming,
+            mut receipts,
             bodies,
             marks,
-            mut ranges,
         } = self;
-        ranges.push(incoming.ranges(alloc)?)?;
+        receipts.acknowledge(alloc)?;
         Ok(Exchange {
             identifier,
             outgoing,
-            incoming,
+            receipts,
             bodies,
             marks,
-            ranges,
         })
     }
 
@@ -264,19 +252,17 @@ impl Exchange {
         let Exchange {
             identifier,
             mut outgoing,
-            incoming,
+            receipts,
             bodies,
             marks,
-            ranges,
         } = self;
-        hand_back(&mut outgoing, &ranges, at);
+        hand_back(&mut outgoing, &receipts, at);
         Exchange {
             identifier,
             outgoing,
-            incoming,
+            receipts,
             bodies,
             marks,
-            ranges,
         }
     }
 

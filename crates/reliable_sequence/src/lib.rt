@@ -31,6 +31,7 @@ mod outgoing;
 mod parts;
 mod ranges;
 mod reading;
+mod receipts;
 mod receiving;
 mod sending;
 mod slots;

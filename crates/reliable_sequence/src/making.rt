@@ -10,8 +10,8 @@ use crate::names::MESSAGING;
 use crate::parts::Data;
 use crate::ranges::Range;
 use nbfx_values::{Doc, Item, Items, Scalar, Txt, Value};
-use soap_envelope::envelope_doc;
 use soap_envelope::puts::{put_attribute, put_close, put_start, put_xmlns};
+use soap_envelope::{Addressing, envelope_doc};
 use std::alloc::Global;
 use unit_streams::Memory;
 
@@ -152,7 +152,7 @@ pub(crate) fn data_doc(alloc: Global, identifier: &str, sent: Data) -> Result<Do
 {
     let Data { number, last, body } = sent;
     let block = sequence_block(alloc, identifier, number, last)?;
-    envelope_doc(alloc, block, body)
+    envelope_doc(alloc, Addressing::V10, block, body)
 }
 
 // The document that sends ranges of the sequence with this identifier.
@@ -161,5 +161,5 @@ pub(crate) fn ranges_doc(alloc: Global, identifier: &str, ranges: &[Range]) -> R
     ensures { IfOk result (λ doc. doc ≡ spec.ranges_items identifier.now ranges.now) }
 {
     let block = acknowledgement_block(alloc, identifier, ranges)?;
-    envelope_doc(alloc, block, Items::new(alloc))
+    envelope_doc(alloc, Addressing::V10, block, Items::new(alloc))
 }

@@ -20,7 +20,7 @@ use crate::numbers::number_in;
 use crate::parts::Data;
 use crate::ranges::{Range, Ranges};
 use nbfx_values::{Copied, Doc, Item, Items, Quotas, Txt, Value};
-use soap_envelope::{Block, BlockElement, Envelope, SoapFault, take_body};
+use soap_envelope::{Addressing, Block, BlockElement, Envelope, SoapFault, take_body};
 use std::alloc::Global;
 use unit_streams::Memory;
 
@@ -354,11 +354,12 @@ fn block_named(blocks: &[Block<'_>], local: &str) -> Option<Span>
     None
 }
 
-// Where the block of a name and the content of Body are.
+// Where the block of a name and the content of Body are, and the document's version of addressing.
 #[derive(Clone, Copy)]
 pub(crate) struct Places {
     span: Span,
     body_at: usize,
+    version: Addressing,
 }
 
 // The places of the block of a name and of Body.
@@ -376,6 +377,7 @@ fn places_of(alloc: Global, doc: &Doc, local: &str) -> Result<Places, RmFault>
         Some(span) => Ok(Places {
             span,
             body_at: envelope.body_at(),
+            version: envelope.version(),
         }),
         None => Err(RmFault::NoBlock),
     }
@@ -418,13 +420,14 @@ fn greatest_quotas() -> Quotas {
 }
 
 // A copy of the content of Body. One that doesn't fit any quotas counts as too much for memory.
-fn body_of(alloc: Global, doc: &Doc, at: usize) -> Result<Items, Memory>
+fn body_of(alloc: Global, version: Addressing, doc: &Doc, at: usize) -> Result<Items, Memory>
     requires { IsTrue (is_start (slice_get doc.now at)) }
-    ensures same { IfOk result (λ body. body ≡ body_items doc.now (root_scope doc.now) at) }
+    ensures same { IfOk result
+        (λ body. body ≡ body_items version doc.now (root_scope doc.now) at) }
     ensures content { IfOk result IsContent }
 {
     let copy = doc.copy()?;
-    match take_body(alloc, &greatest_quotas(), copy, at)? {
+    match take_body(alloc, &greatest_quotas(), version, copy, at)? {
         Some(body) => Ok(body),
         None => Err(Memory),
     }
@@ -442,7 +445,7 @@ pub(crate) fn data_in(alloc: Global, identifier: &str, doc: &Doc) -> Result<Data
     if said.identifier.as_str() != identifier {
         return Err(RmFault::OtherSequence);
     }
-    let body = body_of(alloc, doc, places.body_at)?;
+    let body = body_of(alloc, places.version, doc, places.body_at)?;
     Ok(Data {
         number: said.number,
         last: said.last,

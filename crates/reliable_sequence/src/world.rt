@@ -8,8 +8,8 @@ ghost use Rattle.reliable_sequence.specs.Sent.{submitted_count};
 
 use crate::events::{Counts, Event};
 use crate::exchange::Exchange;
-use crate::incoming::Incoming;
 use crate::outgoing::Outgoing;
+use crate::receipts::Receipts;
 use nbfx_values::{Items, Sequence, Txt};
 use std::alloc::Global;
 use std::marker::Model;
@@ -45,10 +45,9 @@ impl World {
         let exchange = Exchange {
             identifier,
             outgoing: Outgoing::new(alloc, window),
-            incoming: Incoming::new(alloc, window),
+            receipts: Receipts::new(alloc, window),
             bodies: Sequence::new(alloc),
             marks: Sequence::new(alloc),
-            ranges: Sequence::new(alloc),
         };
         Ok(World { exchange })
     }

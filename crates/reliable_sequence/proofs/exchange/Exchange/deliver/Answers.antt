@@ -6,7 +6,8 @@ use Rattle.reliable_sequence.proofs.exchange.Exchange.deliver.Goals as goal
 pub invariant_of-next : goal.invariant_of-next
 invariant_of-next c =
     let e = c.self.inside in
-    let same = delivered-next e.outgoing e.incoming e.bodies e.marks e.ranges
-    c.deliver-body.new.self c.deliver-body.ensures.delivered in
-    sound-next e.identifier (world_of e.outgoing e.incoming e.bodies e.marks e.ranges) c.self.invariant
+    let same = delivered-next e.outgoing e.receipts.received e.bodies e.marks e.receipts.sent
+    c.deliver-body.new.self.received c.deliver-body.new.self.sent c.deliver-body.ensures.sent
+    c.deliver-body.ensures.received in
+    sound-next e.identifier (world_of e.outgoing e.receipts.received e.bodies e.marks e.receipts.sent) c.self.invariant
     Deliver tt _ same

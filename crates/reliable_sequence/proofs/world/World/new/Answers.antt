@@ -8,7 +8,6 @@ invariant_of-exchange c =
       c.new-2.ensures,
       c.new-3.ensures,
       c.new-4.ensures,
-      c.new-5.ensures,
     )
     (sound-new c.args.window)
 
@@ -20,6 +19,5 @@ invariant_of-result c =
       c.new-2.ensures,
       c.new-3.ensures,
       c.new-4.ensures,
-      c.new-5.ensures,
     )
     (reached-new c.args.identifier.now c.args.window)
