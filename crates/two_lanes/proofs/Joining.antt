@@ -1,6 +1,6 @@
 -- What the caller knows once each pass is back.
 use Rattle.std.proofs.Common.{◌≡◌, ℕ, zero, suc, Bool, true, false, true≢false, List, [], ◌∷◌, ◌++◌}
-use Rattle.std.proofs.Common.{length, sym, refl, ap, ◌∙◌, append-nil, subst, None, Some}
+use Rattle.std.proofs.Common.{sym, refl, ap, ◌∙◌, append-nil, subst, None, Some}
 use Rattle.std.proofs.Common.{if◌then◌else◌}
 use Rattle.std.proofs.lemmas.List.Elements.{filter-append}
 use Rattle.two_lanes.specs.declared.jobs.Lane.{Lane}

@@ -3,7 +3,7 @@ use Rattle.std.proofs.Common.{◌≡◌, ◌≤◌, ◌∙◌, ℕ, zero, suc, L
 use Rattle.std.proofs.Common.{refl, sym, ap, append_assoc, append-nil, arith}
 use Rattle.two_lanes.specs.declared.jobs.Lane.{Lane}
 use Rattle.two_lanes.specs.declared.jobs.Lane.TheVariants.{A, B}
-use Rattle.two_lanes.specs.Merges.{elements_of, InOrder, merge, MergesAreInOrder, MergesGrowByOne}
+use Rattle.two_lanes.specs.Merges.{elements_of, merge, MergesAreInOrder, MergesGrowByOne}
 use Rattle.two_lanes.specs.Merges.{Step, tagged, tags_of, times, values}
 
 module _ {T : Type 0} where

@@ -8,7 +8,7 @@ use Rattle.two_lanes.specs.declared.jobs.Lane.{Lane}
 use Rattle.two_lanes.specs.declared.jobs.Lane.TheVariants.{A, B}
 use Rattle.two_lanes.specs.declared.jobs.LaneJob.{LaneJob}
 use Rattle.two_lanes.specs.declared.jobs.LaneJob.TheVariants.{Send, Last, Back}
-use Rattle.two_lanes.specs.Merges.{AreAll, elements_of, merge, named, of_lane, Step, steps, tags_of, times, values}
+use Rattle.two_lanes.specs.Merges.{AreAll, elements_of, merge, named, of_lane, Step, steps, tags_of, values}
 use Rattle.two_lanes.specs.Numbers.{HasAll, numbers, upto}
 use Rattle.two_lanes.specs.Jobs.{first_jobs}
 use Rattle.two_lanes.proofs.Merging.{merge-steps, times-values}

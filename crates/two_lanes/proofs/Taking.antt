@@ -1,6 +1,7 @@
 -- What a worker's thread knows after one more job.
 use Rattle.std.proofs.Common.{◌≡◌, ℕ, Bool, true, false, true≢false, List, [], ◌∷◌, ◌++◌, sym, refl}
-use Rattle.std.proofs.Common.{ap, ◌∙◌, subst, Option, None, Some, if◌then◌else◌}
+use Rattle.std.proofs.Common.{ap, ◌∙◌, subst, append_assoc, append-nil, None, Some}
+use Rattle.std.proofs.Common.{if◌then◌else◌}
 use Rattle.two_lanes.specs.declared.jobs.Lane.{Lane}
 use Rattle.two_lanes.specs.declared.jobs.Lane.TheVariants.{A, B}
 use Rattle.two_lanes.specs.declared.jobs.LaneJob.{LaneJob}
@@ -18,7 +19,7 @@ got_more : (v w : Log) (x : LaneJob) → v ≡ log None None (Some (known v.got)
 got_more v w x i e =
     ap (λ u. known u.got) e ∙ ap (λ u. known (more x u.got)) i
 
-takes_still : (v w : Log) (x : LaneJob) → v ≡ log None None (Some (known v.got))
+pub takes_still : (v w : Log) (x : LaneJob) → v ≡ log None None (Some (known v.got))
     → w ≡ log v.a v.b (more x v.got) → w ≡ log None None (Some (known w.got))
 takes_still v w x i e =
     e ∙ ap (λ u. log u.a u.b (more x u.got)) i
@@ -59,11 +60,6 @@ back-else (Send l n ∷ jobs) x e = back-else jobs x e
 back-else (Last l ∷ jobs) x e = back-else jobs x e
 back-else (Back ∷ jobs) x e = refl
 
-no_back : (x : LaneJob) → (x ≡ Back → ⊥) → has_back (x ∷ []) ≡ false
-no_back (Send l n) never = refl
-no_back (Last l) never = refl
-no_back Back never = absurd (never refl)
-
 ends_back : (jobs : List LaneJob) → has_back jobs ≡ true → ends jobs ≡ true
 ends_back jobs b = rw b refl
 
@@ -71,27 +67,57 @@ ends_both : (jobs : List LaneJob) → has_last A jobs ≡ true → has_last B jo
     → ends jobs ≡ true
 ends_both jobs a b = rw (a, b) (if_same (has_back jobs))
 
+-- the jobs that wait are taken one by one
+pub one_more : (v w : Log) (x : LaneJob) (before xs jobs : List LaneJob)
+    → v ≡ log None None (Some (before ++ xs)) → w ≡ log v.a v.b (more x v.got)
+    → jobs ≡ xs ++ x ∷ [] → w ≡ log None None (Some (before ++ jobs))
+one_more v w x before xs jobs i e j =
+    e ∙ ap (λ u. log u.a u.b (more x u.got)) i
+    ∙ ap (λ l. log None None (Some l))
+    (append_assoc before xs (x ∷ []) ∙ ap (λ l. before ++ l) (sym j))
+
+pub none_more : (v : Log) (jobs : List LaneJob) → v ≡ log None None (Some (known v.got))
+    → jobs ≡ [] → v ≡ log None None (Some (known v.got ++ jobs))
+none_more v jobs e none =
+    e ∙ ap (λ l. log None None (Some l)) (sym (append-nil (known v.got))
+    ∙ ap (λ l. known v.got ++ l) (sym none))
+
+pub still_taking : (v : Log) (jobs : List LaneJob) → v ≡ log None None (Some jobs)
+    → is_known v.got ≡ true
+still_taking v jobs e = ap (λ u. is_known u.got) e
+
 -- which last jobs came, after one more
-pub over_a : (over over' : Over) (jobs : List LaneJob) → over'.a ≡ true → over'.b ≡ over.b
-    → IsOver over jobs → IsOver over' (jobs ++ Last A ∷ [])
-over_a over over' jobs a b o = record {
-  a_is = a ∙ sym (last-there A jobs (Last A) refl);
-  b_is = b ∙ o.b_is ∙ sym (last-else B jobs (Last A) refl);
-}
+module _ (over over' : Over) (jobs : List LaneJob) (o : IsOver over jobs) where
+  pub over_a : over'.a ≡ true → over'.b ≡ over.b → over'.back ≡ over.back
+      → IsOver over' (jobs ++ Last A ∷ [])
+  over_a a b back = record {
+    a_is = a ∙ sym (last-there A jobs (Last A) refl);
+    b_is = b ∙ o.b_is ∙ sym (last-else B jobs (Last A) refl);
+    back_is = back ∙ o.back_is ∙ sym (back-else jobs (Last A) refl);
+  }
 
-pub over_b : (over over' : Over) (jobs : List LaneJob) → over'.a ≡ over.a → over'.b ≡ true
-    → IsOver over jobs → IsOver over' (jobs ++ Last B ∷ [])
-over_b over over' jobs a b o = record {
-  a_is = a ∙ o.a_is ∙ sym (last-else A jobs (Last B) refl);
-  b_is = b ∙ sym (last-there B jobs (Last B) refl);
-}
+  pub over_b : over'.a ≡ over.a → over'.b ≡ true → over'.back ≡ over.back
+      → IsOver over' (jobs ++ Last B ∷ [])
+  over_b a b back = record {
+    a_is = a ∙ o.a_is ∙ sym (last-else A jobs (Last B) refl);
+    b_is = b ∙ sym (last-there B jobs (Last B) refl);
+    back_is = back ∙ o.back_is ∙ sym (back-else jobs (Last B) refl);
+  }
 
-pub over_still : (over : Over) (jobs : List LaneJob) (x : LaneJob)
-    → has_last A (x ∷ []) ≡ false → has_last B (x ∷ []) ≡ false
-    → IsOver over jobs → IsOver over (jobs ++ x ∷ [])
-over_still over jobs x a b o = record {
-  a_is = o.a_is ∙ sym (last-else A jobs x a);
-  b_is = o.b_is ∙ sym (last-else B jobs x b);
+  pub over_back : over'.a ≡ over.a → over'.b ≡ over.b → over'.back ≡ true
+      → IsOver over' (jobs ++ Back ∷ [])
+  over_back a b back = record {
+    a_is = a ∙ o.a_is ∙ sym (last-else A jobs Back refl);
+    b_is = b ∙ o.b_is ∙ sym (last-else B jobs Back refl);
+    back_is = back ∙ sym (back-there jobs);
+  }
+
+pub over_still : (over : Over) (jobs : List LaneJob) (lane : Lane) (n : ℕ) → IsOver over jobs
+    → IsOver over (jobs ++ Send lane n ∷ [])
+over_still over jobs lane n o = record {
+  a_is = o.a_is ∙ sym (last-else A jobs (Send lane n) refl);
+  b_is = o.b_is ∙ sym (last-else B jobs (Send lane n) refl);
+  back_is = o.back_is ∙ sym (back-else jobs (Send lane n) refl);
 }
 
 module _ {W : Type 0} (did finished : W → List LaneJob → W → Type 0) where
@@ -99,61 +125,56 @@ module _ {W : Type 0} (did finished : W → List LaneJob → W → Type 0) where
   pub record Going (v : Log) (over : Over) (first now : W) : Type 0 where
     pub view : v ≡ log None None (Some (known v.got))
     pub over_is : IsOver over (known v.got)
-    pub wanted : has_back (known v.got) ≡ false
     pub done : did first (known v.got) now
 
   pub begun : (v : Log) (over : Over) (first : W) → v ≡ log None None (Some [])
-      → over.a ≡ false → over.b ≡ false → did first [] first → Going v over first first
-  begun v over first e a b d =
+      → over.a ≡ false → over.b ≡ false → over.back ≡ false → did first [] first
+      → Going v over first first
+  begun v over first e a b back d =
       let none : known v.got ≡ [] = ap (λ u. known u.got) e in record {
         view = e ∙ ap (λ l. log None None (Some l)) (sym none);
         over_is = record {
           a_is = a ∙ ap (has_last A) (sym none);
           b_is = b ∙ ap (has_last B) (sym none);
+          back_is = back ∙ ap has_back (sym none);
         };
-        wanted = ap has_back none;
         done = subst (λ l. did first l first) (sym none) d;
       }
 
-  -- one job more was done
-  module _ (v w : Log) (x : LaneJob) (over over' : Over) (first old now : W)
-      (e : w ≡ log v.a v.b (more x v.got)) (g : Going v over first old)
-      (works : did first (known v.got) old → did first (known v.got ++ x ∷ []) now) where
-    got : known w.got ≡ known v.got ++ x ∷ []
-    got = got_more v w x g.view e
+  -- a job more was done, and then those that waited
+  pub goes_on : (v w u : Log) (x : LaneJob) (xs : List LaneJob) (over over' : Over)
+      (first old now : W) → w ≡ log v.a v.b (more x v.got)
+      → u ≡ log None None (Some (known w.got ++ xs)) → Going v over first old
+      → (did first (known v.got) old → did first ((known v.got ++ x ∷ []) ++ xs) now)
+      → (IsOver over (known v.got) → IsOver over' ((known v.got ++ x ∷ []) ++ xs))
+      → Going u over' first now
+  goes_on v w u x xs over over' first old now e f g works after =
+      let got : known u.got ≡ (known v.got ++ x ∷ []) ++ xs = ap (λ t. known t.got) f
+      ∙ ap (λ l. l ++ xs) (got_more v w x g.view e) in record {
+        view = f ∙ ap (λ l. log None None (Some l)) (sym (ap (λ t. known t.got) f));
+        over_is = subst (IsOver over') (sym got) (after g.over_is);
+        done = subst (λ l. did first l now) (sym got) (works g.done);
+      }
 
-    now_done : did first (known w.got) now
-    now_done = subst (λ l. did first l now) (sym got) (works g.done)
-
-    pub goes_on : (x ≡ Back → ⊥)
-        → (IsOver over (known v.got) → IsOver over' (known v.got ++ x ∷ []))
-        → Going w over' first now
-    goes_on never after = record {
-      view = takes_still v w x g.view e;
-      over_is = subst (IsOver over') (sym got) (after g.over_is);
-      wanted = ap has_back got ∙ back-else (known v.got) x (no_back x never) ∙ g.wanted;
-      done = now_done;
-    }
-
-    -- the worker is wanted back
-    pub sent_back : x ≡ Back → Took did finished w first now
-    sent_back is =
-        let back : has_back (known w.got) ≡ true = ap has_back (got
-        ∙ ap (λ y. known v.got ++ y ∷ []) is) ∙ back-there (known v.got) in record {
-          view = takes_still v w x g.view e;
-          ended = ends_back (known w.got) back;
-          stopped = λ _. now_done;
-          done = λ never. absurd (true≢false (sym back ∙ never));
-        }
+  -- the worker is wanted back
+  pub sent_back : (v : Log) (over : Over) (first now : W) → Going v over first now
+      → over.back ≡ true → Took did finished v first now
+  sent_back v over first now g is =
+      let back : has_back (known v.got) ≡ true = sym g.over_is.back_is ∙ is in record {
+        view = g.view;
+        ended = ends_back (known v.got) back;
+        stopped = λ _. g.done;
+        done = λ never. absurd (true≢false (sym back ∙ never));
+      }
 
   -- no job comes any more
   pub all_taken : (v : Log) (over : Over) (first old now : W) → Going v over first old
-      → over.a ≡ true → over.b ≡ true
+      → over.a ≡ true → over.b ≡ true → over.back ≡ false
       → (did first (known v.got) old → finished first (known v.got) now)
       → Took did finished v first now
-  all_taken v over first old now g a b finishes = record {
+  all_taken v over first old now g a b wanted finishes = record {
     view = g.view;
     ended = ends_both (known v.got) (sym g.over_is.a_is ∙ a) (sym g.over_is.b_is ∙ b);
-    stopped = λ back. absurd (true≢false (sym back ∙ g.wanted));
+    stopped = λ back. absurd (true≢false (sym back ∙ sym g.over_is.back_is ∙ wanted));
     done = λ _. finishes g.done;
   }

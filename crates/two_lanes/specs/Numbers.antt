@@ -26,10 +26,11 @@ pub record HasAll (a b : ℕ) (jobs : List LaneJob) : Type 0 where
   pub of_a : numbers A jobs ≡ upto a
   pub of_b : numbers B jobs ≡ upto b
 
--- which last jobs came
+-- which last jobs came, and whether the worker is wanted back
 pub record IsOver (over : Over) (jobs : List LaneJob) : Type 0 where
   pub a_is : over.a ≡ has_last A jobs
   pub b_is : over.b ≡ has_last B jobs
+  pub back_is : over.back ≡ has_back jobs
 
 -- a worker that was like the first has done the jobs that it took, up to the end
 pub record Took {W : Type 0} (did finished : W → List LaneJob → W → Type 0) (v : Log)

@@ -21,7 +21,7 @@ use std::thread;
 use std::thread::{Promise, Threads};
 
 /// How many jobs wait at most.
-const MOST_WAITING: usize = 16;
+const MOST_WAITING: usize = 256;
 
 /// What the caller does while others send.
 pub trait Meanwhile {
@@ -188,13 +188,19 @@ fn send_both<R: Threads + Wait + Sync, M: Meanwhile + Drop>(
 
 // Works with the channel's end as its own: a closure can't lend one of its captures and move others
 // in one call.
-fn work_owned<R: Wait, W: LaneWorker>(rt: &R, from: Taker, pass: Ticket, worker: W) -> (Ticket, W)
+fn work_owned<R: Wait, W: LaneWorker>(
+    rt: &R,
+    alloc: Global,
+    from: Taker,
+    pass: Ticket,
+    worker: W,
+) -> (Ticket, W)
     requires seat { IsSeatAt (receives_on from) pass × (view pass ≡ log None None (Some [])) }
     requires begins { W.did worker [] worker }
     ensures seat { IsSeatAt (receives_on from) result.0 }
     ensures took { Took W.did W.finished (view result.0) worker result.1 }
 {
-    work_on(rt, &from, pass, worker)
+    work_on(rt, alloc, &from, pass, worker)
 }
 
 // Where the taker's pass is back: of each lane, what was taken and what waits is what was sent.
@@ -235,6 +241,7 @@ fn take_in_back(to: &Giver, pass: Ticket, theirs: Ticket)
 // Has the jobs of both lanes done by a worker on a thread of its own.
 fn run_across<R: Threads + Wait + Sync, W: LaneWorker + Send + Drop, M: Meanwhile + Drop>(
     rt: &R,
+    alloc: Global,
     a: u64,
     b: u64,
     worker: W,
@@ -274,7 +281,7 @@ fn run_across<R: Threads + Wait + Sync, W: LaneWorker + Send + Drop, M: Meanwhil
                         × (view theirs ≡ log None None (Some [])) × W.did worker [] worker }
                     ensures { IsSeatAt (receives_on from) result.0
                         × Took W.did W.finished (view result.0) worker result.1 }
-                { work_owned(rt, from, theirs, worker) },
+                { work_owned(rt, alloc, from, theirs, worker) },
             );
             match working {
                 Ok(child) => {
@@ -322,5 +329,5 @@ pub fn run_lanes<R: Threads + Wait + Sync, W: LaneWorker + Send + Drop, M: Meanw
         work_alone(&mut worker, a, b);
         return (worker, beside.run());
     };
-    run_across(rt, a, b, worker, beside, &to, from, pass)
+    run_across(rt, alloc, a, b, worker, beside, &to, from, pass)
 }
