@@ -5,6 +5,7 @@ use Rattle.std.proofs.Common.{append_assoc, append-nil, arith}
 use Rattle.{std.proofs.Math.Seq.take-append_seam, io_edges.specs.Flow.GrowsByPrefix}
 use Rattle.{string_tables.specs.StringTable.StringTable, session_ends.specs.Sent.first_table}
 use Rattle.nbfx_values.specs.declared.content.Item.{Item}
+use Rattle.client.specs.Sent.{kind_of}
 use Rattle.nmf_records.specs.{declared.frame.Frame.TheVariants.End, Writing.frame_bytes_of}
 use Rattle.nbfx_encoder.proofs.LawFacts.{parted, sends_one_more}
 use Rattle.nbfx_encoder.specs.Envelopes.{behind_bytes, envelope, envelope_then, envelopes_from}
@@ -26,32 +27,33 @@ module _ (x : Sending) where
   -- behind documents that fit, one that doesn't is the first
   unfit_from : (done : List (List Item)) (table behind : StringTable) (number : ℕ) (bytes : List ℕ)
       (d : List Item) (rest : List (List Item)) (why : Unfit)
-      → envelopes_from x.limits x.kind x.mode table number done ≡ Ok (bytes, behind)
-      → encoded x.limits x.kind behind d ≡ Err why
-      → envelopes_from x.limits x.kind x.mode table number (done ++ d ∷ rest)
+      → envelopes_from x.forward (kind_of x) x.mode table number done ≡ Ok (bytes, behind)
+      → encoded x.forward (kind_of x) behind d ≡ Err why
+      → envelopes_from x.forward (kind_of x) x.mode table number (done ++ d ∷ rest)
       ≡ Err (record { number = number + length done; why = why })
   unfit_from [] table behind number bytes d rest why is unfit =
       let pair : ([], table) ≡ (bytes, behind) = cc is in
       let same : table ≡ behind = ap (λ (p : Placed (List ℕ)). p.1) pair in
       let counted : number ≡ number + 0 = omega arith in
       ap (λ one. envelope_then x.mode number one
-      (λ t. envelopes_from x.limits x.kind x.mode t (number + 1) rest))
-      (ap (λ t. encoded x.limits x.kind t d) same ∙ unfit)
+      (λ t. envelopes_from x.forward (kind_of x) x.mode t (number + 1) rest))
+      (ap (λ t. encoded x.forward (kind_of x) t d) same ∙ unfit)
       ∙ ap (λ n. Err (record { number = n; why = why })) counted
   unfit_from (one ∷ done) table behind number bytes d rest why is unfit =
-      let p = parted x.mode number (encoded x.limits x.kind table one)
-      (λ t. envelopes_from x.limits x.kind x.mode t (number + 1) done) bytes behind is in
+      let p = parted x.mode number (encoded x.forward (kind_of x) table one)
+      (λ t. envelopes_from x.forward (kind_of x) x.mode t (number + 1) done) bytes behind is in
       let more = unfit_from done p.payload.1 behind (number + 1) p.others d rest why p.rest_is unfit
       in
       let counted : number + 1 + length done ≡ number + length (one ∷ done) = omega arith in
       ap (λ first. envelope_then x.mode number first
-      (λ t. envelopes_from x.limits x.kind x.mode t (number + 1) (done ++ d ∷ rest))) p.first_is
+      (λ t. envelopes_from x.forward (kind_of x) x.mode t (number + 1) (done ++ d ∷ rest)))
+      p.first_is
       ∙ ap (behind_bytes (envelope x.mode p.payload.0)) more
       ∙ ap (λ n. Err (record { number = n; why = why })) counted
 
   pub unfit_at : (done : List (List Item)) (table : StringTable) (bytes : List ℕ) (d : List Item)
       (rest : List (List Item)) (why : Unfit) → x.documents ≡ done ++ d ∷ rest
-      → envelopes x done ≡ Ok (bytes, table) → encoded x.limits x.kind table d ≡ Err why
+      → envelopes x done ≡ Ok (bytes, table) → encoded x.forward (kind_of x) table d ≡ Err why
       → envelopes x x.documents ≡ Err (record { number = length done; why = why })
   unfit_at done table bytes d rest why joined is unfit =
       let counted : 0 + length done ≡ length done = omega arith in
@@ -62,7 +64,7 @@ module _ (x : Sending) where
   -- then the envelopes before it are sent
   pub unfit_sent : (done : List (List Item)) (table : StringTable) (bytes : List ℕ) (d : List Item)
       (rest : List (List Item)) (why : Unfit) → x.documents ≡ done ++ d ∷ rest
-      → envelopes x done ≡ Ok (bytes, table) → encoded x.limits x.kind table d ≡ Err why
+      → envelopes x done ≡ Ok (bytes, table) → encoded x.forward (kind_of x) table d ≡ Err why
       → sent_behind x ≡ bytes
   unfit_sent done table bytes d rest why joined is unfit =
       ap (sent_of x) (unfit_at done table bytes d rest why joined is unfit)
@@ -85,7 +87,7 @@ module _ (x : Sending) where
     goes_on_with : ((table' : StringTable) (bytes' : List ℕ)
         → envelopes x (done ++ d ∷ []) ≡ Ok (bytes', table')
         → GoesOn bytes' (due_next x table' rest))
-        → (answer : Result (Placed (List ℕ)) Unfit) → encoded x.limits x.kind table d ≡ answer
+        → (answer : Result (Placed (List ℕ)) Unfit) → encoded x.forward (kind_of x) table d ≡ answer
         → GoesOn bytes (due_of x.mode answer)
     goes_on_with next (Err why) unfit = (
       [],
@@ -95,7 +97,7 @@ module _ (x : Sending) where
     goes_on_with next (Ok payload) fits =
         let one : envelopes x (done ++ d ∷ [])
         ≡ Ok (bytes ++ envelope x.mode payload.0, payload.1) =
-        sends_one_more x.limits x.kind x.mode (first_table x.statics) table 0 done d bytes is
+        sends_one_more x.forward (kind_of x) x.mode (first_table x.statics) table 0 done d bytes is
         ∙ ap (λ one. behind_bytes bytes (envelope_then x.mode (0 + length done) one
         (λ last. Ok ([], last)))) fits
         ∙ ap (λ b. Ok (bytes ++ b, payload.1)) (append-nil (envelope x.mode payload.0)) in
@@ -117,11 +119,11 @@ module _ (x : Sending) where
       goes_on_with d rest done table bytes joined is
       (λ table' bytes' one. goes_on rest (done ++ d ∷ []) table' bytes'
       (joined ∙ sym (append_assoc done (d ∷ []) rest)) one)
-      (encoded x.limits x.kind table d) refl
+      (encoded x.forward (kind_of x) table d) refl
 
   module _ (via : List ℕ) (first now : SinkView) where
     abbrev opening : List ℕ
-    opening = opening_bytes x.mode x.kind via
+    opening = opening_bytes x.mode x.encoding via
 
     abbrev Grew' : List ℕ → Type 0
     Grew' = Grew first now

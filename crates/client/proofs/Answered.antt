@@ -191,10 +191,10 @@ module _ (y : Settings) (i i' : Input) (P : List Event → Type 0) where
       → Follows' ending
   so_handled ending h = follows_as (stream y) _ _ i i' ending (handled_whole event_for P) h
 
-  pub judged_so : (judged : Option Offence) → WasJudged (stream y) i i' HandledSo judged
-      → Follows' (endings.Judged judged)
-  judged_so judged w = so_handled (endings.Judged judged)
-      (decided (stream y) event_for (λ paused since. P (paused ++ since)) i i' judged w)
+  pub judged_so : (left : List ℕ) (judged : Option Offence)
+      → WasJudged (stream y) i i' HandledSo left judged → Follows' (endings.Judged judged)
+  judged_so left judged w = so_handled (endings.Judged judged)
+      (decided (stream y) event_for (λ paused since. P (paused ++ since)) i i' left judged w)
 
   pub cut_so : (Waits : Type 0) → WasCut (stream y) i i' HandledSo Waits
       → Follows' endings.ReadFault
@@ -212,7 +212,7 @@ module _ (y : Settings) (i i' : Input) (P : List Event → Type 0) where
       → ending_by r ≡ Some ending
       → ReadsOn (stream y) i i' ends stands HandledSo Halts Waits left r → Follows' ending
   ended_so stands Halts Waits left (reads.Judged judged) ending is h =
-      let same : endings.Judged judged ≡ ending = cc in subst Follows' same (judged_so judged h)
+      let same : endings.Judged judged ≡ ending = cc in subst Follows' same (judged_so left judged h)
   ended_so stands Halts Waits left reads.ReadFault ending is h =
       let same : endings.ReadFault ≡ ending = cc in subst Follows' same (cut_so Waits h)
   ended_so stands Halts Waits left reads.Memory ending is h =

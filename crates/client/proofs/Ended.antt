@@ -40,7 +40,7 @@ reads_counted f f' ending outcome h =
 
 module _ (x : Sending) (via : List ℕ) where
   abbrev opening : List ℕ
-  opening = opening_bytes x.mode x.kind via
+  opening = opening_bytes x.mode x.encoding via
 
   abbrev Sends' : Ack → ClientOut → ℕ → SinkView → SinkView → Type 0
   Sends' = Sends x via

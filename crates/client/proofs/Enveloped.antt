@@ -5,6 +5,7 @@ use Rattle.std.proofs.Common.{if◌then◌else◌, append-nil, subst}
 use Rattle.io_edges.specs.Faults.{one_more}
 use Rattle.string_tables.specs.StringTable.{StringTable}
 use Rattle.nbfx_values.specs.{declared.content.Item.Item, QuotasOf.limits_of}
+use Rattle.client.specs.Sent.{kind_by}
 use Rattle.nbfx_encoder.specs.Envelopes.{behind_bytes, envelope, envelope_then, envelopes_from}
 use Rattle.nbfx_encoder.specs.{Placing.Placed, Spelling.encoded}
 use Rattle.unit_streams.{proofs.Telling.told_append, proofs.Telling.state_append}
@@ -71,11 +72,11 @@ module _ (s : CallSettings) where
   pub envelopes_more : (documents : List (List Item)) (table behind : StringTable)
       (parts : List Part) (d : List Item) (payload : Placed (List ℕ))
       → Are table documents parts behind
-      → encoded (limits_of s.quotas) s.kind behind d ≡ Ok payload
+      → encoded (limits_of s.quotas.forward) (kind_by s) behind d ≡ Ok payload
       → Are table (documents ++ d ∷ []) (parts ++ envelope_part s payload.0 ∷ []) payload.1
   envelopes_more [] table behind parts d payload are fits = (
     payload,
-    ap (λ t. encoded (limits_of s.quotas) s.kind t d) (sym are.1) ∙ fits,
+    ap (λ t. encoded (limits_of s.quotas.forward) (kind_by s) t d) (sym are.1) ∙ fits,
     [],
     ap (λ l. l ++ envelope_part s payload.0 ∷ []) are.0,
     (refl, refl),
@@ -118,7 +119,7 @@ module _ (s : CallSettings) where
   -- as bytes
   pub envelopes_spelled : (documents : List (List Item)) (table behind : StringTable)
       (parts : List Part) (number count : ℕ) → Are table documents parts behind
-      → envelopes_from (limits_of s.quotas) s.kind s.mode table number documents
+      → envelopes_from (limits_of s.quotas.forward) (kind_by s) s.mode table number documents
       ≡ Ok (told_along counting count parts, behind)
   unfolding told_along
   envelopes_spelled [] table behind parts number count are =
@@ -127,7 +128,8 @@ module _ (s : CallSettings) where
   envelopes_spelled (d ∷ documents) table behind parts number count are =
       let more = envelopes_spelled documents are.0.1 behind are.2 (number + 1)
       (with_part count (envelope_part s are.0.0)) are.4 in
-      ap (λ one. envelope_then s.mode number one (λ t. envelopes_from (limits_of s.quotas) s.kind
+      ap (λ one. envelope_then s.mode number one (λ t. envelopes_from
+      (limits_of s.quotas.forward) (kind_by s)
       s.mode t (number + 1) documents)) are.1
       ∙ ap (behind_bytes (envelope s.mode are.0.0)) more
       ∙ ap (λ l. Ok (told_along counting count l, behind)) (sym are.3)

@@ -16,7 +16,7 @@ use Rattle.session_report.specs.Saying.{event_for, said_by}
 use Rattle.command_words.specs.declared.task.Detail.TheVariants.{Whole}
 use Rattle.client.specs.Called.{Ack, Awaited, Read}
 use Rattle.client.specs.declared.answers.Stage.{Stage, TheVariants.Acked, TheVariants.Opened}
-use Rattle.client.specs.declared.outcome.{CallOutcome.CallOutcome, ClientOut.ClientOut}
+use Rattle.client.specs.declared.outcome.{CallOutcome.CallOutcome}
 use Rattle.client.specs.declared.outcome.ClientIn.{ClientIn, TheVariants.ReadFault}
 use Rattle.client.specs.{Answering.HasTold, Answering.IsAt, Lanes.stage_after}
 use Rattle.client.specs.Called.{ack_along, answers_to, Calls, closing_of, ending_of, HasCalled}
@@ -33,7 +33,7 @@ use Rattle.stream_loop.specs.declared.outbound.Outbound.TheVariants as outbounds
 
 module _ (x : Sending) (via : List ℕ) where
   abbrev opening : List ℕ
-  opening = opening_bytes x.mode x.kind via
+  opening = opening_bytes x.mode x.encoding via
 
   -- nothing was sent behind the opening
   pub sends_none : (opened : Outbound) (first mid now : SinkView) (ack : Ack)
@@ -48,17 +48,13 @@ module _ (x : Sending) (via : List ℕ) where
   sends_none outbounds.Memory first mid now Awaited wrote same awaited = rw same (refl, wrote)
   sends_none outbounds.Memory first mid now Read wrote same awaited = rw same (inl (refl, wrote))
 
-  -- documents were sent behind it
-  pub sends_behind : (opened : Outbound) (first mid mid' now : SinkView) (outbound : ClientOut)
-      (sent : ℕ) → WritesOut opened opening first mid → stage_after opened ≡ Opened → mid' ≡ mid
-      → ((start : SinkView) (before : List ℕ) → Puts start mid' before (Ok tt) → mid'.held ≡ []
-      → SendsAll x before start outbound sent now)
-      → Sends x via Read outbound sent first now
-  sends_behind outbounds.Done first mid mid' now outbound sent wrote at same sends =
-      sends_read x via first now outbound sent
-      (sends first opening (rw same wrote.0) (rw same wrote.1))
-  sends_behind outbounds.WriteFault first mid mid' now outbound sent wrote at same sends = cc
-  sends_behind outbounds.Memory first mid mid' now outbound sent wrote at same sends = cc
+-- where the Ack was awaited, the opening is written
+pub begun_at : (bytes : List ℕ) (opened : Outbound) (first mid now : SinkView)
+    → WritesOut opened bytes first mid → stage_after opened ≡ Opened → now ≡ mid
+    → Puts first now bytes (Ok tt) × (now.held ≡ [])
+begun_at bytes outbounds.Done first mid now wrote at same = rw same wrote
+begun_at bytes outbounds.WriteFault first mid now wrote at same = cc
+begun_at bytes outbounds.Memory first mid now wrote at same = cc
 
 -- ---- a call in all
 
@@ -115,10 +111,8 @@ module _ (x : Sending) (via : List ℕ) (sink sink' output output1 output' : Sin
 
 -- ---- and all that is known of it
 
-module _ (x : Sending) (via : List ℕ) (i i' : Input)
-    (sink mid sink' output output1 output' : SinkView) (called : CallOutcome) (opened : Outbound)
-    (ending : FollowEnding Offence) (reached : Outcome) (report : Outbound)
-    (wrote : WritesOut opened (opening_bytes x.mode x.kind via) sink mid)
+module _ (x : Sending) (via : List ℕ) (i i' : Input) (sink sink' output output1 output' : SinkView)
+    (called : CallOutcome) (ending : FollowEnding Offence) (reached : Outcome) (report : Outbound)
     (closed : (first : SinkView) (events : List Event)
     → Writes (said_by Whole) report first events reached (λ s. ⊤) output1
     → Wrote (said_by Whole) called.report (closing_of ending reached) first events (λ s. ⊤)
@@ -139,19 +133,20 @@ module _ (x : Sending) (via : List ℕ) (i i' : Input)
       closed inbound_is sends i i' follows counted)
 
   -- where nothing was sent behind the opening
-  pub knows_unsent : sink' ≡ mid → called.outbound ≡ out_of opened → called.sent ≡ 0
-      → FollowsAt (stage_after opened) → Known
-  knows_unsent same out none follows = knows_at (stage_after opened) follows (λ events at.
-      rw (out, none) (sends_none x via opened sink mid sink' (ack_along Awaited events) wrote same
+  pub knows_unsent : (opened : Outbound) (mid : SinkView)
+      → WritesOut opened (opening_bytes x.mode x.encoding via) sink mid → sink' ≡ mid
+      → called.outbound ≡ out_of opened → called.sent ≡ 0 → FollowsAt (stage_after opened) → Known
+  knows_unsent opened mid wrote same out none follows =
+      knows_at (stage_after opened) follows (λ events at. rw (out, none)
+      (sends_none x via opened sink mid sink' (ack_along Awaited events) wrote same
       (λ is. subst (λ (s : Stage). IsAt s events) is at)))
 
-  -- where documents were
-  pub knows_sent : stage_after opened ≡ Opened → FollowsAt Acked
-      → ((start : SinkView) (before : List ℕ) → Puts start mid before (Ok tt) → mid.held ≡ []
-      → SendsAll x before start called.outbound called.sent sink') → Known
-  knows_sent at follows sends = knows_at Acked follows (λ events read.
-      rw read (sends_behind x via opened sink mid mid sink' called.outbound called.sent wrote at
-      refl sends))
+  -- where documents were, behind the Ack
+  pub knows_sent : FollowsAt Acked
+      → SendsAll x (opening_bytes x.mode x.encoding via) sink called.outbound called.sent sink'
+      → Known
+  knows_sent follows sends = knows_at Acked follows (λ events read. rw read
+      (sends_read x via sink sink' called.outbound called.sent sends))
 
 -- ---- where there was no memory to read
 

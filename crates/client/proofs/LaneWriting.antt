@@ -7,6 +7,7 @@ use Rattle.string_tables.specs.StringTable.{StringTable}
 use Rattle.nbfx_values.specs.{declared.content.Item.Item, QuotasOf.limits_of}
 use Rattle.nbfx_values.specs.declared.session.Mode.{Mode, TheVariants.Singleton}
 use Rattle.nbfx_values.specs.declared.session.Mode.TheVariants.{Duplex, Simplex}
+use Rattle.client.specs.Sent.{kind_by}
 use Rattle.nbfx_encoder.specs.declared.{faults.EncodeFault.EncodeFault, sender.SendState.SendState}
 use Rattle.nbfx_encoder.specs.declared.sender.Sender.{Sender}
 use Rattle.nbfx_encoder.specs.declared.sender.SendState.TheVariants.{Closed, Ready, Spent}
@@ -262,8 +263,9 @@ module _ (first : SinkView) where
           let none = so_far.whole going fits in
           let made : Tagged = so_far.made ++ (lane, d) ∷ [] in
           let elements = elements-append so_far.made ((lane, d) ∷ []) in
-          let fits_so : encoded (limits_of s.quotas) s.kind so_far.table d ≡ Ok sends.payload =
-          ap (λ l. encoded l s.kind so_far.table d) (sym set.limits)
+          let fits_so : encoded (limits_of s.quotas.forward) (kind_by s) so_far.table d
+          ≡ Ok sends.payload =
+          ap (λ l. encoded l (kind_by s) so_far.table d) (sym set.limits)
           ∙ ap (λ k. encoded (limits_in old.sender) k so_far.table d) (sym set.kind)
           ∙ ap (λ t. encoded (limits_in old.sender) (kind_in old.sender) t d)
           (sym (so_far.names going fits)) ∙ sends.answer_is in
@@ -338,7 +340,7 @@ module _ (first : SinkView) where
     refused_next set so_far refuses =
         let why = refused_so answer fault refuses other in (
           why.0,
-          ap (λ l. encoded l old.settings.kind so_far.table d) (sym set.limits)
+          ap (λ l. encoded l (kind_by old.settings) so_far.table d) (sym set.limits)
               ∙ ap (λ k. encoded (limits_in old.sender) k so_far.table d) (sym set.kind)
               ∙ ap (λ t. encoded (limits_in old.sender) (kind_in old.sender) t d)
               (sym (so_far.names going fits)) ∙ why.1,

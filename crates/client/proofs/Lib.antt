@@ -25,4 +25,5 @@ pub mod LaneDone
 -- documents a merge has
 pub mod Answered
 pub mod LaneCalled
+pub mod Begun
 pub mod Merged

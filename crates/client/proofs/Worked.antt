@@ -9,9 +9,11 @@ use Rattle.nbfx_values.specs.declared.{content.Item.Item, refusals.Offence.Offen
 use Rattle.nbfx_values.specs.declared.content.Item.TheVariants.{Attr, Close, Start, Text, Xmlns}
 use Rattle.nbfx_values.specs.declared.scalars.Scalar.TheVariants.{Number, Text as TextOf, UniqueId}
 use Rattle.nbfx_values.specs.declared.{scalars.Value.TheVariants.One, session.Mode.Mode}
-use Rattle.nbfx_values.specs.declared.session.Kind.{Kind, TheVariants.Plain, TheVariants.Session}
+use Rattle.nbfx_values.specs.declared.session.Encoding.{Encoding}
+use Rattle.nbfx_values.specs.declared.session.Encoding.TheVariants.{Known}
+use Rattle.nbfx_values.specs.declared.session.Kind.{TheVariants.Plain, TheVariants.Session}
 use Rattle.nbfx_values.specs.declared.session.Mode.TheVariants.{Duplex, Simplex, Singleton}
-use Rattle.nbfx_values.specs.Limits.{limits, usual_limits}
+use Rattle.nbfx_values.specs.Limits.{Limits, limits, usual_limits}
 use Rattle.stream_reader.proofs.OnLiterals.{preamble, streams_on_literals}
 use Rattle.session_report.specs.Report.{offence_line}
 use Rattle.line_notation.specs.{Lines.items_text, Quoted.quoted}
@@ -73,7 +75,7 @@ abbrev later_envelope : List ℕ
 later_envelope = 0x06 ∷ 0x3A ∷ 0x00 ∷ nodes
 
 abbrev in_duplex : List (List Item) → Sending
-in_duplex documents = sending usual_limits published Duplex Session documents
+in_duplex documents = sending usual_limits usual_limits published Duplex (Known Session) documents
 
 -- documents, and what is sent of them
 abbrev Row : Type 0
@@ -105,38 +107,59 @@ opening mode encoding =
     0 ∷ 1 ∷ 0 ∷ 1 ∷ mode ∷ 2 ∷ 13 ∷ (via ++ 3 ∷ encoding ∷ 12 ∷ [])
 
 abbrev ModeRow : Type 0
-ModeRow = Mode × Kind × List ℕ
+ModeRow = Mode × Encoding × List ℕ
 
 abbrev AreSentIn : List ModeRow → Type 0
 AreSentIn rows =
-    map (λ (r : ModeRow). sent_by (sending usual_limits [] r.0 r.1 (element ∷ [])) via) rows
+    map (λ (r : ModeRow). sent_by (sending usual_limits usual_limits [] r.0 r.1 (element ∷ [])) via) rows
     ≡ map (λ (r : ModeRow). r.2) rows
 
 modes : AreSentIn (
-    (Duplex, Plain, opening 2 7 ++ 0x06 ∷ 0x04 ∷ 0x40 ∷ 0x01 ∷ 0x78 ∷ 0x01 ∷ 0x07 ∷ []) ∷
-    (Simplex, Plain, opening 3 7 ++ 0x06 ∷ 0x04 ∷ 0x40 ∷ 0x01 ∷ 0x78 ∷ 0x01 ∷ 0x07 ∷ []) ∷ (
+    (Duplex, Known Plain, opening 2 7 ++ 0x06 ∷ 0x04 ∷ 0x40 ∷ 0x01 ∷ 0x78 ∷ 0x01 ∷ 0x07 ∷ []) ∷
+    (Simplex, Known Plain, opening 3 7 ++ 0x06 ∷ 0x04 ∷ 0x40 ∷ 0x01 ∷ 0x78 ∷ 0x01 ∷ 0x07 ∷ []) ∷ (
       Singleton,
-      Plain,
+      Known Plain,
       opening 1 7 ++ 0x05 ∷ 0x04 ∷ 0x40 ∷ 0x01 ∷ 0x78 ∷ 0x01 ∷ 0x00 ∷ 0x07 ∷ [],
     ) ∷ (
       Duplex,
-      Session,
+      Known Session,
       opening 2 8 ++ 0x06 ∷ 0x06 ∷ 0x02 ∷ 0x01 ∷ 0x78 ∷ 0x42 ∷ 0x01 ∷ 0x01 ∷ 0x07 ∷ [],
     ) ∷
     [])
 unfolding calls_on_literals
 modes = refl
 
--- a document that is too deep ends what is sent, and End isn't
+-- a document that is too deep for some quotas
 abbrev nested : List Item
 nested = Start [] (codes "x") ∷ Start [] (codes "y") ∷ Start [] (codes "x") ∷ Close ∷ Close
     ∷ Close ∷ []
 
-unfit : sent_by (sending (limits 4096 2 64 4096 2048 4096) [] Duplex Session
-    (element ∷ nested ∷ element ∷ [])) via
+abbrev nested_envelope : List ℕ
+nested_envelope = 0x06 ∷ 0x0E ∷ 0x04 ∷ 0x01 ∷ 0x78 ∷ 0x01 ∷ 0x79 ∷ 0x42 ∷ 0x01 ∷ 0x42 ∷ 0x03
+    ∷ 0x42 ∷ 0x01 ∷ 0x01 ∷ 0x01 ∷ 0x01 ∷ []
+
+abbrev shallow : Limits
+shallow = limits 4096 2 64 4096 2048 4096
+
+abbrev within : (forward back : Limits) → List (List Item) → Sending
+within forward back documents = sending forward back [] Duplex (Known Session) documents
+
+-- it ends what is sent within these, and End isn't; of the peer's quotas nothing that is sent depends
+unfit : sent_by (within shallow usual_limits (element ∷ nested ∷ element ∷ [])) via
     ≡ preamble ++ 0x06 ∷ 0x06 ∷ 0x02 ∷ 0x01 ∷ 0x78 ∷ 0x42 ∷ 0x01 ∷ 0x01 ∷ []
 unfolding calls_on_literals
 unfit = refl
+
+sent_deep : sent_by (within usual_limits shallow (nested ∷ [])) via
+    ≡ preamble ++ (nested_envelope ++ 0x07 ∷ [])
+unfolding calls_on_literals
+sent_deep = refl
+
+-- nor does an answer have to fit the quotas of what is sent
+read_deep : offence (stream (answers_to (within shallow usual_limits [])))
+    (0x0B ∷ (nested_envelope ++ 0x07 ∷ [])) ≡ None
+unfolding calls_on_literals
+read_deep = refl
 
 -- a peer's bytes, whether they have an Ack, what is reported of them, and why they are refused
 abbrev Answer : Type 0
@@ -147,7 +170,7 @@ Told = Ack × List ℕ × Option Offence
 
 abbrev told : Mode → Answer → Told
 told mode a =
-    let x : Sending = sending usual_limits [] mode Session [] in
+    let x : Sending = sending usual_limits usual_limits [] mode (Known Session) [] in
     (ack_along Awaited (handled_of x a.0), dumped x a.0, offence (stream (answers_to x)) a.0)
 
 abbrev wanted : Answer → Told

@@ -5,6 +5,7 @@ use Rattle.io_edges.specs.{Faults.CountsFaults, Flow.GrowsByPrefix}
 use Rattle.unit_streams.specs.{Judging.events, Judging.offence, Tellers.state_behind}
 use Rattle.{string_tables.specs.StringTable.StringTable, client.specs.Sent.sent_by}
 use Rattle.nbfx_values.specs.declared.{content.Item.Item, refusals.Offence.Offence}
+use Rattle.client.specs.Sent.{kind_of}
 use Rattle.nbfx_encoder.specs.{Envelopes.UnfitAt, Placing.Placed, Refusals.told}
 use Rattle.stream_reader.specs.Stream.{receivers, Settings, stream, StreamEvent}
 use Rattle.stream_loop.specs.declared.{following.FollowEnding.FollowEnding}
@@ -33,9 +34,9 @@ use Rattle.client.specs.declared.outcome.ClientOut.TheVariants as out
 -- the stream of a receiver that answers in this mode and encoding
 abbrev pub answers_to : Sending → Settings
 answers_to x = record {
-  side = receivers x.mode x.kind;
+  side = receivers x.mode (kind_of x);
   statics = x.statics;
-  limits = x.limits;
+  limits = x.back;
 }
 
 -- its report, with documents
@@ -126,16 +127,16 @@ pub record WritesFirst (x : Sending) (via : List ℕ) (first : SinkView) (w w' :
   pub table : StringTable
   pub spelled : envelopes x done ≡ Ok (bytes, table)
   pub within : GrowsByPrefix w w'
-      (first.held ++ (opening_bytes x.mode x.kind via ++ (bytes ++ due_next x table rest)))
+      (first.held ++ (opening_bytes x.mode x.encoding via ++ (bytes ++ due_next x table rest)))
   pub grown : HoldsNothing first
-      → GrowsByPrefix (w ++ first.held ++ (opening_bytes x.mode x.kind via ++ bytes)) w'
+      → GrowsByPrefix (w ++ first.held ++ (opening_bytes x.mode x.encoding via ++ bytes)) w'
       (due_next x table rest)
 
 -- first bytes of the opening are written, and no envelope was sent
 abbrev pub WritesNone : Sending → (via : List ℕ) → (first : SinkView) → (w w' : List ℕ) → (sent : ℕ)
     → Type 0
 WritesNone x via first w w' sent =
-    (sent ≡ 0) × GrowsByPrefix w w' (first.held ++ opening_bytes x.mode x.kind via)
+    (sent ≡ 0) × GrowsByPrefix w w' (first.held ++ opening_bytes x.mode x.encoding via)
 
 -- What is written to the peer, behind what was held, by whether its Ack was read: the opening, and
 -- behind the Ack all that is sent of the documents; or first bytes of that, with the envelopes that
@@ -143,7 +144,7 @@ WritesNone x via first w w' sent =
 abbrev pub WritesCall : Sending → (via : List ℕ) → (first : SinkView) → (w w' : List ℕ) → Ack
     → ClientOut → (sent : ℕ) → Type 0
 WritesCall x via first w w' Awaited out.Done sent =
-    (sent ≡ 0) × (w' ≡ w ++ first.held ++ opening_bytes x.mode x.kind via)
+    (sent ≡ 0) × (w' ≡ w ++ first.held ++ opening_bytes x.mode x.encoding via)
 WritesCall x via first w w' Awaited (out.Unfit number fault) sent = ⊥
 WritesCall x via first w w' Awaited outbound sent = WritesNone x via first w w' sent
 WritesCall x via first w w' Read out.Done sent = (sent ≡ length x.documents)
@@ -163,24 +164,25 @@ module _ (x : Sending) (via : List ℕ) where
   -- the writing ended so at the opening
   abbrev pub BreaksOpening : Outbound → (sent : ℕ) → SinkView → SinkView → Type 0
   BreaksOpening outbound sent first now = (sent ≡ 0)
-      × IsCut outbound (opening_bytes x.mode x.kind via) first now
+      × IsCut outbound (opening_bytes x.mode x.encoding via) first now
 
   -- what was put to a sink that was like the first, by whether the Ack was read, how the writing
   -- ended, and how many envelopes were put
   abbrev pub Sends : Ack → ClientOut → (sent : ℕ) → SinkView → SinkView → Type 0
   Sends Awaited out.Done sent first now = (sent ≡ 0)
-      × Puts first now (opening_bytes x.mode x.kind via) (Ok tt) × (now.held ≡ [])
+      × Puts first now (opening_bytes x.mode x.encoding via) (Ok tt) × (now.held ≡ [])
   Sends Awaited (out.Unfit number fault) sent first now = ⊥
   Sends Awaited out.WriteFault sent first now =
       BreaksOpening outbounds.WriteFault sent first now
   Sends Awaited out.Memory sent first now = BreaksOpening outbounds.Memory sent first now
-  Sends Read out.Done sent first now = HasSentAll x (opening_bytes x.mode x.kind via) first sent now
+  Sends Read out.Done sent first now = HasSentAll x
+      (opening_bytes x.mode x.encoding via) first sent now
   Sends Read (out.Unfit number fault) sent first now = HasSentFitting x
-      (opening_bytes x.mode x.kind via) first number fault sent now
+      (opening_bytes x.mode x.encoding via) first number fault sent now
   Sends Read out.WriteFault sent first now = BreaksOpening outbounds.WriteFault sent first now
-      ⊎ HasBroken x (opening_bytes x.mode x.kind via) first outbounds.WriteFault sent now
+      ⊎ HasBroken x (opening_bytes x.mode x.encoding via) first outbounds.WriteFault sent now
   Sends Read out.Memory sent first now = BreaksOpening outbounds.Memory sent first now
-      ⊎ HasBroken x (opening_bytes x.mode x.kind via) first outbounds.Memory sent now
+      ⊎ HasBroken x (opening_bytes x.mode x.encoding via) first outbounds.Memory sent now
 
   -- These events of the peer's stream were handled. Their lines were reported, and the last line,
   -- or the writing of the report ended at a part of it; the documents were sent where an Ack is

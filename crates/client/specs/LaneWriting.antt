@@ -1,8 +1,9 @@
 -- What a writer of documents has made of them, and put to a sink.
-use Rattle.std.specs.Prelude.{◌≡◌, ℕ, true, false, List, [], ◌∷◌, ◌++◌, length, map, take, Some, None}
+use Rattle.std.specs.Prelude.{◌≡◌, ℕ, Bool, true, false, List, [], ◌∷◌, ◌++◌, length, map, take, Some, None}
 use Rattle.std.specs.Prelude.{Ok, Err, Option, ⊤, IfSome}
 use Rattle.string_tables.specs.StringTable.{StringTable}
 use Rattle.nbfx_values.specs.{declared.content.Item.Item, QuotasOf.limits_of}
+use Rattle.client.specs.Sent.{kind_by}
 use Rattle.nbfx_encoder.specs.declared.{faults.EncodeFault.EncodeFault}
 use Rattle.nbfx_encoder.specs.{Envelopes.envelope, Placing.Placed, Refusals.told}
 use Rattle.nbfx_encoder.specs.Spelling.{encoded, Unfit}
@@ -10,7 +11,8 @@ use Rattle.nbfx_encoder.specs.Sending.{names_in, state_in}
 use Rattle.session_ends.specs.Sent.{first_table}
 use Rattle.stream_loop.specs.declared.{outbound.Outbound.Outbound}
 use Rattle.stream_loop.specs.declared.outbound.Outbound.TheVariants.{Done, Memory, WriteFault}
-use Rattle.stream_loop.specs.{Parts.Part, Parts.part, PartsGiven.IsFresh, PartsGiven.WasGiven}
+use Rattle.stream_loop.specs.{Parts.Part, Parts.part}
+use Rattle.stream_loop.specs.PartsGiven.{IsFresh, MayWait, WasGiven}
 use Rattle.io_edges.specs.{Puts.Puts, Views.SinkView}
 use Rattle.two_lanes.specs.declared.jobs.{Lane.TheVariants.A, LaneJob.LaneJob}
 use Rattle.two_lanes.specs.Merges.{elements_of, Step, steps, tags_of}
@@ -31,8 +33,9 @@ abbrev pub AreEnvelopes : CallSettings → StringTable → List (List Item) → 
     → Type 0
 AreEnvelopes s table [] parts behind = (parts ≡ []) × (behind ≡ table)
 AreEnvelopes s table (document ∷ documents) parts behind = (payload : Placed (List ℕ))
-    × (encoded (limits_of s.quotas) s.kind table document ≡ Ok payload) × (more : List Part)
-    × (parts ≡ envelope_part s payload.0 ∷ more) × AreEnvelopes s payload.1 documents more behind
+    × (encoded (limits_of s.quotas.forward) (kind_by s) table document ≡ Ok payload)
+    × (more : List Part) × (parts ≡ envelope_part s payload.0 ∷ more)
+    × AreEnvelopes s payload.1 documents more behind
 
 -- parts without bytes, which don't count
 abbrev pub AreEmpty : List Part → Type 0
@@ -43,7 +46,7 @@ AreEmpty (one ∷ parts) = (one.bytes ≡ []) × (one.counts ≡ false) × AreEm
 abbrev pub IsUnfitNext : CallSettings → StringTable → List (List Item) → EncodeFault → Type 0
 IsUnfitNext s table [] fault = ⊥
 IsUnfitNext s table (document ∷ documents) fault =
-    (why : Unfit) × (encoded (limits_of s.quotas) s.kind table document ≡ Err why)
+    (why : Unfit) × (encoded (limits_of s.quotas.forward) (kind_by s) table document ≡ Err why)
     × (fault ≡ told why)
 
 -- how the writing ended, by a writer
@@ -122,6 +125,12 @@ of_list documents = map (λ (d : List Item). (A, d)) documents
 -- the documents of two lists that jobs name
 abbrev pub named_by : {K : Type 0} → OwnedWriter K → List LaneJob → Tagged
 named_by w jobs = steps w.a.now w.b.now jobs
+
+-- What was asked for is written, but for a document that doesn't fit and what comes behind it; where
+-- the writing has failed, the sink's direction is ended.
+abbrev pub NothingWaits : {K : Type 0} → (K → SinkView) → (K → Bool) → OwnedWriter K → Type 0
+NothingWaits view ended w = MayWait w.writer.parts.outbound w.writer.parts.gathered.items
+    (view w.sink) (ended w.sink)
 
 module _ {K : Type 0} (view : K → SinkView) where
   -- what a writer that was like the first has done for jobs

@@ -13,10 +13,12 @@ pub mod Places
 pub mod Statuses
 -- Private calls cite these: how the opening is written (Writing), how a sending half is set (Making)
 -- and what a writer of documents has put (LaneWriting), what was put of an event (Calling), what was
--- read and reported of the peer's answers (Answering), and how the report of a call ends (Sending).
+-- read and reported of the peer's answers (Answering), what a call did up to the Ack (Beginning), and
+-- how the report of a call ends (Sending).
 pub mod Writing
 pub mod Making
 pub mod LaneWriting
 pub mod Calling
 pub mod Answering
+pub mod Beginning
 pub mod Sending

@@ -2,10 +2,12 @@
 -- became of a sink that it was put to, however the writing ended.
 use Rattle.std.specs.Prelude.{◌≡◌, ℕ, List, [], ◌∷◌, ◌++◌, length, take, Ok, Err}
 use Rattle.std.specs.Prelude.{Result}
-use Rattle.nbfx_values.specs.{Limits.Limits, QuotasOf.limits_of}
+use Rattle.nbfx_values.specs.{declared.limits.Two.Two, Limits.Limits, QuotasOf.limits_of}
 use Rattle.io_edges.specs.{Faults.CountsFaults, Flow.GrowsByPrefix, Flow.Told}
 use Rattle.string_tables.specs.{StaticStrings.Entry, StringTable.StringTable}
-use Rattle.nbfx_values.specs.declared.{content.Item.Item, session.Kind.Kind, session.Mode.Mode}
+use Rattle.nbfx_values.specs.declared.{content.Item.Item, session.Mode.Mode}
+use Rattle.nbfx_values.specs.declared.session.{Encoding.Encoding, Kind.Kind}
+use Rattle.nbfx_values.specs.Session.{encoding_kind}
 use Rattle.nmf_records.specs.{declared.frame.Frame.TheVariants.End, Writing.frame_bytes_of}
 use Rattle.nbfx_encoder.specs.{declared.faults.EncodeFault.EncodeFault, Refusals.told}
 use Rattle.nbfx_encoder.specs.Envelopes.{envelope, envelopes_from, UnfitAt}
@@ -19,23 +21,34 @@ use Rattle.io_edges.specs.Puts.{Puts}
 use Rattle.client.specs.declared.outcome.ClientOut.TheVariants.{Unfit as UnfitDocument, WriteFault}
 use Rattle.stream_loop.specs.declared.outbound.Outbound.TheVariants as outbounds
 
--- documents, and how they are sent: within which quotas, with which static strings, in which mode
--- and encoding
+-- documents, and how they are sent: within which quotas they are written and answers are read, with
+-- which static strings, in which mode and encoding
 pub record Sending : Type 0 where
-  pub limits : Limits
+  pub forward : Limits
+  pub back : Limits
   pub statics : List Entry
   pub mode : Mode
-  pub kind : Kind
+  pub encoding : Encoding
   pub documents : List (List Item)
 
-abbrev pub sending : Limits → List Entry → Mode → Kind → List (List Item) → Sending
-sending limits statics mode kind documents = record {
-  limits = limits;
+abbrev pub sending : (forward back : Limits) → List Entry → Mode → Encoding → List (List Item)
+    → Sending
+sending forward back statics mode encoding documents = record {
+  forward = forward;
+  back = back;
   statics = statics;
   mode = mode;
-  kind = kind;
+  encoding = encoding;
   documents = documents;
 }
+
+-- the encoding of the envelopes
+abbrev pub kind_of : Sending → Kind
+kind_of x = encoding_kind x.encoding
+
+-- and by settings
+abbrev pub kind_by : CallSettings → Kind
+kind_by s = encoding_kind s.encoding
 
 -- the bytes of envelopes, where all documents fit
 abbrev pub bytes_of : Result (Placed (List ℕ)) UnfitAt → List ℕ
@@ -47,15 +60,20 @@ abbrev pub due_of : Mode → Result (Placed (List ℕ)) Unfit → List ℕ
 due_of mode (Ok payload) = envelope mode payload.0
 due_of mode (Err why) = []
 
+-- documents that are sent within the quotas of both directions
+abbrev pub sending_within : Two → List Entry → Mode → Encoding → List (List Item) → Sending
+sending_within quotas statics mode encoding documents =
+    sending (limits_of quotas.forward) (limits_of quotas.back) statics mode encoding documents
+
 -- documents that are sent by these settings
 abbrev pub sending_by : CallSettings → List (List Item) → Sending
-sending_by s documents = sending (limits_of s.quotas) s.statics.now s.mode s.kind documents
+sending_by s documents = sending_within s.quotas s.statics.now s.mode s.encoding documents
 
 module _ (x : Sending) where
   -- the envelopes of documents, one behind the other; or the first that doesn't fit, and why
   abbrev pub envelopes : List (List Item) → Result (Placed (List ℕ)) UnfitAt
   envelopes documents =
-      envelopes_from x.limits x.kind x.mode (first_table x.statics) 0 documents
+      envelopes_from x.forward (kind_of x) x.mode (first_table x.statics) 0 documents
 
   -- where all documents fit, their envelopes and End; else the envelopes before the first unfit one
   abbrev pub sent_of : Result (Placed (List ℕ)) UnfitAt → List ℕ
@@ -68,12 +86,12 @@ module _ (x : Sending) where
 
   -- what is sent in all, to this Via
   abbrev pub sent_by : (via : List ℕ) → List ℕ
-  sent_by via = opening_bytes x.mode x.kind via ++ sent_behind
+  sent_by via = opening_bytes x.mode x.encoding via ++ sent_behind
 
   -- what is due next under a table: an envelope where the document fits, and at last End
   abbrev pub due_next : StringTable → List (List Item) → List ℕ
   due_next table [] = frame_bytes_of End []
-  due_next table (document ∷ rest) = due_of x.mode (encoded x.limits x.kind table document)
+  due_next table (document ∷ rest) = due_of x.mode (encoded x.forward (kind_of x) table document)
 
   -- Of what was put to a sink that was like the first: these bytes, and then envelopes.
   module _ (before : List ℕ) (first : SinkView) where
@@ -105,7 +123,7 @@ module _ (x : Sending) where
         pub number_is : number ≡ length done
         pub table : StringTable
         pub why : Unfit
-        pub unfit : encoded x.limits x.kind table document ≡ Err why
+        pub unfit : encoded x.forward (kind_of x) table document ≡ Err why
         pub fault_is : fault ≡ told why
         pub puts : HasSent done table now
         pub emptied : now.held ≡ []

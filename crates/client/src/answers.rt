@@ -154,12 +154,12 @@ impl<O: Sink> EventHandler<Event, O> for AnswerHandler {
 
     ghost is_unput = { λ old new. ⊤ };
 
-    fn handle(&mut self, event: Event, output: &mut O) -> Result<Event, AckRead> {
+    fn handle(&mut self, event: Event, output: &mut O) -> Result<Option<Event>, AckRead> {
         self.report(&event, output);
         if self.stops_at(&event) {
             return Err(AckRead);
         }
-        Ok(event)
+        Ok(Some(event))
     }
 
     fn pause(&mut self, output: &mut O) -> Result<(), AckRead> {
@@ -201,10 +201,13 @@ impl<'s> AnswerReader<'s> {
             statics,
             quotas,
             mode,
-            kind,
+            encoding,
         } = settings;
-        let side = Side::Receiver { mode, kind };
-        let end = StreamEnd::new(alloc, statics, quotas, side)?;
+        let side = Side::Receiver {
+            mode,
+            kind: encoding.kind(),
+        };
+        let end = StreamEnd::new(alloc, statics, quotas.back, side)?;
         let buffer = InputBuffer::new(alloc)?;
         Ok(AnswerReader {
             buffer,

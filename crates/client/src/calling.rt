@@ -1,9 +1,8 @@
 //! A call of one list of documents, and what it shares with one of two.
 
-ghost use Rattle.std.specs.Prelude.{◌≡◌, ◌≤◌, ◌⊎◌, ℕ, List, [], Some, Ok, true, length, ⊤};
+ghost use Rattle.std.specs.Prelude.{◌≡◌, ◌≤◌, ℕ, List, [], Some, Ok, true, length, IfErr, IfOk, ⊤};
 ghost use Rattle.io_edges.specs.Puts.{Puts};
 ghost use Rattle.io_edges.specs.Views.{SinkView};
-ghost use Rattle.nbfx_values.specs.QuotasOf.{limits_of};
 ghost use Rattle.session_ends.specs.Sent.{MayBeSent};
 ghost use Rattle.io_edges.specs.Faults.{CountsFaults};
 ghost use Rattle.stream_loop.specs.Edges.{Input, input_at};
@@ -15,7 +14,8 @@ ghost use Rattle.session_report.specs.Saying.{said_by};
 ghost use Rattle.client.specs.Called.{Ack, Calls, IsAckOf, Judges, ReportsOf, WritesCall, closing_of, dumped, inbound_by};
 ghost use Rattle.client.specs.Answering.{HasComeSo, IsFollowed};
 ghost use Rattle.client.specs.Lanes.{stage_after};
-ghost use Rattle.client.specs.Sent.{SendsAll, sending, sending_by};
+ghost use Rattle.client.specs.Beginning.{HasBegun, IsUnsent};
+ghost use Rattle.client.specs.Sent.{SendsAll, sending_by, sending_within};
 ghost use Rattle.client.specs.Writing.{out_of};
 
 use crate::answers::{AnswerHandler, AnswerReader, Stage};
@@ -24,7 +24,7 @@ use crate::outcome::{CallOutcome, ClientIn, ClientOut, client_out};
 use crate::sending::send_opening;
 use crate::settings::CallSettings;
 use io_edges::{Sink, Source};
-use nbfx_values::{Docs, Kind, Mode, Offence, Quotas};
+use nbfx_values::{Docs, Encoding, Mode, Offence, Two};
 use session_report::Outcome;
 use static_dictionary::StaticTable;
 use std::alloc::Global;
@@ -45,8 +45,8 @@ fn inbound_by(ending: FollowEnding<Offence>, reached: Outcome) -> ClientIn
     }
 }
 
-/// The stage of a call whose opening was written so. Where it wasn't, the direction is ended.
-pub(crate) fn stage_after<K: Sink>(opened: Outbound, sink: &mut K) -> Stage
+// The stage of a call whose opening was written so. Where it wasn't, the direction is ended.
+fn stage_after<K: Sink>(opened: Outbound, sink: &mut K) -> Stage
     ensures stage { result ≡ stage_after opened }
     ensures ended { (opened ≡ Outbound.Done → ⊥) → K.ended sink.new ≡ true }
     ensures unput { K.view sink.new ≡ K.view sink.old }
@@ -82,6 +82,43 @@ pub(crate) fn close_call<O: Sink>(
         inbound: inbound_by(ending, handler.reached),
         outbound,
         report: handler.report,
+    }
+}
+
+/// Writes the opening of a session, and reads the peer's stream up to its Preamble Ack. Without an
+/// Ack the call is over. It is too where the opening can't be written, when the stream was read to
+/// its end.
+pub(crate) fn begin_call<'s, S: Source, K: Sink, O: Sink>(
+    alloc: Global,
+    settings: CallSettings<'s>,
+    via: &str,
+    source: &mut S,
+    sink: &mut K,
+    output: &mut O,
+) -> Result<AnswerReader<'s>, CallOutcome>
+    requires via { length via.now ≤ 2048 }
+    ensures begun { IfOk result (HasBegun settings.entry via.now
+        (input_at S.left S.taken S.faults S.empty_takes source.old)
+        (input_at S.left S.taken S.faults S.empty_takes source.new)
+        (K.view sink.old) (K.view sink.new) (O.view output.old) (O.view output.new)) }
+    ensures over { IfErr result (IsUnsent settings.entry via.now
+        (input_at S.left S.taken S.faults S.empty_takes source.old)
+        (input_at S.left S.taken S.faults S.empty_takes source.new)
+        (K.view sink.old) (K.view sink.new) (O.view output.old) (O.view output.new)) }
+    ensures ended { IfErr result (λ called. (called.outbound ≡ ClientOut.Done → ⊥)
+        → K.ended sink.new ≡ true) }
+{
+    let opened = send_opening(alloc, settings.mode, settings.encoding, via, sink);
+    let stage = stage_after(opened, sink);
+    let outbound = client_out(opened);
+    let Ok(reader) = AnswerReader::new(alloc, settings, stage) else {
+        let handler = AnswerHandler::new(stage);
+        return Err(close_call(handler, FollowEnding::Memory, 0, outbound, output));
+    };
+    let (reader, over) = reader.read(source, output);
+    match over {
+        Some(ending) => Err(close_call(reader.handler, ending, 0, outbound, output)),
+        None => Ok(reader),
     }
 }
 
@@ -136,7 +173,8 @@ fn read_behind<'s, S: Source, K: Sink, O: Sink>(
 /// Calls the peer whose bytes the source gives and the sink takes (MC-NMF): writes the opening of a
 /// session to this Via, reads to the peer's Preamble Ack, writes an envelope for each document and
 /// an End record, and reads to the end. The report of what is read goes to the output, with its
-/// documents; the lines of what came are written before more is read. Nothing is read while the
+/// documents; the lines of what came are written before more is read. Documents are written within
+/// the quotas forward, and the peer's stream is read within those back. Nothing is read while the
 /// envelopes are written: where the peer answers meanwhile, its answers have to fit the buffers
 /// between both ends. [`call_lanes`](crate::call_lanes) reads on.
 ///
@@ -150,33 +188,33 @@ pub fn call_one<S: Source, K: Sink, O: Sink>(
     sink: &mut K,
     output: &mut O,
     statics: &StaticTable,
-    quotas: &Quotas,
+    quotas: &Two,
     mode: Mode,
-    kind: Kind,
+    encoding: Encoding,
     via: &str,
     docs: &Docs,
 ) -> CallOutcome
     requires via { length via.now ≤ 2048 }
     requires admitted { MayBeSent mode docs.now }
     ensures judged { (bytes : List ℕ) → S.left source.old ≡ Some bytes
-        → Judges (sending (limits_of quotas.now) statics.now mode kind docs.now) bytes
+        → Judges (sending_within quotas.now statics.now mode encoding docs.now) bytes
         result.inbound }
     ensures reported { (bytes w : List ℕ) → S.left source.old ≡ Some bytes
         → (O.view output.old).written ≡ Some w → (w' : List ℕ)
         × ((O.view output.new).written ≡ Some w')
-        × ReportsOf (dumped (sending (limits_of quotas.now) statics.now mode kind docs.now) bytes)
+        × ReportsOf (dumped (sending_within quotas.now statics.now mode encoding docs.now) bytes)
         (O.view output.old).held w w' result.inbound result.report }
     ensures written { (bytes w : List ℕ) → S.left source.old ≡ Some bytes
         → (K.view sink.old).written ≡ Some w → (w' : List ℕ) × ((K.view sink.new).written ≡ Some w')
         × (ack : Ack)
-        × IsAckOf (sending (limits_of quotas.now) statics.now mode kind docs.now) bytes
+        × IsAckOf (sending_within quotas.now statics.now mode encoding docs.now) bytes
         result.inbound ack
-        × WritesCall (sending (limits_of quotas.now) statics.now mode kind docs.now) via.now
+        × WritesCall (sending_within quotas.now statics.now mode encoding docs.now) via.now
         (K.view sink.old) w w' ack result.outbound result.sent }
 
     // Which bytes were read, which of their events were reported, and which envelopes were put,
     // however that ends.
-    ensures called { Calls (sending (limits_of quotas.now) statics.now mode kind docs.now) via.now
+    ensures called { Calls (sending_within quotas.now statics.now mode encoding docs.now) via.now
         (input_at S.left S.taken S.faults S.empty_takes source.old)
         (input_at S.left S.taken S.faults S.empty_takes source.new) (K.view sink.old)
         (K.view sink.new) (O.view output.old) (O.view output.new) result }
@@ -186,18 +224,12 @@ pub fn call_one<S: Source, K: Sink, O: Sink>(
         statics,
         quotas: *quotas,
         mode,
-        kind,
+        encoding,
     };
-    let opened = send_opening(alloc, mode, kind, via, sink);
-    let stage = stage_after(opened, sink);
-    let Ok(reader) = AnswerReader::new(alloc, settings, stage) else {
-        let handler = AnswerHandler::new(stage);
-        return close_call(handler, FollowEnding::Memory, 0, client_out(opened), output);
+    let reader = match begin_call(alloc, settings, via, source, sink, output) {
+        Ok(reader) => reader,
+        Err(called) => return called,
     };
-    let (reader, first) = reader.read(source, output);
-    if let Some(ending) = first {
-        return close_call(reader.handler, ending, 0, client_out(opened), output);
-    }
     let (sent, outbound) = send_list(alloc, settings, docs, sink);
     let (reader, ending) = read_behind(reader, source, sink, output);
     close_call(reader.handler, ending, sent, outbound, output)

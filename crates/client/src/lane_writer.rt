@@ -6,6 +6,7 @@ ghost use Rattle.nbfx_values.specs.declared.content.Item.{Item as Part};
 ghost use Rattle.nbfx_encoder.specs.EncoderState.{Refuses};
 ghost use Rattle.nbfx_encoder.specs.Sending.{kind_in, limits_in, names_in};
 ghost use Rattle.nbfx_encoder.specs.Spelling.{encoded};
+ghost use Rattle.stream_loop.specs.PartsGiven.{MayWait};
 ghost use Rattle.two_lanes.specs.Merges.{Step};
 ghost use Rattle.client.specs.LaneWriting.{HasEnded, IsSetAs, IsUnwritten, IsWriting, writer_out};
 
@@ -46,11 +47,18 @@ impl<'s> LaneWriter<'s> {
             statics,
             quotas,
             mode,
-            kind,
+            encoding,
         } = settings;
         LaneWriter {
             settings,
-            sender: Sender::new(alloc, statics, quotas, kind, mode, Side::Initiator),
+            sender: Sender::new(
+                alloc,
+                statics,
+                quotas.forward,
+                encoding.kind(),
+                mode,
+                Side::Initiator,
+            ),
             unfit: None,
             tags: Vec::new(alloc),
             parts: PartWriter::new(alloc),
@@ -111,12 +119,15 @@ impl<'s> LaneWriter<'s> {
         }
     }
 
-    /// Writes what is gathered, since the next document may be long in coming.
+    /// Writes what is gathered, since the next document may be long in coming. Where the writing has
+    /// failed, the direction of the sink is ended.
     pub fn catch_up<K: Sink>(&mut self, sink: &mut K)
         ensures writing { (first : SinkView) (all : List (Step (List Part)))
             → IsWriting first all self.old (K.view sink.old)
             → IsWriting first all self.new (K.view sink.new) }
         ensures set { IsSetAs self.old self.new }
+        ensures may_wait { MayWait self.new.parts.outbound self.new.parts.gathered.items
+            (K.view sink.new) (K.ended sink.new) }
     {
         self.parts.pause(sink);
     }

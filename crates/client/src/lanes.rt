@@ -2,24 +2,22 @@
 
 ghost use Rattle.std.specs.Prelude.{◌≡◌, ◌≤◌, ◌++◌, List, ℕ, true, length};
 ghost use Rattle.io_edges.specs.Faults.{CountsFaults};
-ghost use Rattle.nbfx_values.specs.QuotasOf.{limits_of};
 ghost use Rattle.session_ends.specs.Sent.{MayBeSent};
 ghost use Rattle.stream_loop.specs.Edges.{Input, input_at};
 ghost use Rattle.stream_reader.specs.Stream.{Settings as Reads};
 ghost use Rattle.client.specs.Answering.{HasComeSo, IsFollowed};
 ghost use Rattle.client.specs.Called.{KnownCall};
 ghost use Rattle.client.specs.Lanes.{CallsLanes, SendsLanes, outcome_of};
-ghost use Rattle.client.specs.Sent.{sending};
+ghost use Rattle.client.specs.Sent.{sending_within};
 
-use crate::answers::{AnswerHandler, AnswerReader, Stage};
-use crate::calling::{close_call, stage_after};
+use crate::answers::Stage;
+use crate::calling::{begin_call, close_call};
 use crate::lane_writer::{LaneWriter, Tags};
-use crate::outcome::{CallOutcome, ClientIn, ClientOut, client_out};
+use crate::outcome::{CallOutcome, ClientIn, ClientOut};
 use crate::owned::{OwnedReader, OwnedWriter};
-use crate::sending::send_opening;
 use crate::settings::CallSettings;
 use io_edges::{Sink, Source};
-use nbfx_values::{Docs, Kind, Mode, Offence, Quotas};
+use nbfx_values::{Docs, Encoding, Mode, Offence, Two};
 use static_dictionary::StaticTable;
 use std::alloc::Global;
 use std::sync::Wait;
@@ -106,8 +104,9 @@ fn exchange<'s, R: Threads + Wait + Sync, S: Source + Drop, K: Sink + Send + Dro
 /// session to this Via, reads to the peer's Preamble Ack, and then writes an envelope for each
 /// document of two lists and an End record, while it reads on to the end. The documents of each
 /// list are sent in order. Which list's comes next isn't fixed: a thread for each names them, and a
-/// third one makes and writes the envelopes. The report of what is read goes to the output, with
-/// its documents; the lines of what came are written before more is read.
+/// third one makes and writes the envelopes, within the quotas forward. The peer's stream is read
+/// within those back. The report of what is read goes to the output, with its documents; the lines
+/// of what came are written before more is read.
 ///
 /// If no Ack is read, nothing is written after the opening. After a failed write to the peer, at a
 /// document that doesn't fit, or when out of memory while writing, nothing more is put to the sink
@@ -127,9 +126,9 @@ pub fn call_lanes<
     sink: K,
     output: O,
     statics: &StaticTable,
-    quotas: &Quotas,
+    quotas: &Two,
     mode: Mode,
-    kind: Kind,
+    encoding: Encoding,
     via: &str,
     a: &Docs,
     b: &Docs,
@@ -137,7 +136,7 @@ pub fn call_lanes<
     requires via { length via.now ≤ 2048 }
     requires admitted { MayBeSent mode (a.now ++ b.now) }
     ensures calls { CallsLanes (λ documents outcome. KnownCall
-        (sending (limits_of quotas.now) statics.now mode kind documents) via.now
+        (sending_within quotas.now statics.now mode encoding documents) via.now
         (input_at S.left S.taken S.faults S.empty_takes source)
         (input_at S.left S.taken S.faults S.empty_takes result.1) (K.view sink) (K.view result.2)
         (O.view output) (O.view result.3) outcome) a.now b.now result.0 }
@@ -147,29 +146,14 @@ pub fn call_lanes<
         statics,
         quotas: *quotas,
         mode,
-        kind,
+        encoding,
     };
-    let mut source = source;
-    let mut sink = sink;
-    let mut output = output;
-    let opened = send_opening(alloc, mode, kind, via, &mut sink);
-    let stage = stage_after(opened, &mut sink);
-    let Ok(reader) = AnswerReader::new(alloc, settings, stage) else {
-        let handler = AnswerHandler::new(stage);
-        let called = close_call(
-            handler,
-            FollowEnding::Memory,
-            0,
-            client_out(opened),
-            &mut output,
-        );
-        return (with_tags(called, Vec::new(alloc)), source, sink, output);
+    let (mut source, mut sink, mut output) = (source, sink, output);
+    let begun = begin_call(alloc, settings, via, &mut source, &mut sink, &mut output);
+    let reader = match begun {
+        Ok(reader) => reader,
+        Err(called) => return (with_tags(called, Vec::new(alloc)), source, sink, output),
     };
-    let (reader, first) = reader.read(&mut source, &mut output);
-    if let Some(ending) = first {
-        let called = close_call(reader.handler, ending, 0, client_out(opened), &mut output);
-        return (with_tags(called, Vec::new(alloc)), source, sink, output);
-    }
     let owned = OwnedReader {
         reader,
         source,
@@ -181,12 +165,7 @@ pub fn call_lanes<
         source,
         mut output,
     } = owned;
-    let called = close_call(
-        reader.handler,
-        ending,
-        tags.len() as u64,
-        outbound,
-        &mut output,
-    );
+    let sent = tags.len() as u64;
+    let called = close_call(reader.handler, ending, sent, outbound, &mut output);
     (with_tags(called, tags), source, sink, output)
 }

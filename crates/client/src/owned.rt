@@ -23,12 +23,14 @@ pub struct OwnedWriter<'s, K> {
 
 impl<'s, K: Sink> LaneWorker for OwnedWriter<'s, K> {
     ghost use Rattle.std.specs.Prelude.{◌≡◌, true};
-    ghost use Rattle.client.specs.LaneWriting.{HasDone, HasFinished};
+    ghost use Rattle.client.specs.LaneWriting.{HasDone, HasFinished, NothingWaits};
 
     ghost did = { λ first jobs now. HasDone K.view first jobs now };
 
     ghost finished = { λ first jobs now. HasFinished K.view first jobs now
         × (K.ended now.sink ≡ true) };
+
+    ghost may_wait = { λ now. NothingWaits K.view K.ended now };
 
     fn work(&mut self, job: LaneJob) {
         let LaneJob::Send { lane, number } = job else {

@@ -113,11 +113,11 @@ pub fn call_gathered<
         statics,
         quotas,
         mode,
-        kind,
+        encoding,
     } = settings;
     let report = GatheringSink::new(room, output);
     let (outcome, source, sink, mut report) = call_lanes(
-        rt, alloc, source, sink, report, statics, &quotas, mode, kind, via, a, b,
+        rt, alloc, source, sink, report, statics, &quotas, mode, encoding, via, a, b,
     );
     let finished = finish_report(&outcome, &mut report);
     let outcome = CallOutcome {

@@ -6,7 +6,7 @@ ghost use Rattle.client.specs.Writing.{WritesOut};
 
 use initiator_machine::opening;
 use io_edges::Sink;
-use nbfx_values::{Kind, Mode};
+use nbfx_values::{Encoding, Mode};
 use std::alloc::Global;
 use stream_loop::{Outbound, flush, put_bytes, run_out};
 use unit_streams::Memory;
@@ -26,15 +26,16 @@ fn write_bytes<K: Sink>(bytes: &[u8], sink: &mut K) -> Outbound
 pub fn send_opening<K: Sink>(
     alloc: Global,
     mode: Mode,
-    kind: Kind,
+    encoding: Encoding,
     via: &str,
     sink: &mut K,
 ) -> Outbound
     requires { length via.now ≤ 2048 }
-    ensures { WritesOut result (opening_bytes mode kind via.now) (K.view sink.old) (K.view sink.new) }
+    ensures { WritesOut result (opening_bytes mode encoding via.now) (K.view sink.old)
+        (K.view sink.new) }
 {
     let mut bytes = Vec::new(alloc);
-    match opening(mode, kind, via, &mut bytes) {
+    match opening(mode, encoding, via, &mut bytes) {
         Ok(()) => write_bytes(&bytes, sink),
         Err(Memory) => run_out(sink),
     }

@@ -17,11 +17,11 @@ returns-clause-comes c = λ i first.
     let h = c.new-3.result in
     let Handled : List StreamEvent → List StreamEvent → Type 0 = λ paused since.
     HasReported first (map event_for paused ++ map event_for since) h first in record {
-      grammar = ap stream e.settings;
+      grammar = rw c.kind.ensures at (ap stream e.settings);
       come = subst (λ (l : List _). HasComeTo (stream y) i i (StandsFor c.in_ok-end.end.reader)
           Handled [] l) (sym c.in_ok-buffer.ensures)
           (comes_first (stream y) i (StandsFor c.in_ok-end.end.reader) Handled
-          (first_pending (stream y) ends y.limits.session (ends_within y s.quotas.good)) e.stands
+          (first_pending (stream y) ends y.limits.session (ends_within y s.quotas.back.good)) e.stands
           (told_first first h.stage h.reached h.report (λ is. c.requires (sym n.stage ∙ is))
           n.reached n.report));
     }

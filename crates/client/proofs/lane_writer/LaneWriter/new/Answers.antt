@@ -6,7 +6,7 @@ pub returns-clause-unwritten : goal.returns-clause-unwritten
 returns-clause-unwritten c =
     let e = c.new.ensures in
     let s = c.args.settings in record {
-      set = record { limits = e.limits; kind = e.kind; mode = e.mode };
+      set = record { limits = e.limits; kind = e.kind ∙ c.kind.ensures; mode = e.mode };
       ready = e.state ∙ first_ready s.mode;
       names = e.names;
       fits = refl;
