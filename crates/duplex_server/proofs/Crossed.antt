@@ -7,10 +7,11 @@ use Rattle.nbfx_values.specs.Limits.{Limits}
 use Rattle.string_tables.specs.StaticStrings.{Entry}
 use Rattle.stream_reader.specs.Stream.{stream, StreamEvent}
 use Rattle.stream_loop.specs.declared.{following.FollowEnding.FollowEnding}
-use Rattle.stream_loop.specs.{Edges.Input, Followed.Follows, Parts.Part}
+use Rattle.stream_loop.specs.{Edges.Input, Followed.Follows, Followed.Leaves}
+use Rattle.stream_loop.specs.{Followed.WasTaken, Parts.Part}
 use Rattle.worker_thread.specs.Jobs.{AreFirst, IsEnded}
 use Rattle.action_dispatch.specs.Answers.{Serves as Serving}
-use Rattle.duplex_server.specs.declared.requests.Request.TheVariants.{Acknowledged, Ended, Opened}
+use Rattle.duplex_server.specs.declared.requests.Request.TheVariants.{Ended, Opened}
 use Rattle.duplex_server.specs.declared.requests.Request.TheVariants.{Received}
 use Rattle.duplex_server.specs.declared.{jobs.Job.Job, outcome.Outcome.Outcome}
 use Rattle.duplex_server.specs.declared.requests.Request.{Request}
@@ -18,35 +19,38 @@ use Rattle.duplex_server.specs.Jobs.{AsksFor, behind_job, behind_jobs, is_last, 
 use Rattle.duplex_server.specs.Jobs.{parts_of}
 use Rattle.duplex_server.specs.ServerStream.{Answering, Replying, requests_to, start}
 use Rattle.duplex_server.specs.{Requests.request_for, Serving.HasServed, Serving.inbound_of}
-use Rattle.duplex_server.specs.{Serving.Serves, TwoThreads.HasReplied, TwoThreads.WereAsked}
-use Rattle.duplex_server.proofs.{Due.asked_due, Served.served, Served.serves, Written.wrote_so}
+use Rattle.duplex_server.specs.{Carrying.ServesKept, TwoThreads.HasReplied, TwoThreads.WereAsked}
+use Rattle.duplex_server.proofs.{Due.asked_due, Served.kept, Served.served, Written.wrote_so}
 use Rattle.io_edges.specs.Views.{SinkView}
 use Rattle.duplex_server.specs.declared.jobs.Job.TheVariants as jobs
 use Rattle.stream_loop.specs.declared.following.FollowEnding.TheVariants as endings
 
 module _ (x : Answering) (first now : SinkView) (was_ended is_ended : Bool) (sent taken : List Job)
     (ending : FollowEnding Offence) (outcome : Outcome)
-    (is : outcome.inbound ≡ inbound_of ending) (replied : HasReplied x.statics x.limits first
+    (is : outcome.inbound ≡ inbound_of ending) (replied : HasReplied x.statics x.back first
     was_ended taken outcome.outbound outcome.answers now is_ended) (all : taken ≡ sent) where
   abbrev Asked : List StreamEvent → Type 0
   Asked events =
-      WereAsked x.serves x.limits (map request_for events) sent ending outcome.messages
+      WereAsked x.serves x.back (map request_for events) sent ending outcome.messages
 
   has_served : (events : List StreamEvent) → Asked events
       → HasServed x outcome first now events
   has_served events h =
       served x first now outcome ending is x refl events h.counted
       (wrote_so x first now (map request_for events)
-      (parts_of x.statics x.limits (start x.statics) h.asked)
+      (parts_of x.statics x.back (start x.statics) h.asked)
       (asked_due x (start x.statics) (map request_for events) h.asked h.asks) outcome.answers _
       outcome.outbound (replied.wrote h.asked ending h.go_on (all ∙ h.sent_are)))
 
-  pub serves_beside : (endpoint : Option (List ℕ)) (i i' : Input)
-      → Follows (stream (requests_to x endpoint)) Asked i i' ending
-      → CountsFaults i.faults i'.faults (ending ≡ endings.ReadFault)
-      → Serves x endpoint i i' first now outcome
-  serves_beside endpoint i i' follows counted =
-      serves x first now outcome ending is endpoint i i' Asked follows
+  pub serves_beside : (endpoint : Option (List ℕ)) (i0 i' : Input) (held held' : List ℕ)
+      → ((i : Input) → WasTaken held i i0
+      → Follows (stream (requests_to x endpoint)) Asked i i' ending)
+      → ((i : Input) → WasTaken held i i0 → ending ≡ endings.Judged None
+      → Leaves (stream (requests_to x endpoint)) i i' held')
+      → CountsFaults i0.faults i'.faults (ending ≡ endings.ReadFault)
+      → ServesKept x endpoint i0 i' held held' first now outcome
+  serves_beside endpoint i0 i' held held' follows left counted =
+      kept x first now outcome ending is endpoint i0 i' held held' Asked follows left
       has_served counted
 
 -- ---- one job more
@@ -107,7 +111,6 @@ asks_on serves limits (Received document) (jobs.TooLarge relates) is = refl
 asks_on serves limits (Received document) (jobs.Last ending) is = absurd is
 asks_on serves limits (Received document) jobs.Back is = absurd is
 asks_on serves limits Ended job is = cc
-asks_on serves limits Acknowledged job is = cc
 
 tail_of : List Job → List Job
 tail_of [] = []

@@ -1,4 +1,5 @@
 -- Which parts are due for requests, by the jobs that they ask for.
+use Rattle.duplex_server.specs.declared.jobs.Related.{Related}
 use Rattle.std.proofs.Common.{◌≡◌, ℕ, false, List, [], ◌∷◌, ◌++◌, Some, None, Ok, Err}
 use Rattle.std.proofs.Common.{Option, Result, sym, refl, ap, ◌∙◌, subst, inl, inr}
 use Rattle.nbfx_values.specs.declared.{content.Item.Item, session.Mode.Mode}
@@ -10,7 +11,7 @@ use Rattle.stream_loop.specs.Parts.{Part, part, with_part}
 use Rattle.action_dispatch.specs.declared.answers.Answer.{Answer}
 use Rattle.action_dispatch.specs.{Answers.answered, Refusals.unfit_fault}
 use Rattle.duplex_server.specs.declared.{jobs.Job.Job, requests.Request.Request}
-use Rattle.duplex_server.specs.declared.requests.Request.TheVariants.{Acknowledged, Ended, Opened}
+use Rattle.duplex_server.specs.declared.requests.Request.TheVariants.{Ended, Opened}
 use Rattle.duplex_server.specs.declared.requests.Request.TheVariants.{Received}
 use Rattle.duplex_server.specs.Jobs.{AskFor, AsksAnswer, AsksFor, behind_job, if_fits}
 use Rattle.duplex_server.specs.Jobs.{part_for, parts_of, reply_part}
@@ -42,8 +43,8 @@ only_fault why (Err other) = refl
 module _ (x : Answering) where
   -- by what a request asks for
   abbrev DueBy : Replying → Request → Option Job → Type 0
-  DueBy s request (Some job) = IsDue x s request (part_for x.statics x.limits s job)
-      × (behind_job x.statics x.limits s job ≡ behind x s request)
+  DueBy s request (Some job) = IsDue x s request (part_for x.statics x.back s job)
+      × (behind_job x.statics x.back s job ≡ behind x s request)
   DueBy s request None = IsQuiet x s request
 
   -- a reply with the payload of this answer
@@ -58,25 +59,28 @@ module _ (x : Answering) where
     reply_behind : behind_reply payload s ≡ behind x s (Received document)
     reply_behind = ap (λ p. behind_reply p s) is
 
-  unmade : (s : Replying) (document relates : List Item) → may_fit x.limits document ≡ false
-      → when_ready s.moment (if_fits (encoded x.limits s.kind s.table (unfit_fault relates)))
-      ≡ payload_of x.limits s (answers.Reply document relates)
+  unmade : (s : Replying) (document : List Item) (relates : Related)
+      → may_fit x.back document ≡ false
+      → when_ready s.moment (if_fits (encoded x.back s.kind s.table (unfit_fault relates.version
+      relates.items)))
+      ≡ payload_of x.back s (answers.Reply document relates.items relates.version)
   unmade s document relates large =
-      let no = large_is_unwritten x.limits s.kind s.table document large in
+      let no = large_is_unwritten x.back s.kind s.table document large in
       sym (ap (λ e. when_ready s.moment
-      (first_fitting e (encoded x.limits s.kind s.table (unfit_fault relates)))) no.1
+      (first_fitting e (encoded x.back s.kind s.table (unfit_fault relates.version
+      relates.items)))) no.1
       ∙ ap (when_ready s.moment)
-      (only_fault no.0 (encoded x.limits s.kind s.table (unfit_fault relates))))
+      (only_fault no.0 (encoded x.back s.kind s.table (unfit_fault relates.version relates.items))))
 
   answer_due : (s : Replying) (document : List Item) (job : Option Job)
-      → AsksAnswer x.limits (answered x.serves document) job → DueBy s (Received document) job
+      → AsksAnswer x.back (answered x.serves document) job → DueBy s (Received document) job
   answer_due s document (Some (jobs.Answer made relates)) is =
-      let same = sym (ap (payload_of x.limits s) is) in (
+      let same = sym (ap (payload_of x.back s) is) in (
         reply_due s document _ same,
         reply_behind s document _ same,
       )
   answer_due s document (Some (jobs.TooLarge relates)) is =
-      let same = unmade s is.0 relates.items is.2 ∙ sym (ap (payload_of x.limits s) is.1) in (
+      let same = unmade s is.0 relates is.2 ∙ sym (ap (payload_of x.back s) is.1) in (
         reply_due s document _ same,
         reply_behind s document _ same,
       )
@@ -84,18 +88,17 @@ module _ (x : Answering) where
   answer_due s document (Some (jobs.Last ending)) is = absurd is
   answer_due s document (Some jobs.Back) is = absurd is
   answer_due s document None is =
-      let none = ap (payload_of x.limits s) is in (
+      let none = ap (payload_of x.back s) is in (
         ap (told_reply s.mode) none,
         ap (λ p. behind_reply p s) none,
       )
 
   pub asks_due : (s : Replying) (request : Request) (job : Option Job)
-      → AsksFor x.serves x.limits request job → DueBy s request job
+      → AsksFor x.serves x.back request job → DueBy s request job
   asks_due s (Opened mode kind) job is =
       subst (DueBy s (Opened mode kind)) (sym is) ((refl, refl), refl)
   asks_due s (Received document) job is = answer_due s document job is
   asks_due s Ended job is = subst (DueBy s Ended) (sym is) (refl, refl)
-  asks_due s Acknowledged job is = subst (DueBy s Acknowledged) (sym is) (refl, refl)
 
   -- the part that is due for a request, whatever it asks for
   pub part_due : (s : Replying) (request : Request) → (one : Part) × IsDue x s request one
@@ -104,7 +107,6 @@ module _ (x : Answering) where
       let payload = reply_to x s document in
       (reply_part s.mode payload, reply_due s document payload refl)
   part_due s Ended = (part [] false, (refl, refl))
-  part_due s Acknowledged = (part [] false, (refl, refl))
 
   -- one request more
   abbrev behind_all : Replying → List Request → Replying
@@ -138,26 +140,26 @@ module _ (x : Answering) where
 
   -- of the jobs that requests ask for
   pub asked_due : (s : Replying) (requests : List Request) (asked : List Job)
-      → AskFor x.serves x.limits requests asked
-      → AreDue x s requests (parts_of x.statics x.limits s asked)
+      → AskFor x.serves x.back requests asked
+      → AreDue x s requests (parts_of x.statics x.back s asked)
   unfolding AskFor AreDue parts_of
-  asked_due s [] asked none = ap (parts_of x.statics x.limits s) none
+  asked_due s [] asked none = ap (parts_of x.statics x.back s) none
   asked_due s (request ∷ requests) asked (inl h) =
       let quiet = asks_due s request None h.0 in
       inl (
         quiet,
         subst (λ (z : Replying). AreDue x (behind x s request) requests
-            (parts_of x.statics x.limits z asked)) quiet.1
+            (parts_of x.statics x.back z asked)) quiet.1
             (asked_due (behind x s request) requests asked h.1),
       )
   asked_due s (request ∷ requests) asked (inr h) =
       let due = asks_due s request (Some h.0) h.3 in
       inr (
-        part_for x.statics x.limits s h.0,
-        parts_of x.statics x.limits (behind_job x.statics x.limits s h.0) h.1,
-        ap (parts_of x.statics x.limits s) h.2,
+        part_for x.statics x.back s h.0,
+        parts_of x.statics x.back (behind_job x.statics x.back s h.0) h.1,
+        ap (parts_of x.statics x.back s) h.2,
         due.0,
         subst (λ (z : Replying). AreDue x (behind x s request) requests
-            (parts_of x.statics x.limits z h.1)) (sym due.1)
+            (parts_of x.statics x.back z h.1)) (sym due.1)
             (asked_due (behind x s request) requests h.1 h.4),
       )

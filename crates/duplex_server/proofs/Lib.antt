@@ -4,6 +4,8 @@ mod Worked
 pub mod WorkedConnections
 -- events as requests (src/requests.rt)
 pub mod Saying
+-- an initiator's stream has no Preamble Ack (src/requests.rt)
+pub mod NoAcks
 -- the envelope of an answer (src/spelling.rt)
 pub mod Spelled
 -- where a writer stands behind what it spelled (src/reply_writer.rt)
@@ -22,8 +24,12 @@ pub mod Done
 -- that a stream can be followed, and what is known when it is over (src/serving.rt)
 pub mod Streams
 pub mod Served
+-- and what stands behind it then
+pub mod Behind
 -- that what is written is what is owed, or first bytes of that
 pub mod Judged
+-- the same where the first bytes were carried from the session before
+pub mod Keeping
 -- what is known of an input and an output where its session was answered, and where there was no
 -- memory to begin
 pub mod Outcomes

@@ -60,13 +60,13 @@ module _ (x : Answering) (endpoint : Option (List ℕ)) (i i' : Input) where
 
 -- there was no memory to begin with
 pub unbegun_so : (x : Answering) (endpoint : Option (List ℕ)) (i : Input) (o : SinkView)
-    → IsGood x.limits → Replays x endpoint i i o o inbounds.Memory outbounds.Memory
+    → IsGood x.forward → Replays x endpoint i i o o inbounds.Memory outbounds.Memory
 unfolding events_of events_in
 unbegun_so x endpoint i o good = record {
   judged = λ bytes left. tt;
   written = λ bytes w left before. (w, before, record { kept = 0; grown = sym (append-nil w) });
   follows = unbegun (stream (requests_to x endpoint)) _ i
-      (first_pending (stream (requests_to x endpoint)) ends x.limits.session
+      (first_pending (stream (requests_to x endpoint)) ends x.forward.session
       (ends_within (requests_to x endpoint) good))
       (known_told (WritesEvents x o.held [] inbounds.Memory outbounds.Memory) o.written o.written
       (λ w e. (w, e, record { kept = 0; grown = sym (append-nil w) })));

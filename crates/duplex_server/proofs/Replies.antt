@@ -1,4 +1,5 @@
 -- Where a writer of replies stands behind what it spelled.
+use Rattle.duplex_server.specs.declared.jobs.Related.{Related}
 use Rattle.std.proofs.Common.{◌≡◌, ℕ, Bool, true, false, List}
 use Rattle.std.proofs.Common.{[], ◌∷◌, ◌++◌, Some, None, Ok, Option}
 use Rattle.std.proofs.Common.{sym, refl, ap, ◌∙◌}
@@ -16,7 +17,7 @@ use Rattle.duplex_server.specs.{Replying.SendsAt, Replying.StandsAt, Spelling.Sp
 use Rattle.io_edges.specs.Views.{SinkView}
 
 -- before the preamble, and in simplex mode, nothing is due
-pub none_due : (limits : Limits) (s : Replying) (made : Option (List Item)) (relates : List Item)
+pub none_due : (limits : Limits) (s : Replying) (made : Option (List Item)) (relates : Related)
     → s.moment ≡ Spent → reply_payload limits s made relates ≡ None
 none_due limits s made relates is =
     ap (λ m. when_ready m (fitting limits s.kind s.table made relates)) is
@@ -29,7 +30,7 @@ pub record IsSpelled (limits : Limits) (s : Replying) (sender' : Sender) (old ne
   pub sends : SendsAt limits sender' (behind_reply due s)
 
 module _ (limits : Limits) (s : Replying) (sender sender' : Sender) (here : SendsAt limits sender s)
-    (kept : KeepsSettings sender sender') (made : Option (List Item)) (relates : List Item)
+    (kept : KeepsSettings sender sender') (made : Option (List Item)) (relates : Related)
     (old new : List ℕ) where
   abbrev spelled : Option (Placed (List ℕ))
   spelled = when_ready (state_in sender)

@@ -5,11 +5,14 @@ use Rattle.nbfx_values.specs.declared.refusals.Offence.{Offence}
 use Rattle.stream_reader.specs.Stream.{Settings, stream, StreamEvent}
 use Rattle.stream_loop.proofs.{Counts.handled_some, Counts.writes_counted, Taking.follows_as}
 use Rattle.stream_loop.specs.{declared.following.FollowEnding.FollowEnding, Edges.Input}
-use Rattle.stream_loop.specs.{Followed.Follows, Writing.Wrote}
+use Rattle.stream_loop.specs.{Followed.Follows, Followed.Leaves, Followed.WasTaken}
+use Rattle.stream_loop.specs.Writing.{Wrote}
 use Rattle.duplex_server.specs.declared.outcome.Inbound.{Inbound, TheVariants.ReadFault}
-use Rattle.duplex_server.specs.{declared.outcome.Outcome.Outcome, Requests.request_for}
+use Rattle.duplex_server.specs.{Carrying.ServesKept, declared.outcome.Outcome.Outcome}
+use Rattle.duplex_server.specs.Requests.{request_for}
 use Rattle.duplex_server.specs.ServerStream.{Answering, messages_along, replies, requests_to}
 use Rattle.duplex_server.specs.Serving.{closing_of, ending_of, HasServed, inbound_of, Serves}
+use Rattle.duplex_server.proofs.Behind.{goes_behind}
 use Rattle.io_edges.specs.Views.{SinkView}
 use Rattle.stream_loop.specs.declared.following.FollowEnding.TheVariants as endings
 
@@ -81,3 +84,21 @@ module _ (x : Answering) (first now : SinkView) (outcome : Outcome) (ending : Fo
           (closing_of (ending_of outcome.inbound)) first (map request_for some.0)
           (λ s. outcome.answers ≡ s.answers) now (all some.0 some.1).wrote;
     }
+
+  -- the same of a session whose first bytes were carried, and what stands behind it
+  pub kept : (endpoint : Option (List ℕ)) (i0 i' : Input) (held held' : List ℕ)
+      (Handled : List StreamEvent → Type 0)
+      → ((i : Input) → WasTaken held i i0
+      → Follows (stream (requests_to x endpoint)) Handled i i' ending)
+      → ((i : Input) → WasTaken held i i0 → ending ≡ endings.Judged None
+      → Leaves (stream (requests_to x endpoint)) i i' held')
+      → ((events : List StreamEvent) → Handled events → HasServed x outcome first now events)
+      → CountsFaults i0.faults i'.faults (ending ≡ endings.ReadFault)
+      → ServesKept x endpoint i0 i' held held' first now outcome
+  kept endpoint i0 i' held held' Handled follows left all counted = record {
+    serves = λ i taken. serves endpoint i i' Handled (follows i taken) all
+        (subst (λ (n : ℕ). CountsFaults n i'.faults (ending ≡ endings.ReadFault)) taken.faults
+        counted);
+    behind = λ i taken ended. goes_behind x endpoint i i' held'
+        (left i taken (ending_is ∙ ap ending_of ended));
+  }

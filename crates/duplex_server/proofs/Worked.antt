@@ -7,7 +7,7 @@ use Rattle.nbfx_values.specs.Limits.{Limits, usual_limits}
 use Rattle.stream_reader.proofs.OnLiterals.{streams_on_literals}
 use Rattle.soap_envelope.proofs.OnLiterals.{envelopes_on_literals}
 use Rattle.action_dispatch.specs.{Answers.Serves, Services.echoed}
-use Rattle.duplex_server.specs.ServerStream.{answering, owed}
+use Rattle.duplex_server.specs.ServerStream.{answering_within, owed}
 
 unfoldable owed_on_literals : ⊤
 unfolding streams_on_literals encode_utf8 shortest shortest_within string_bytes_of
@@ -30,7 +30,7 @@ published = (0, codes "mustUnderstand") ∷ (2, codes "Envelope")
 
 abbrev AreOwed : Limits → Serves → List Row → Type 0
 AreOwed q serves rows =
-    map (λ (r : Row). owed (answering serves published q) r.0 r.1) rows
+    map (λ (r : Row). owed (answering_within serves published q q) r.0 r.1) rows
     ≡ map (λ (r : Row). r.2) rows
 
 -- a preamble of this mode and this encoding

@@ -10,7 +10,8 @@ use Rattle.nbfx_encoder.specs.{Envelopes.envelope, Placing.Placed, Spelling.enco
 use Rattle.stream_loop.specs.Parts.{Part, part}
 use Rattle.action_dispatch.specs.declared.answers.{Answer.Answer, Answer.TheVariants.Nothing}
 use Rattle.action_dispatch.specs.{Answers.answered, Answers.Serves, Refusals.unfit_fault}
-use Rattle.duplex_server.specs.declared.{jobs.Job.Job, requests.Request.Request}
+use Rattle.duplex_server.specs.declared.{jobs.Job.Job, jobs.Related.Related}
+use Rattle.duplex_server.specs.declared.{requests.Request.Request}
 use Rattle.duplex_server.specs.declared.requests.Request.TheVariants.{Opened, Received}
 use Rattle.duplex_server.specs.ServerStream.{behind_reply, first_fitting, opened, Replying}
 use Rattle.duplex_server.specs.ServerStream.{when_ready}
@@ -31,16 +32,16 @@ if_fits (Ok payload) = Some payload
 if_fits (Err why) = None
 
 -- the payload of a document that was made, or of the fault in its place, where either fits
-abbrev pub fitting : Limits → Kind → StringTable → Option (List Item) → (relates : List Item)
+abbrev pub fitting : Limits → Kind → StringTable → Option (List Item) → Related
     → Option (Placed (List ℕ))
 fitting limits kind table (Some document) relates = first_fitting (encoded limits kind table
     document)
-    (encoded limits kind table (unfit_fault relates))
+    (encoded limits kind table (unfit_fault relates.version relates.items))
 fitting limits kind table None relates =
-    if_fits (encoded limits kind table (unfit_fault relates))
+    if_fits (encoded limits kind table (unfit_fault relates.version relates.items))
 
 -- where an answer may be sent
-abbrev pub reply_payload : Limits → Replying → Option (List Item) → (relates : List Item)
+abbrev pub reply_payload : Limits → Replying → Option (List Item) → Related
     → Option (Placed (List ℕ))
 reply_payload limits s made relates =
     when_ready s.moment (fitting limits s.kind s.table made relates)
@@ -48,8 +49,8 @@ reply_payload limits s made relates =
 abbrev pub payload_for : Limits → Replying → Job → Option (Placed (List ℕ))
 payload_for limits s (jobs.Ack mode kind) = None
 payload_for limits s (jobs.Answer document relates) =
-    reply_payload limits s (Some document) relates.items
-payload_for limits s (jobs.TooLarge relates) = reply_payload limits s None relates.items
+    reply_payload limits s (Some document) relates
+payload_for limits s (jobs.TooLarge relates) = reply_payload limits s None relates
 payload_for limits s (jobs.Last ending) = None
 payload_for limits s jobs.Back = None
 
@@ -95,9 +96,10 @@ module _ (statics : List Entry) (limits : Limits) where
 -- by the answer
 abbrev pub AsksAnswer : Limits → Answer → Option Job → Type 0
 AsksAnswer limits answer (Some (jobs.Answer document relates)) =
-    answer ≡ answers.Reply document relates.items
+    answer ≡ answers.Reply document relates.items relates.version
 AsksAnswer limits answer (Some (jobs.TooLarge relates)) = (document : List Item)
-    × (answer ≡ answers.Reply document relates.items) × (may_fit limits document ≡ false)
+    × (answer ≡ answers.Reply document relates.items relates.version) × (may_fit limits document ≡
+    false)
 AsksAnswer limits answer (Some job) = ⊥
 AsksAnswer limits answer None = answer ≡ Nothing
 

@@ -69,7 +69,7 @@ module _ (x : Answering) where
 -- how a replier answers
 abbrev pub answering_of : {V : Type 0} → (V → Serves) → Replier V → Answering
 answering_of served replier = answering (served replier.answerer.service.now)
-    replier.writer.statics.now (limits_of replier.writer.quotas)
+    replier.writer.statics.now replier.quotas
 
 module _ (x : Answering) where
   -- these requests were handled, and answered

@@ -2,7 +2,8 @@
 -- which
 -- carries the strings of the outgoing direction on.
 use Rattle.std.specs.Prelude.{ℕ, List, [], ◌∷◌, Some, None, Ok, Err, Option, Result}
-use Rattle.{io_edges.specs.Faults.one_more, nbfx_values.specs.Limits.Limits}
+use Rattle.io_edges.specs.Faults.{one_more}
+use Rattle.nbfx_values.specs.{Limits.Limits, QuotasOf.limits_of, declared.limits.Two.Two}
 use Rattle.unit_streams.specs.Tellers.{report, Teller}
 use Rattle.string_tables.specs.{StaticStrings.Entry, StringTable.StringTable}
 use Rattle.nbfx_values.specs.declared.{content.Item.Item, refusals.Offence.Offence}
@@ -19,18 +20,24 @@ use Rattle.action_dispatch.specs.{declared.answers.Answer.Answer, Refusals.unfit
 use Rattle.action_dispatch.specs.declared.answers.Answer.TheVariants.{Nothing, Reply}
 use Rattle.action_dispatch.specs.Answers.{answered, Serves}
 use Rattle.duplex_server.specs.declared.requests.Request.{Request, TheVariants.Received}
-use Rattle.duplex_server.specs.declared.requests.Request.TheVariants.{Acknowledged, Ended, Opened}
+use Rattle.duplex_server.specs.declared.requests.Request.TheVariants.{Ended, Opened}
 use Rattle.duplex_server.specs.Requests.{request_for}
 
 -- how requests are answered: what the service says, the strings that both ends have, and the quotas
+-- of what the initiator sends and of what is sent back
 pub record Answering : Type 0 where
   pub serves : Serves
   pub statics : List Entry
-  pub limits : Limits
+  pub forward : Limits
+  pub back : Limits
 
-abbrev pub answering : Serves → List Entry → Limits → Answering
-answering serves statics limits =
-    record { serves = serves; statics = statics; limits = limits }
+abbrev pub answering_within : Serves → List Entry → (forward back : Limits) → Answering
+answering_within serves statics forward back =
+    record { serves = serves; statics = statics; forward = forward; back = back }
+
+abbrev pub answering : Serves → List Entry → Two → Answering
+answering serves statics quotas =
+    answering_within serves statics (limits_of quotas.forward) (limits_of quotas.back)
 
 -- what the requests so far have left of the outgoing direction
 pub record Replying : Type 0 where
@@ -81,9 +88,9 @@ when_ready moment payload = None
 -- the payload of an answer, or of the fault in place of one that doesn't fit
 abbrev pub payload_of : Limits → Replying → Answer → Option (Placed (List ℕ))
 payload_of limits s Nothing = None
-payload_of limits s (Reply document relates) = when_ready s.moment
+payload_of limits s (Reply document relates version) = when_ready s.moment
     (first_fitting (encoded limits s.kind s.table document)
-    (encoded limits s.kind s.table (unfit_fault relates)))
+    (encoded limits s.kind s.table (unfit_fault version relates)))
 
 abbrev pub told_reply : Mode → Option (Placed (List ℕ)) → List ℕ
 told_reply mode None = []
@@ -101,20 +108,18 @@ behind_reply (Some payload) s = record s {
 module _ (x : Answering) where
   -- the payload of the answer to a document
   abbrev pub reply_to : Replying → List Item → Option (Placed (List ℕ))
-  reply_to s document = payload_of x.limits s (answered x.serves document)
+  reply_to s document = payload_of x.back s (answered x.serves document)
 
   -- what is owed for a request, and what it leaves
   abbrev pub owed_for : Replying → Request → List ℕ
   owed_for s (Opened mode kind) = frame_bytes_of PreambleAck []
   owed_for s (Received document) = told_reply s.mode (reply_to s document)
   owed_for s Ended = []
-  owed_for s Acknowledged = []
 
   abbrev pub behind : Replying → Request → Replying
   behind s (Opened mode kind) = opened x.statics mode kind s
   behind s (Received document) = behind_reply (reply_to s document) s
   behind s Ended = s
-  behind s Acknowledged = s
 
   -- what a server owes for requests
   abbrev pub replies : Teller Replying Request Offence
@@ -128,7 +133,7 @@ module _ (x : Answering) where
   -- an initiator's stream to the Via that is served alone, or to any
   abbrev pub requests_to : Option (List ℕ) → Settings
   requests_to endpoint =
-      record { side = initiators endpoint; statics = x.statics; limits = x.limits }
+      record { side = initiators endpoint; statics = x.statics; limits = x.forward }
 
   -- and for the bytes of an initiator's stream
   abbrev pub owed_by : Teller Replying StreamEvent Offence

@@ -32,16 +32,24 @@ fn job_for(measured: Measured) -> Option<Job>
         → AsksAnswer limits answer result }
 {
     match measured {
-        Measured::Made(Answer::Reply { doc, relates }) => {
+        Measured::Made(
+            Answer::Reply {
+                doc,
+                relates,
+                version,
+            },
+        ) => {
+            let items = relates;
             Some(Job::Answer {
                 doc,
-                relates: Related { items: relates },
+                relates: Related { items, version },
             })
         }
         Measured::Made(Answer::Nothing) => None,
-        Measured::TooLarge { relates } => {
+        Measured::TooLarge { relates, version } => {
+            let items = relates;
             Some(Job::TooLarge {
-                relates: Related { items: relates },
+                relates: Related { items, version },
             })
         }
     }
@@ -91,7 +99,7 @@ impl<'v, V: Service> Answerer<'v, V> {
                 self.messages = self.messages.saturating_add(1);
                 Ok(job_for(measured))
             }
-            Request::Ended | Request::Acknowledged => Ok(None),
+            Request::Ended => Ok(None),
         }
     }
 }

@@ -1,10 +1,10 @@
 //! What asks a writer on another thread for the replies of a connection.
 
-ghost use Rattle.std.specs.Prelude.{◌≡◌, [], map};
+ghost use Rattle.std.specs.Prelude.{◌≡◌, List, ℕ, [], map, None};
 ghost use Rattle.io_edges.specs.Faults.{CountsFaults};
 ghost use Rattle.nbfx_values.specs.QuotasOf.{limits_of};
-ghost use Rattle.stream_loop.specs.Edges.{input_at};
-ghost use Rattle.stream_loop.specs.Followed.{Follows};
+ghost use Rattle.stream_loop.specs.Edges.{Input, input_at};
+ghost use Rattle.stream_loop.specs.Followed.{Follows, Leaves, WasTaken};
 ghost use Rattle.stream_reader.specs.Sides.{endpoint_of};
 ghost use Rattle.stream_reader.specs.Stream.{stream};
 ghost use Rattle.worker_thread.specs.Jobs.{IsEnded};
@@ -22,12 +22,12 @@ use crate::requests::Request;
 use crate::spent_docs::SpentDocs;
 use action_dispatch::Service;
 use io_edges::Source;
-use nbfx_values::{Offence, Quotas};
+use nbfx_values::{Offence, Two};
 use receiver_machine::Endpoint;
 use static_dictionary::StaticTable;
 use std::alloc::Global;
 use std::sync::Wait;
-use stream_loop::{EventHandler, FollowEnding};
+use stream_loop::{EventHandler, FollowEnding, InputBuffer};
 use unit_streams::Memory;
 use worker_thread::JobSender;
 
@@ -78,14 +78,14 @@ impl<'r, 'v, 'd, R: Wait, V: Service> EventHandler<Request, JobSender<'r, R, Job
         &mut self,
         request: Request,
         sender: &mut JobSender<'r, R, Job>,
-    ) -> Result<Request, Memory> {
+    ) -> Result<Option<Request>, Memory> {
         let asked = self.answerer.ask(request)?;
         match asked {
             Some(job) => {
                 sender.send(job);
                 Ok(spent(self.spent.take()))
             }
-            None => Ok(Request::Ended),
+            None => Ok(None),
         }
     }
 
@@ -95,35 +95,49 @@ impl<'r, 'v, 'd, R: Wait, V: Service> EventHandler<Request, JobSender<'r, R, Job
     }
 }
 
-/// Reads the requests of a connection, and sends the jobs that they ask for, and the last one. The
-/// memory of documents that the writer gives back is used again.
-/// Answers how the reading ended, and how many documents there were.
+/// Reads the requests of a session, whose first bytes are those that are buffered, and sends the jobs
+/// that they ask for, and the last one. The memory of documents that the writer gives back is used
+/// again. Answers how the reading ended, and how many documents there were.
 pub fn ask_for_replies<'r, R: Wait, S: Source, V: Service>(
     alloc: Global,
+    buffer: &mut InputBuffer,
     endpoint: &Endpoint,
     statics: &StaticTable,
-    quotas: Quotas,
+    quotas: &Two,
     service: &V,
     spent: &SpentDocs<'r, R>,
     source: &mut S,
     sender: &mut JobSender<'r, R, Job>,
 ) -> (FollowEnding<Offence>, u64)
     requires unsent { sent_by sender.old ≡ [] }
-    ensures follows { Follows (stream (requests_to
-        (answering (V.served service.now) statics.now (limits_of quotas)) (endpoint_of
-        endpoint.now)))
-        (λ events. WereAsked (V.served service.now) (limits_of quotas) (map request_for events)
-        (sent_by sender.new) result.0 result.1)
-        (input_at S.left S.taken S.faults S.empty_takes source.old)
+    ensures follows { (i : Input) → WasTaken buffer.old i
+        (input_at S.left S.taken S.faults S.empty_takes source.old) → Follows (stream (requests_to
+        (answering (V.served service.now) statics.now quotas.now) (endpoint_of endpoint.now)))
+        (λ events. WereAsked (V.served service.now) (limits_of quotas.now.back)
+        (map request_for events) (sent_by sender.new) result.0 result.1) i
         (input_at S.left S.taken S.faults S.empty_takes source.new) result.0 }
+    ensures left { (i : Input) → WasTaken buffer.old i
+        (input_at S.left S.taken S.faults S.empty_takes source.old)
+        → result.0 ≡ FollowEnding.Judged None → Leaves (stream (requests_to
+        (answering (V.served service.now) statics.now quotas.now) (endpoint_of endpoint.now))) i
+        (input_at S.left S.taken S.faults S.empty_takes source.new) buffer.new }
     ensures ended { IsEnded is_last (sent_by sender.new) }
     ensures counted { CountsFaults (S.faults source.old) (S.faults source.new)
         (result.0 ≡ FollowEnding.ReadFault) }
     ensures to { sender.new.to ≡ sender.old.to }
 {
-    let answerer = Answerer::new(alloc, quotas, service);
+    let answerer = Answerer::new(alloc, quotas.back, service);
     let mut asker = Asker { answerer, spent };
-    let ending = follow_requests(alloc, endpoint, statics, quotas, &mut asker, source, sender);
+    let ending = follow_requests(
+        alloc,
+        buffer,
+        endpoint,
+        statics,
+        quotas.forward,
+        &mut asker,
+        source,
+        sender,
+    );
     sender.send(Job::Last(ending));
     (ending, asker.answerer.messages)
 }

@@ -1,7 +1,6 @@
 //! A connection that is served and closed.
 
 ghost use Rattle.std.specs.Prelude.{◌≡◌, ◌<◌, ◌^◌, []};
-ghost use Rattle.nbfx_values.specs.QuotasOf.{limits_of};
 ghost use Rattle.stream_reader.specs.Sides.{endpoint_of};
 ghost use Rattle.duplex_server.specs.ServerStream.{answering};
 ghost use Rattle.duplex_server.specs.Along.{ServesNext};
@@ -12,7 +11,7 @@ use crate::beside::serve_two;
 use crate::outcome::Outcome;
 use action_dispatch::Service;
 use io_edges::{Failed, Sink, Wire};
-use nbfx_values::Quotas;
+use nbfx_values::Two;
 use receiver_machine::Endpoint;
 use static_dictionary::StaticTable;
 use std::alloc::Global;
@@ -25,8 +24,8 @@ use std::thread::Threads;
 pub struct Server<'a, V> {
     /// The static strings.
     pub statics: &'a StaticTable,
-    /// The quotas of reading and writing.
-    pub quotas: &'a Quotas,
+    /// The quotas of requests, and of answers.
+    pub quotas: &'a Two,
     /// Which Vias are served.
     pub endpoint: &'a Endpoint,
     /// What answers the requests.
@@ -48,7 +47,7 @@ pub fn serve_next<R: Threads + Wait + Sync, W: Wire, V: Service, O: Sink>(
     requires out { W.out wire.old < 2 ^ 63 }
     requires left { 0 < number → (O.view output.now).held ≡ [] }
     ensures { ServesNext (answering (V.served server.now.service.now) server.now.statics.now
-        (limits_of server.now.quotas.now)) (endpoint_of server.now.endpoint.now) (ends_at
+        server.now.quotas.now) (endpoint_of server.now.endpoint.now) (ends_at
         W.Reader.left W.Reader.taken W.Reader.faults W.Reader.empty_takes W.Writer.view)
         (network_at W.waiting W.closed W.out W.faults W.end_faults wire.old)
         (network_at W.waiting W.closed W.out W.faults W.end_faults wire.new) result }

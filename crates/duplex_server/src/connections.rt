@@ -2,7 +2,6 @@
 
 ghost use Rattle.std.specs.Prelude.{◌≡◌, ◌<◌, ◌^◌, ◌⊎◌, Err, true};
 ghost use Rattle.io_edges.specs.Faults.{CountsFaults};
-ghost use Rattle.nbfx_values.specs.QuotasOf.{limits_of};
 ghost use Rattle.stream_reader.specs.Sides.{endpoint_of};
 ghost use Rattle.duplex_server.specs.ServerStream.{answering};
 ghost use Rattle.io_edges.specs.Wires.{network_at};
@@ -29,7 +28,7 @@ fn serve_each<R: Threads + Wait + Sync, W: Wire, O: Sink, V: Service>(
 ) -> Result<(), ServeFault>
     requires { W.out wire.old < 2 ^ 63 }
     ensures served { ServesAll (answering (V.served server.now.service.now) server.now.statics.now
-        (limits_of server.now.quotas.now)) (endpoint_of server.now.endpoint.now) (ends_at
+        server.now.quotas.now) (endpoint_of server.now.endpoint.now) (ends_at
         W.Reader.left W.Reader.taken W.Reader.faults W.Reader.empty_takes W.Writer.view) connections
         (network_at W.waiting W.closed W.out W.faults W.end_faults wire.old)
         (network_at W.waiting W.closed W.out W.faults W.end_faults wire.new) (O.view output.old)
@@ -77,7 +76,7 @@ pub fn serve_connections<R: Threads + Wait + Sync, W: Wire, O: Sink, V: Service>
 
     // What was read and written on each connection, and what its line says.
     ensures served { ServesAll (answering (V.served server.now.service.now) server.now.statics.now
-        (limits_of server.now.quotas.now)) (endpoint_of server.now.endpoint.now) (ends_at
+        server.now.quotas.now) (endpoint_of server.now.endpoint.now) (ends_at
         W.Reader.left W.Reader.taken W.Reader.faults W.Reader.empty_takes W.Writer.view) connections
         (network_at W.waiting W.closed W.out W.faults W.end_faults wire.old)
         (network_at W.waiting W.closed W.out W.faults W.end_faults wire.new) (O.view output)

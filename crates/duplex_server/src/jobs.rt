@@ -6,13 +6,16 @@ ghost use Rattle.duplex_server.specs.Serving.{closing_of};
 
 use nbfx_values::{Doc, Items, Kind, Mode, Offence};
 use receiver_machine::closing_record;
+use soap_envelope::Addressing;
 use stream_loop::FollowEnding;
 
-/// The texts to which an answer relates. A fault in its place relates to them too.
+/// What an answer relates to, and its version of addressing. A fault in its place has both too.
 #[derive(Debug, Drop)]
 pub struct Related {
-    /// They, one after the other.
+    /// The texts to which it relates, one after the other.
     pub items: Items,
+    /// Its version of addressing.
+    pub version: Addressing,
     ghost texts: { AreTexts items },
 }
 

@@ -5,14 +5,18 @@
 //! of the service alone. `specs/ServerStream` has it as a fold over the history of an initiator's
 //! stream: a Preamble Ack once the preamble was read, for each document the envelope of its answer,
 //! with the strings of the outgoing direction carried on from one to the next, and at last an End,
-//! or the Fault record of an offence. The two directions share no strings.
+//! or the Fault record of an offence. The two directions share no strings, and each has quotas of its
+//! own: requests are read within those of the way forward, answers are written within those of the
+//! way back.
 //!
 //! [`serve_one`] does all of one connection on the calling thread: `stream_loop` reads, an answerer
 //! asks the service and makes a job of each request that is owed something, and a writer of replies
 //! spells what its jobs ask for and writes it (`specs/Jobs.antt`). Its contract is in
 //! `specs/Serving.antt`. A write that fails ends the writing and not the reading. [`serve_two`] has
 //! the same contract, and has the writer of replies do its jobs on a second thread
-//! (`specs/TwoThreads.antt`). [`replay_stream`] is that call where the bytes come from an input and
+//! (`specs/TwoThreads.antt`). It is [`serve_kept`], which serves one of several sessions that a
+//! connection carries one behind the other: what was taken behind the end of one is [`Carry`]'s, and
+//! the next one begins with it (`specs/Carrying.antt`). [`replay_stream`] is that call where the bytes come from an input and
 //! the answers go to an output (`specs/Replaying.antt`). All answer by a service, such as a
 //! [`Responder`]: the echo, or the texts that a file on a shelf has for actions
 //! (`specs/Responding.antt`).
@@ -30,6 +34,7 @@
 mod answerer;
 mod asking;
 mod beside;
+mod carry;
 mod connection;
 mod connections;
 mod following;
@@ -46,8 +51,10 @@ mod serving;
 mod spelling;
 mod spent_docs;
 mod stopping;
+mod threads;
 
-pub use beside::serve_two;
+pub use beside::{serve_kept, serve_two};
+pub use carry::Carry;
 pub use connection::Server;
 pub use connections::serve_connections;
 pub use outcome::{Inbound, Outcome};

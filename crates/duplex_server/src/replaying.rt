@@ -1,6 +1,5 @@
 //! A session that is answered from an input to an output.
 
-ghost use Rattle.nbfx_values.specs.QuotasOf.{limits_of};
 ghost use Rattle.stream_loop.specs.Edges.{input_at};
 ghost use Rattle.stream_reader.specs.Sides.{endpoint_of};
 ghost use Rattle.duplex_server.specs.ServerStream.{answering};
@@ -10,7 +9,7 @@ use crate::beside::serve_two;
 use crate::outcome::Inbound;
 use action_dispatch::Service;
 use io_edges::{Sink, Source};
-use nbfx_values::Quotas;
+use nbfx_values::Two;
 use receiver_machine::Endpoint;
 use static_dictionary::StaticTable;
 use std::alloc::Global;
@@ -37,11 +36,11 @@ pub fn replay_stream<R: Threads + Wait + Sync, I: Source + Drop, O: Sink + Send 
     endpoint: &Endpoint,
     service: &V,
     statics: &StaticTable,
-    quotas: &Quotas,
+    quotas: &Two,
     input: I,
     output: O,
 ) -> (Replayed, I, O)
-    ensures { Replays (answering (V.served service.now) statics.now (limits_of quotas.now))
+    ensures { Replays (answering (V.served service.now) statics.now quotas.now)
         (endpoint_of endpoint.now) (input_at I.left I.taken I.faults I.empty_takes input)
         (input_at I.left I.taken I.faults I.empty_takes result.1) (O.view output) (O.view result.2)
         result.0.inbound result.0.outbound }

@@ -8,7 +8,7 @@ use crate::reply_writer::ReplyWriter;
 use crate::requests::Request;
 use action_dispatch::Service;
 use io_edges::Sink;
-use nbfx_values::{Doc, Quotas};
+use nbfx_values::{Doc, Two};
 use static_dictionary::StaticTable;
 use std::alloc::Global;
 use stream_loop::EventHandler;
@@ -19,30 +19,31 @@ use unit_streams::Memory;
 pub struct Replier<'s, 'v, V> {
     pub(crate) answerer: Answerer<'v, V>,
     pub(crate) writer: ReplyWriter<'s>,
-    ghost same_quotas: { writer.quotas ≡ answerer.quotas },
+    // Of both directions. Answers are made and spelled within those of the way back.
+    pub(crate) quotas: Two,
+    ghost made: { answerer.quotas ≡ quotas.back },
+    ghost spelled: { writer.quotas ≡ quotas.back },
 }
 
 /// What a job leaves for the reading end to use again.
-pub(crate) fn spent(doc: Option<Doc>) -> Request {
-    match doc {
-        Some(doc) => Request::Received(doc),
-        None => Request::Ended,
-    }
+pub(crate) fn spent(doc: Option<Doc>) -> Option<Request> {
+    Some(Request::Received(doc?))
 }
 
 impl<'s, 'v, V: Service> Replier<'s, 'v, V> {
     /// Before the first request.
-    pub fn new(alloc: Global, statics: &'s StaticTable, quotas: Quotas, service: &'v V) -> Self
+    pub fn new(alloc: Global, statics: &'s StaticTable, quotas: &Two, service: &'v V) -> Self
         ensures statics { result.writer.statics.now ≡ statics.now }
-        ensures quotas { result.writer.quotas ≡ quotas }
+        ensures quotas { result.quotas ≡ quotas.now }
         ensures service { result.answerer.service.now ≡ service.now }
         ensures messages { result.answerer.messages ≡ 0 }
         ensures fresh { IsFresh result.writer.parts }
         ensures unopened { result.writer.sender ≡ None }
     {
         Replier {
-            answerer: Answerer::new(alloc, quotas, service),
-            writer: ReplyWriter::new(alloc, statics, quotas),
+            answerer: Answerer::new(alloc, quotas.back, service),
+            writer: ReplyWriter::new(alloc, statics, quotas.back),
+            quotas: *quotas,
         }
     }
 }
@@ -78,15 +79,15 @@ impl<'s, 'v, V: Service, K: Sink> EventHandler<Request, K> for Replier<'s, 'v, V
 
     // Once the writing has ended nothing would be sent of an answer: the service isn't asked then,
     // and no memory is taken.
-    fn handle(&mut self, request: Request, sink: &mut K) -> Result<Request, Memory> {
+    fn handle(&mut self, request: Request, sink: &mut K) -> Result<Option<Request>, Memory> {
         if !self.writer.parts.outbound.is_going() {
             self.answerer.count(&request);
-            return Ok(request);
+            return Ok(Some(request));
         }
         let asked = self.answerer.ask(request)?;
         match asked {
             Some(job) => Ok(spent(self.writer.work(job, sink))),
-            None => Ok(Request::Ended),
+            None => Ok(None),
         }
     }
 

@@ -3,18 +3,17 @@
 ghost use Rattle.std.specs.Prelude.{◌≡◌, [], ◌∷◌, ◌++◌, List, None};
 ghost use Rattle.std.specs.Option.{option_copied};
 ghost use Rattle.nbfx_values.specs.QuotasOf.{limits_of};
-ghost use Rattle.soap_envelope.specs.Making.{AreTexts};
 ghost use Rattle.stream_loop.specs.Parts.{Part};
 ghost use Rattle.stream_loop.specs.PartsGiven.{IsFresh};
 ghost use Rattle.duplex_server.specs.Jobs.{ack, behind_job, part_for, reply_part, reply_payload};
 ghost use Rattle.duplex_server.specs.ServerStream.{Replying, behind_reply, opened};
 ghost use Rattle.io_edges.specs.Views.{SinkView};
 
-use crate::jobs::Job;
+use crate::jobs::{Job, Related};
 use crate::spelling::spell_answer;
 use io_edges::Sink;
 use nbfx_encoder::{Sender, Side};
-use nbfx_values::{Doc, Items, Kind, Mode, Quotas};
+use nbfx_values::{Doc, Kind, Mode, Quotas};
 use nmf_records::record_types::PREAMBLE_ACK;
 use static_dictionary::StaticTable;
 use std::alloc::Global;
@@ -74,9 +73,8 @@ impl<'s> ReplyWriter<'s> {
 
     // Gathers an answer, or the fault in its place, where either fits and the mode admits one.
     // Where the answer wasn't made it doesn't fit.
-    fn answer<K: Sink>(&mut self, doc: Option<&Doc>, relates: Items, sink: &mut K)
-        requires texts { AreTexts relates }
-        requires going { self.old.parts.outbound ≡ Outbound.Done }
+    fn answer<K: Sink>(&mut self, doc: Option<&Doc>, relates: Related, sink: &mut K)
+        requires { self.old.parts.outbound ≡ Outbound.Done }
         ensures stands { (first : SinkView) (parts : List Part) (s : Replying)
             → StandsAt first parts s self.old (K.view sink.old)
             → StandsAt first
@@ -119,11 +117,11 @@ impl<'s> ReplyWriter<'s> {
                 None
             }
             Job::Answer { doc, relates } => {
-                self.answer(Some(&doc), relates.items, sink);
+                self.answer(Some(&doc), relates, sink);
                 Some(doc)
             }
             Job::TooLarge { relates } => {
-                self.answer(None, relates.items, sink);
+                self.answer(None, relates, sink);
                 None
             }
             Job::Last(_) => None,

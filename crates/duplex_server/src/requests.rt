@@ -2,9 +2,10 @@
 
 ghost use Rattle.std.specs.Prelude.{◌≡◌, List, ℕ, [], IfOk};
 ghost use Rattle.nbfx_values.specs.QuotasOf.{limits_of};
+ghost use Rattle.nmf_records.specs.declared.script.Direction.TheVariants.{FromInitiator};
 ghost use Rattle.receiver_machine.specs.ReceiverState.{StandsFor, settings_of};
 ghost use Rattle.stream_reader.specs.Sides.{endpoint_of};
-ghost use Rattle.stream_reader.specs.Stream.{initiators};
+ghost use Rattle.stream_reader.specs.Stream.{direction_of, initiators};
 ghost use Rattle.duplex_server.specs.Requests.{request_in};
 
 use nbfx_values::{Doc, Kind, Mode, Offence, Quotas};
@@ -23,11 +24,9 @@ pub enum Request {
     Received(Doc),
     /// The End record.
     Ended,
-    /// A receiver's Ack, which an initiator's stream can't have.
-    Acknowledged,
 }
 
-// What a step brings.
+// What a step brings, of those that an initiator's stream has. It has no Preamble Ack.
 #[inline(always)]
 fn request_in(step: Step) -> Option<Request>
     ensures { result ≡ request_in step }
@@ -36,8 +35,7 @@ fn request_in(step: Step) -> Option<Request>
         Step::More => None,
         Step::Opened { mode, kind } => Some(Request::Opened { mode, kind }),
         Step::Message { doc, .. } => Some(Request::Received(doc)),
-        Step::Ended { .. } | Step::PeerFault { .. } => Some(Request::Ended),
-        Step::Accepted => Some(Request::Acknowledged),
+        Step::Ended { .. } | Step::PeerFault { .. } | Step::Accepted => Some(Request::Ended),
     }
 }
 
@@ -45,6 +43,7 @@ fn request_in(step: Step) -> Option<Request>
 #[derive(Drop)]
 pub struct RequestReader<'s> {
     receiver: Receiver<'s>,
+    ghost initiators: { direction_of (settings_of receiver).side ≡ FromInitiator },
 }
 
 impl<'s> RequestReader<'s> {
@@ -109,13 +108,11 @@ impl<'s> ReadingEnd for RequestReader<'s> {
         self.receiver.end_of_input()
     }
 
-    fn is_end(&self, event: &Request) -> bool
-        ensures { (completed : StreamEvent) → event.now ≡ request_for completed
-            → result ≡ is_last completed }
-    {
+    fn is_end(&self, event: &Request) -> bool {
         match event {
             Request::Ended => true,
-            Request::Opened { .. } | Request::Received(_) | Request::Acknowledged => false,
+            Request::Opened { .. } => false,
+            Request::Received(_) => false,
         }
     }
 

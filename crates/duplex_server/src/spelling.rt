@@ -5,14 +5,14 @@ ghost use Rattle.std.specs.Option.{option_copied};
 ghost use Rattle.nbfx_encoder.specs.Sending.{KeepsSettings, kind_in, limits_in, mode_in, names_in};
 ghost use Rattle.nbfx_encoder.specs.Sending.{state_in};
 ghost use Rattle.nbfx_encoder.specs.Spelling.{encoded};
-ghost use Rattle.soap_envelope.specs.Making.{AreTexts};
 ghost use Rattle.duplex_server.specs.Jobs.{fitting};
 ghost use Rattle.duplex_server.specs.ServerStream.{when_ready};
 ghost use Rattle.duplex_server.specs.Spelling.{Spells, Tries};
 
+use crate::jobs::Related;
 use action_dispatch::unfit_doc;
 use nbfx_encoder::{EncodeFault, SendFault, SendState, Sender};
-use nbfx_values::{Doc, Items};
+use nbfx_values::Doc;
 use std::alloc::Global;
 use unit_streams::Memory;
 
@@ -47,10 +47,9 @@ fn spell_made(
     alloc: Global,
     sender: &mut Sender<'_>,
     doc: &Doc,
-    relates: Items,
+    relates: Related,
     out: &mut Vec<u8>,
 ) -> Result<bool, Memory>
-    requires { AreTexts relates }
     ensures spells { Spells (mode_in sender.old) out.old.items out.new.items
         (names_in sender.old) (names_in sender.new) (state_in sender.old) (state_in sender.new)
         (when_ready (state_in sender.old) (fitting (limits_in sender.old) (kind_in sender.old)
@@ -64,7 +63,7 @@ fn spell_made(
     if spell_if_fits(sender, doc, out)? {
         return Ok(true);
     }
-    let fault = unfit_doc(alloc, relates)?;
+    let fault = unfit_doc(alloc, relates.version, relates.items)?;
     spell_if_fits(sender, &fault, out)
 }
 
@@ -73,10 +72,9 @@ fn spell_made(
 fn spell_unmade(
     alloc: Global,
     sender: &mut Sender<'_>,
-    relates: Items,
+    relates: Related,
     out: &mut Vec<u8>,
 ) -> Result<bool, Memory>
-    requires { AreTexts relates }
     ensures spells { Spells (mode_in sender.old) out.old.items out.new.items
         (names_in sender.old) (names_in sender.new) (state_in sender.old) (state_in sender.new)
         (when_ready (state_in sender.old) (fitting (limits_in sender.old) (kind_in sender.old)
@@ -87,21 +85,21 @@ fn spell_unmade(
     if sender.state() != SendState::Ready {
         return Ok(false);
     }
-    let unfit = unfit_doc(alloc, relates)?;
+    let unfit = unfit_doc(alloc, relates.version, relates.items)?;
     spell_if_fits(sender, &unfit, out)
 }
 
 /// Appends the envelope of an answer, or, if it doesn't fit, of the fault in its place, which
-/// relates to the same texts. An answer that wasn't made is larger than any that fits. Says whether
-/// either fits. If no answer may be sent now, or without memory, nothing is appended.
+/// relates to the same texts, in the same version. An answer that wasn't made is larger than any
+/// that fits. Says whether either fits. If no answer may be sent now, or without memory, nothing is
+/// appended.
 pub fn spell_answer(
     alloc: Global,
     sender: &mut Sender<'_>,
     doc: Option<&Doc>,
-    relates: Items,
+    relates: Related,
     out: &mut Vec<u8>,
 ) -> Result<bool, Memory>
-    requires { AreTexts relates }
     ensures spells { Spells (mode_in sender.old) out.old.items out.new.items
         (names_in sender.old) (names_in sender.new) (state_in sender.old) (state_in sender.new)
         (when_ready (state_in sender.old) (fitting (limits_in sender.old) (kind_in sender.old)

@@ -1,9 +1,9 @@
-use Rattle.std.proofs.Common.{List, [], map, sym, refl, ◌∙◌, append-nil}
+use Rattle.std.proofs.Common.{List, [], map, None, sym, refl, ◌∙◌, append-nil}
 use Rattle.nbfx_values.specs.QuotasOf.{limits_of}
 use Rattle.stream_reader.specs.{Sides.endpoint_of, Stream.Settings, Stream.stream}
 use Rattle.stream_reader.specs.Stream.{StreamEvent}
 use Rattle.stream_loop.proofs.{Counts.handled_some, Taking.follows_as, Taking.handled_whole}
-use Rattle.stream_loop.specs.{Edges.Input, Edges.input_at, Followed.Follows}
+use Rattle.stream_loop.specs.{Edges.Input, Edges.input_at, Followed.Follows, Followed.WasTaken}
 use Rattle.worker_thread.specs.{Jobs.AreFirst, Sending.sent_by}
 use Rattle.duplex_server.specs.declared.requests.Request.{Request}
 use Rattle.duplex_server.specs.{Asking.HasAsked, Jobs.AskFor, ServerStream.answering}
@@ -43,39 +43,45 @@ module _ (g : Over) (c : After-send g) where
 
   abbrev requests : Settings
   requests = requests_to (answering (g.V.Service.served c.args.service.now) c.args.statics.now
-      (limits_of c.args.quotas)) (endpoint_of c.args.endpoint.now)
+      c.args.quotas.now) (endpoint_of c.args.endpoint.now)
 
-  followed : Follows (stream requests) (λ events. Asked (map request_for events))
-      (input_of g c.args.source.now) (input_of g c.follow_requests-ending.new.source)
-      c.follow_requests-ending.result
-  followed =
+  followed : (i : Input) → WasTaken c.args.buffer.now i (input_of g c.args.source.now)
+      → Follows (stream requests) (λ events. Asked (map request_for events)) i
+      (input_of g c.follow_requests-ending.new.source) c.follow_requests-ending.result
+  followed i taken =
       let f = c.follow_requests-ending in
-      follows_as (stream requests) _ _ (input_of g c.args.source.now) (input_of g f.new.source)
-      f.result (handled_whole request_for Asked) f.ensures.follows
+      follows_as (stream requests) _ _ i (input_of g f.new.source)
+      f.result (handled_whole request_for Asked) (f.ensures.follows i taken)
 
-  -- some requests were asked for
+  -- some requests were asked for: of an input of which nothing is told the bytes could have been
+  -- taken
   asked : (events : List StreamEvent) × Asked (map request_for events)
-  asked = handled_some (stream requests) _ (input_of g c.args.source.now)
-      (input_of g c.follow_requests-ending.new.source) c.follow_requests-ending.result followed
+  asked =
+      let now = input_of g c.args.source.now in
+      let i : Input = record now { left = None; taken = None } in
+      handled_some (stream requests) _ i (input_of g c.follow_requests-ending.new.source)
+      c.follow_requests-ending.result
+      (followed i (record { stream = tt; took = tt; faults = refl; empty_takes = refl }))
 
 pub returns-clause-follows : goal.returns-clause-follows
-returns-clause-follows g c =
+returns-clause-follows g c = λ i taken.
     let f = c.follow_requests-ending in
     let n = f.new.handler.answerer in
     follows_as (stream (requests g c)) (λ events. Asked g c (map request_for events)) _
-    (input_of g c.args.source.now) (input_of g f.new.source) f.result
-    (λ events h. were_asked (g.V.Service.served c.args.service.now) (limits_of c.args.quotas)
+    i (input_of g f.new.source) f.result
+    (λ events h. were_asked (g.V.Service.served c.args.service.now) (limits_of c.args.quotas.now.back)
     c.args.sender.now f.new.output c.send.new.self n f.result c.requires.unsent c.send.ensures.sent
     (g.V.Service.served n.service.now) (limits_of n.quotas) (map request_for events) h
     (f.ensures.settings
-    ∙ rw (c.new-answerer.ensures.service, c.new-answerer.ensures.quotas) refl)) (followed g c)
+    ∙ rw (c.new-answerer.ensures.service, c.new-answerer.ensures.quotas) refl))
+    (followed g c i taken)
 
 pub returns-clause-ended : goal.returns-clause-ended
 returns-clause-ended g c =
     let f = c.follow_requests-ending in
     let n = f.new.handler.answerer in
     let some = asked g c in
-    asked_to_end (g.V.Service.served c.args.service.now) (limits_of c.args.quotas)
+    asked_to_end (g.V.Service.served c.args.service.now) (limits_of c.args.quotas.now.back)
     c.args.sender.now f.new.output c.send.new.self n f.result c.requires.unsent
     c.send.ensures.sent (g.V.Service.served n.service.now) (limits_of n.quotas)
     (map request_for some.0) some.1

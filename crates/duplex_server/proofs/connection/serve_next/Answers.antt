@@ -1,6 +1,6 @@
 use Rattle.std.proofs.Common.{ℕ, List, Option, refl}
 use Rattle.io_edges.specs.Wires.{Network, network_at}
-use Rattle.{nbfx_values.specs.QuotasOf.limits_of, stream_reader.specs.Sides.endpoint_of}
+use Rattle.stream_reader.specs.Sides.{endpoint_of}
 use Rattle.duplex_server.specs.{ServerStream.Answering, ServerStream.answering, Served.ends_at}
 use Rattle.duplex_server.proofs.{Meeting.met, Turns.serves_one, connection.serve_next.Given.Over}
 use Rattle.duplex_server.proofs.connection.serve_next.Goals as goal
@@ -16,7 +16,7 @@ returns g c =
     let r = g.W.Reader.Source in
     let w = g.W.Writer.Sink in
     let x : Answering = answering (g.V.Service.served s.service.now) s.statics.now
-    (limits_of s.quotas.now) in
+    s.quotas.now in
     let endpoint : Option (List ℕ) = endpoint_of s.endpoint.now in
     let a = c.in_ok-ends.ensures in
     let found = c.in-Some.is in

@@ -1,6 +1,6 @@
 use Rattle.std.proofs.Common.{◌≡◌, sym, refl, ap, ◌∙◌, subst, inl, inr}
 use Rattle.io_edges.specs.{Gathering.Gathering, Wires.Network, Wires.network_at}
-use Rattle.{nbfx_values.specs.QuotasOf.limits_of, stream_reader.specs.Sides.endpoint_of}
+use Rattle.stream_reader.specs.Sides.{endpoint_of}
 use Rattle.duplex_server.specs.{ServerStream.answering, Served.Ends, Served.ends_at}
 use Rattle.duplex_server.specs.{Served.ServesAll}
 use Rattle.duplex_server.proofs.Stops.{none_served, served_under}
@@ -20,13 +20,13 @@ pub returns-in_default-clause-served : goal.returns-in_default-clause-served
 returns-in_default-clause-served g c =
     let s = c.args.server.now in
     none_served (answering (g.V.Service.served s.service.now) s.statics.now
-    (limits_of s.quotas.now)) (endpoint_of s.endpoint.now) (ends g) c.args.connections
+    s.quotas.now) (endpoint_of s.endpoint.now) (ends g) c.args.connections
     (seen g c.args.wire.now) (g.O.Sink.view c.args.output) refl
 
 pub returns-clause-served : goal.returns-clause-served
 returns-clause-served g c =
     let s = c.args.server.now in
-    let x = answering (g.V.Service.served s.service.now) s.statics.now (limits_of s.quotas.now) in
+    let x = answering (g.V.Service.served s.service.now) s.statics.now s.quotas.now in
     let endpoint = endpoint_of s.endpoint.now in
     let first = c.new-lines.result in
     let run = c.serve_each-served in

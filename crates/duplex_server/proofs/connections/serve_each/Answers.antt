@@ -1,7 +1,7 @@
 use Rattle.std.proofs.Common.{◌≡◌, Ok, Err, sym, refl, ◌∙◌, subst}
 use Rattle.{std.proofs.lemmas.Result.err_from_is_err_and}
 use Rattle.io_edges.specs.Wires.{Network, network_at}
-use Rattle.{nbfx_values.specs.QuotasOf.limits_of, stream_reader.specs.Sides.endpoint_of}
+use Rattle.stream_reader.specs.Sides.{endpoint_of}
 use Rattle.duplex_server.specs.{declared.outcome.Outcome.Outcome, ServerStream.answering}
 use Rattle.duplex_server.specs.{Lines.connection_line, Served.Ends, Served.ends_at}
 use Rattle.duplex_server.proofs.Stops.{along_more, along_none, lines_left, output_failed}
@@ -27,7 +27,7 @@ pub loop-number-init : goal.loop-number-init
 loop-number-init g c =
     let s = c.args.server.now in (
       along_none (answering (g.V.Service.served s.service.now) s.statics.now
-          (limits_of s.quotas.now)) (endpoint_of s.endpoint.now) (ends g) (seen g c.args.wire.now)
+          s.quotas.now) (endpoint_of s.endpoint.now) (ends g) (seen g c.args.wire.now)
           (out g c.args.output.now) refl,
       refl,
     )
@@ -47,7 +47,7 @@ returns-in_err-put_line-clause-served g c =
     let f = c.from_residual-in_err-put_line in
     let r = err_from_is_err_and f.result f.ensures.1 in
     rw (r.1, r.2) (output_failed (answering (g.V.Service.served s.service.now) s.statics.now
-    (limits_of s.quotas.now)) (endpoint_of s.endpoint.now) (ends g) c.args.connections
+    s.quotas.now) (endpoint_of s.endpoint.now) (ends g) c.args.connections
     (seen g c.args.wire.now) (seen g l.wire) (out g c.args.output.now) (out g l.output)
     (l.output ≡ c.args.output.now) l.number l.invariant.0 (seen g c.serve_next.new.wire) next.0
     next.2 (out g c.put_line.new.output) p.ensures.emptied c.loop-number-test.true p.field-0.0
@@ -70,7 +70,7 @@ loop-number-preserved g c =
     let next = rw c.in-Some.is at c.in_ok-outcome.ensures in
     let p = c.in_ok-put_line in (
       along_more (answering (g.V.Service.served s.service.now) s.statics.now
-          (limits_of s.quotas.now)) (endpoint_of s.endpoint.now) (ends g) c.args.connections
+          s.quotas.now) (endpoint_of s.endpoint.now) (ends g) c.args.connections
           (seen g c.args.wire.now) (seen g l.wire) (out g c.args.output.now) (out g l.output)
           (l.output ≡ c.args.output.now) l.number l.invariant.0 (seen g c.serve_next.new.wire)
           next.0 next.2 (out g c.put_line.new.output) p.ensures.emptied

@@ -1,5 +1,5 @@
 use Rattle.{std.proofs.Common.◌≡◌, io_edges.specs.Wires.network_at}
-use Rattle.{nbfx_values.specs.QuotasOf.limits_of, stream_reader.specs.Sides.endpoint_of}
+use Rattle.stream_reader.specs.Sides.{endpoint_of}
 use Rattle.duplex_server.specs.{Along.IsAlong, ServerStream.answering, Served.ends_at}
 use Rattle.duplex_server.proofs.connections.serve_each.Given as goal
 
@@ -8,7 +8,7 @@ invariant-loop-number g l =
     let r = g.W.Reader.Source in
     let w = g.W.Writer.Sink in
     IsAlong (answering (g.V.Service.served l.fn.server.service.now) l.fn.server.statics.now
-    (limits_of l.fn.server.quotas.now)) (endpoint_of l.fn.server.endpoint.now)
+    l.fn.server.quotas.now) (endpoint_of l.fn.server.endpoint.now)
     (ends_at r.left r.taken r.faults r.empty_takes w.view)
     (network_at g.W.Wire.waiting g.W.Wire.closed g.W.Wire.out g.W.Wire.faults
     g.W.Wire.end_faults l.fn.wire)

@@ -1,4 +1,4 @@
-use Rattle.{nbfx_values.specs.QuotasOf.limits_of, stream_loop.specs.Edges.input_at}
+use Rattle.stream_loop.specs.Edges.{input_at}
 use Rattle.stream_reader.specs.Sides.{endpoint_of}
 use Rattle.duplex_server.{specs.ServerStream.answering, proofs.Outcomes.replayed}
 use Rattle.duplex_server.proofs.replaying.replay_stream.Goals as goal
@@ -6,7 +6,7 @@ use Rattle.duplex_server.proofs.replaying.replay_stream.Goals as goal
 pub returns : goal.returns
 returns g c =
     let x = answering (g.V.Service.served c.args.service.now) c.args.statics.now
-    (limits_of c.args.quotas.now) in
+    c.args.quotas.now in
     let i = input_at g.I.Source.left g.I.Source.taken g.I.Source.faults g.I.Source.empty_takes
     c.args.input in
     let i' = input_at g.I.Source.left g.I.Source.taken g.I.Source.faults g.I.Source.empty_takes

@@ -1,4 +1,4 @@
-use Rattle.{nbfx_values.specs.QuotasOf.limits_of, duplex_server.specs.ServerStream.answering}
+use Rattle.duplex_server.specs.ServerStream.{answering}
 use Rattle.stream_reader.specs.Sides.{endpoint_of}
 use Rattle.stream_loop.specs.Edges.{Input, input_at}
 use Rattle.duplex_server.proofs.{Judged.judges, Judged.owes, serving.serve_one.Given.Over}
@@ -13,7 +13,7 @@ pub returns-clause-judged : goal.returns-clause-judged
 returns-clause-judged g c = λ bytes left.
     judges
     (answering (g.V.Service.served c.args.service.now) c.args.statics.now
-    (limits_of c.args.quotas.now)) (endpoint_of c.args.endpoint.now)
+    c.args.quotas.now) (endpoint_of c.args.endpoint.now)
     (input_of g c.args.source.now) (input_of g c.serve_connection.new.source)
     (g.K.Sink.view c.args.sink.now)
     (g.K.Sink.view c.serve_connection.new.sink) bytes left c.serve_connection.result
@@ -23,7 +23,7 @@ pub returns-clause-written : goal.returns-clause-written
 returns-clause-written g c = λ bytes w left told.
     owes
     (answering (g.V.Service.served c.args.service.now) c.args.statics.now
-    (limits_of c.args.quotas.now)) (endpoint_of c.args.endpoint.now)
+    c.args.quotas.now) (endpoint_of c.args.endpoint.now)
     (input_of g c.args.source.now) (input_of g c.serve_connection.new.source)
     (g.K.Sink.view c.args.sink.now)
     (g.K.Sink.view c.serve_connection.new.sink) bytes left c.serve_connection.result

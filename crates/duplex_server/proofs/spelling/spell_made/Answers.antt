@@ -13,7 +13,7 @@ returns-clause-spells c =
     let kept = c.spell_if_fits.ensures.kept in
     let first = rw c.if-branch.false at c.in_ok-spell_if_fits.ensures.tries in
     let ready : state_in s ≡ Ready = search rules in
-    let fault = unfit_fault c.args.relates in
+    let fault = unfit_fault c.args.relates.version c.args.relates.items in
     let other : Result (Placed (List ℕ)) Unfit =
     encoded (limits_in s) (kind_in s) (names_in s) fault in
     let again : Result (Placed (List ℕ)) Unfit =

@@ -11,7 +11,8 @@ returns-clause-spells c =
     let s1 = c.spell_if_fits.new.sender in
     let ready : state_in s ≡ Ready = search rules in
     let other : Result (Placed (List ℕ)) Unfit =
-    encoded (limits_in s) (kind_in s) (names_in s) (unfit_fault c.args.relates) in
+    encoded (limits_in s) (kind_in s) (names_in s) (unfit_fault c.args.relates.version
+    c.args.relates.items) in
     let again : Result (Placed (List ℕ)) Unfit =
     encoded (limits_in s) (kind_in s) (names_in s) c.in_ok-unfit.unfit in
     let is = c.in_ok-unfit.ensures in

@@ -3,7 +3,7 @@ use Rattle.unit_streams.specs.Tellers.{state_behind}
 use Rattle.stream_loop.proofs.Parts.{given_stopped}
 use Rattle.duplex_server.specs.declared.requests.Request.{Request}
 use Rattle.nbfx_values.specs.{declared.limits.Quotas.Quotas, QuotasOf.limits_of}
-use Rattle.duplex_server.specs.Jobs.{AsksFor, part_for}
+use Rattle.duplex_server.specs.Jobs.{AsksFor, behind_job, part_for}
 use Rattle.duplex_server.specs.ServerStream.{Answering, answering, replies, Replying, start}
 use Rattle.duplex_server.specs.Replying.{answering_of, StandsAt}
 use Rattle.duplex_server.proofs.Due.{asks_due, part_due}
@@ -46,7 +46,7 @@ returns-in-None-clause-handled g c = λ first paused since handled.
     e.messages
     (asks_due x s c.args.request None (subst (λ (q : Quotas). AsksFor
     (g.V.Service.served m.answerer.service.now) (limits_of q) c.args.request None)
-    (sym m.same_quotas) (rw c.in-None.is at e.asked))) handled.stands)
+    m.made (rw c.in-None.is at e.asked))) handled.stands)
 
 -- a job was done
 pub returns-in-Some-clause-handled : goal.returns-in-Some-clause-handled
@@ -60,15 +60,18 @@ returns-in-Some-clause-handled g c = λ first paused since handled.
     let job = c.in-Some.job in
     let d = asks_due x s c.args.request (Some job) (subst (λ (q : Quotas). AsksFor
     (g.V.Service.served m.answerer.service.now) (limits_of q) c.args.request (Some job))
-    (sym m.same_quotas) (rw c.in-Some.is at e.asked)) in
+    m.made (rw c.in-Some.is at e.asked)) in
     let w = c.work.ensures in
     let same : answering (g.V.Service.served c.ask.new.self.service.now)
-    c.work.new.self.statics.now (limits_of c.work.new.self.quotas) ≡ x =
-    rw (c.ask.ensures.service, w.kept.statics_are, w.kept.quotas_are) refl in
+    c.work.new.self.statics.now m.quotas ≡ x =
+    rw (c.ask.ensures.service, w.kept.statics_are) refl in
     rw (← append_assoc paused since (c.args.request ∷ []))
     (handled_part_as x from events m _ (g.K.Sink.view c.args.sink.now)
     (g.K.Sink.view c.work.new.sink) c.args.request handled e.messages _ same
-    (part_for x.statics x.limits s job) d.0
+    (part_for x.statics x.back s job) d.0
     (subst (λ (z : Replying). StandsAt from
-    (handled.parts ++ part_for x.statics x.limits s job ∷ []) z c.work.new.self
-    (g.K.Sink.view c.work.new.sink)) d.1 (w.stands from handled.parts s handled.stands)))
+    (handled.parts ++ part_for x.statics x.back s job ∷ []) z c.work.new.self
+    (g.K.Sink.view c.work.new.sink)) d.1 (subst (λ (q : Quotas). StandsAt from
+    (handled.parts ++ part_for x.statics (limits_of q) s job ∷ [])
+    (behind_job x.statics (limits_of q) s job) c.work.new.self (g.K.Sink.view c.work.new.sink))
+    m.spelled (w.stands from handled.parts s handled.stands))))

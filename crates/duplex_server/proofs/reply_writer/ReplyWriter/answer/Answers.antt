@@ -11,7 +11,7 @@ use Rattle.duplex_server.proofs.reply_writer.ReplyWriter.answer.Goals as goal
 pub returns-in-None-clause-stands : goal.returns-in-None-clause-stands
 returns-in-None-clause-stands g c = λ first parts s h.
     let m = c.args.self.now in
-    let going = c.requires.going in
+    let going = c.requires in
     let spent = rw c.in-None.is at (h.is_at going) in
     let none = none_due (limits_of m.quotas) s (option_copied c.args.doc) c.args.relates spent in
     rw none (record {
@@ -27,7 +27,7 @@ returns-in-Ok-true-clause-stands g c = λ first parts s h.
     let m = c.args.self.now in
     let limits : Limits = limits_of m.quotas in
     let sender = c.in-Some.sender in
-    let here = rw c.in-Some.is at (h.is_at c.requires.going) in
+    let here = rw c.in-Some.is at (h.is_at c.requires) in
     let spells = rw c.in-Ok-true.field-0-test at c.in-Ok-true.ensures.spells in
     let k = spelled_one limits s sender c.spell_answer.new.sender here c.spell_answer.ensures.kept
     (option_copied c.args.doc) c.args.relates m.parts.gathered.items c.spell_answer.new.out.items
@@ -51,7 +51,7 @@ returns-in-Ok-false-clause-stands g c = λ first parts s h.
     let m = c.args.self.now in
     let limits : Limits = limits_of m.quotas in
     let sender = c.in-Some.sender in
-    let going = c.requires.going in
+    let going = c.requires in
     let here = rw c.in-Some.is at (h.is_at going) in
     let spells = rw c.in-Ok-false.field-0-test at c.in-Ok-false.ensures.spells in
     let k = spelled_none limits s sender c.spell_answer.new.sender here

@@ -1,5 +1,5 @@
 use Rattle.std.proofs.Common.{◌≡◌, [], ◌∷◌, ◌++◌, sym, ap, ◌∙◌, subst, rules}
-use Rattle.{nbfx_values.specs.QuotasOf.limits_of, duplex_server.specs.ServerStream.answering}
+use Rattle.duplex_server.specs.ServerStream.{answering}
 use Rattle.crossbeam_channel.specs.Claims.{IsSeatAt, view}
 use Rattle.crossbeam_channel.specs.Ends.{receives_on, sends_on}
 use Rattle.stream_reader.specs.Sides.{endpoint_of}
@@ -31,10 +31,10 @@ returns-in-Ok g c =
     let a = c.ask_for_replies-ending in
     let sink_is : p.sink.value ≡ c.captures.sink = search rules in
     let statics_is : p.statics.value.now ≡ c.captures.statics.now = search rules in
-    let quotas_is : p.quotas.value ≡ c.captures.quotas.now = search rules in
+    let quotas_is : p.quotas.value ≡ c.captures.quotas.now.back = search rules in
     let all = rw (sink_is, statics_is, quotas_is) at j.ensures.1 in
     let x = answering (g.V.Service.served c.captures.service.now) c.captures.statics.now
-    (limits_of c.captures.quotas.now) in (
+    c.captures.quotas.now in (
       serves_beside x (g.K.Sink.view c.captures.sink) (g.K.Sink.view j.result.1)
           (g.K.Sink.ended c.captures.sink) (g.K.Sink.ended j.result.1) (sent_by a.new.sender)
           (view j.result.0).taken a.result.0
@@ -49,6 +49,7 @@ returns-in-Ok g c =
           (input_at g.S.Source.left g.S.Source.taken g.S.Source.faults g.S.Source.empty_takes
           c.captures.source)
           (input_at g.S.Source.left g.S.Source.taken g.S.Source.faults g.S.Source.empty_takes
-          a.new.source) a.ensures.follows a.ensures.counted,
+          a.new.source) c.captures.buffer a.new.buffer a.ensures.follows a.ensures.left
+          a.ensures.counted,
       all.replied.same_end,
     )

@@ -1,0 +1,40 @@
+-- What is known of a session whose first bytes were carried, where all that stands behind them is known.
+use Rattle.std.proofs.Common.{◌≡◌, ℕ, List, ◌++◌, Some, None, Option, sym, refl, subst}
+use Rattle.io_edges.specs.Flow.{Told}
+use Rattle.stream_loop.specs.{Edges.Input, Followed.WasTaken}
+use Rattle.duplex_server.specs.declared.outcome.Outcome.{Outcome}
+use Rattle.duplex_server.specs.{Carrying.ServesKept, ServerStream.Answering, ServerStream.owed}
+use Rattle.duplex_server.specs.Serving.{Judges, WritesOwed}
+use Rattle.duplex_server.proofs.Judged.{judges, owes}
+use Rattle.io_edges.specs.Views.{SinkView}
+
+-- an input that is known to give these bytes, with those that were taken from it before
+abbrev pub with_held : (held bytes : List ℕ) → Input → Input
+with_held held bytes i = record i { left = Some (held ++ bytes); taken = None }
+
+pub held_taken : (held bytes : List ℕ) (i : Input) → i.left ≡ Some bytes
+    → WasTaken held (with_held held bytes i) i
+held_taken held bytes i left = record {
+  stream = subst (λ (now : Option (List ℕ)). Told (Some (held ++ bytes)) now
+      (λ all rest. all ≡ held ++ rest)) (sym left) refl;
+  took = tt;
+  faults = refl;
+  empty_takes = refl;
+}
+
+pub kept_judges : (x : Answering) (endpoint : Option (List ℕ)) (i i' : Input) (held held' : List ℕ)
+    (first now : SinkView) (outcome : Outcome)
+    (h : ServesKept x endpoint i i' held held' first now outcome) (bytes : List ℕ)
+    → i.left ≡ Some bytes → Judges x endpoint (held ++ bytes) outcome.inbound
+kept_judges x endpoint i i' held held' first now outcome h bytes left =
+    judges x endpoint (with_held held bytes i) i' first now (held ++ bytes) refl outcome
+    (h.serves (with_held held bytes i) (held_taken held bytes i left))
+
+pub kept_owes : (x : Answering) (endpoint : Option (List ℕ)) (i i' : Input) (held held' : List ℕ)
+    (first now : SinkView) (outcome : Outcome)
+    (h : ServesKept x endpoint i i' held held' first now outcome) (bytes w : List ℕ)
+    → i.left ≡ Some bytes → first.written ≡ Some w → (w' : List ℕ) × (now.written ≡ Some w')
+    × WritesOwed (owed x endpoint (held ++ bytes)) first.held w w' outcome.inbound outcome.outbound
+kept_owes x endpoint i i' held held' first now outcome h bytes w left told =
+    owes x endpoint (with_held held bytes i) i' first now (held ++ bytes) refl outcome
+    (h.serves (with_held held bytes i) (held_taken held bytes i left)) w told
