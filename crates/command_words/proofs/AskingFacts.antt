@@ -4,29 +4,37 @@ use Rattle.std.proofs.Common.{nat_le, Some, None, decimal, Option, option_map, o
 use Rattle.std.proofs.Common.{refl, ap, ◌∙◌, subst, inl, inr, arith, le-leb, leb-true}
 use Rattle.std.proofs.lemmas.{Bool.cases_Bool, Option.option_and_then_some}
 use Rattle.clap.proofs.WalkLemmas.{both}
-use Rattle.nbfx_values.specs.declared.session.{Kind.Kind, Mode.Mode, Mode.TheVariants.Duplex}
+use Rattle.nbfx_values.specs.declared.session.{Encoding.Encoding, Kind.Kind, Mode.Mode}
+use Rattle.nbfx_values.specs.{declared.session.Mode.TheVariants.Duplex, Session.encoding_kind}
 use Rattle.nbfx_values.specs.Limits.{IsGood, Limits, limits, usual_limits}
 use Rattle.command_words.specs.declared.{action.Action.Action, task.Origin.Origin}
 use Rattle.command_words.specs.declared.action.Action.TheVariants.{Build, Call, Check, Dump, Gen}
-use Rattle.command_words.specs.declared.action.Action.TheVariants.{Rehearse, Replay, Serve}
+use Rattle.command_words.specs.declared.action.Action.TheVariants.{Pool, Rehearse, Relay, Replay, Serve}
 use Rattle.command_words.specs.declared.option_name.OptionName.TheVariants.{Connect, Connections}
+use Rattle.command_words.specs.declared.option_name.OptionName.TheVariants.{Sessions}
 use Rattle.command_words.specs.declared.option_name.OptionName.TheVariants.{Content, Count, Depth}
-use Rattle.command_words.specs.declared.option_name.OptionName.TheVariants.{Dictionary, Encoding}
+use Rattle.command_words.specs.declared.option_name.OptionName.TheVariants.{Dictionary}
+use Rattle.command_words.specs.declared.option_name.OptionName.TheVariants.{Encoding as EncodingOption}
 use Rattle.command_words.specs.declared.option_name.OptionName.TheVariants.{Id, Listen, Static, Via, Window}
 use Rattle.command_words.specs.declared.option_name.OptionName.TheVariants.{Mode as ModeOption}
 use Rattle.command_words.specs.declared.option_name.OptionName.TheVariants.{Payload, Replies}
 use Rattle.command_words.specs.declared.option_name.OptionName.TheVariants.{Second, Seed, Session}
 use Rattle.command_words.specs.declared.task.Detail.{Detail, TheVariants.Summary, TheVariants.Whole}
 use Rattle.command_words.specs.declared.task.Origin.TheVariants.{Initiator, Receiver}
-use Rattle.command_words.{specs.Options.Text, specs.Values.is_blank, proofs.ValueFacts.read_or-sound}
-use Rattle.command_words.specs.Requests.{AreLimits, Asked, AskedOfSessions, AskFor, AskForSessions, AskForTask, AskToBuild}
+use Rattle.command_words.{specs.Options.Text, specs.Values.is_blank, specs.Values.IsNumber}
+use Rattle.command_words.proofs.ValueFacts.{read_or-sound}
+use Rattle.command_words.specs.Requests.{AreGood, AreLimits, AreTwo, Asked, AskedOfSessions, AskFor}
+use Rattle.command_words.specs.Requests.{AskForSessions, AskForTask, AskToBuild, content_beside}
+use Rattle.command_words.specs.Requests.{AskToPool, AskToRelay, most_at_once, most_in_turn, relaying_in}
 use Rattle.command_words.specs.Requests.{AskToCall, AskToGenerate, AskToRehearse, AskToReport, AskToServe}
 use Rattle.command_words.specs.Requests.{IsOpening, IsOrigin, most_connections, most_documents, most_window}
-use Rattle.command_words.specs.Requests.{of_sessions, rehearsal, serving_in, usual_content, usual_window, Values}
-use Rattle.command_words.specs.Tasks.{build, call, generate, Opening, Rehearsal, replay, report, serve, Task}
-use Rattle.command_words.proofs.ValueFacts.{kind_in, kinds_read, mode_in, modes, number_in}
+use Rattle.command_words.specs.Requests.{forward_values, of_sessions, QuotaValues, rehearsal, reply_values}
+use Rattle.command_words.specs.Requests.{serving_in, TwoLimits, usual_window, Values}
+use Rattle.command_words.specs.Tasks.{build, call, generate, Opening, pool, Rehearsal, relay, replay}
+use Rattle.command_words.specs.Tasks.{report, serve, Task}
+use Rattle.command_words.specs.Values.{usual_encoding}
+use Rattle.command_words.proofs.ValueFacts.{encoding_in, encodings, mode_in, modes, number_in}
 use Rattle.command_words.proofs.ValueFacts.{number_in-small, numbers, read_or, read_or-complete}
-use Rattle.nbfx_values.specs.declared.session.Kind.TheVariants as kinds
 
 -- ---- limits
 
@@ -95,59 +103,74 @@ good-alone read l e =
 abbrev number_or : ℕ → Option Text → Option ℕ
 number_or usual value = read_or number_in usual value
 
-abbrev limits_in : Values → Option Limits
-limits_in value =
+abbrev limits_in : QuotaValues → Limits → Option Limits
+limits_in given usual =
     option_and_then (λ payload.
     option_and_then (λ depth.
     option_and_then (λ dictionary.
     option_and_then (λ content.
     option_and_then (λ session.
-    good_alone (limits payload depth dictionary content usual_limits.via session))
-    (number_or usual_limits.session (value Session)))
-    (number_or (usual_content payload) (value Content)))
-    (number_or usual_limits.dictionary (value Dictionary)))
-    (number_or usual_limits.depth (value Depth)))
-    (number_or usual_limits.payload (value Payload))
+    good_alone (limits payload depth dictionary content usual.via session))
+    (number_or usual.session given.session))
+    (number_or (content_beside given.payload usual.content payload) given.content))
+    (number_or usual.dictionary given.dictionary))
+    (number_or usual.depth given.depth))
+    (number_or usual.payload given.payload)
 
-limits-sound : (value : Values) (l : Limits) → limits_in value ≡ Some l
-    → AreLimits value l × IsGood l
-limits-sound value l e =
+limits-sound : (given : QuotaValues) (usual l : Limits) → limits_in given usual ≡ Some l
+    → AreLimits given usual l × IsGood l
+limits-sound given usual l e =
     option_and_then_some _ _ l e (λ payload is_payload e.
     option_and_then_some _ _ l e (λ depth is_depth e.
     option_and_then_some _ _ l e (λ dictionary is_dictionary e.
     option_and_then_some _ _ l e (λ content is_content e.
     option_and_then_some _ _ l e (λ session is_session e.
-    let read = limits payload depth dictionary content usual_limits.via session in
+    let read = limits payload depth dictionary content usual.via session in
     let good = good-alone read l e in
-    let are : AreLimits value read = record {
-      payload = read_or-sound numbers usual_limits.payload (value Payload) payload is_payload;
-      depth = read_or-sound numbers usual_limits.depth (value Depth) depth is_depth;
-      dictionary =
-          read_or-sound numbers usual_limits.dictionary (value Dictionary) dictionary is_dictionary;
-      content =
-          read_or-sound numbers (usual_content payload) (value Content) content is_content;
+    let are : AreLimits given usual read = record {
+      payload = read_or-sound numbers usual.payload given.payload payload is_payload;
+      depth = read_or-sound numbers usual.depth given.depth depth is_depth;
+      dictionary = read_or-sound numbers usual.dictionary given.dictionary dictionary is_dictionary;
+      content = read_or-sound numbers (content_beside given.payload usual.content payload)
+          given.content content is_content;
       via = refl;
-      session = read_or-sound numbers usual_limits.session (value Session) session is_session;
+      session = read_or-sound numbers usual.session given.session session is_session;
     } in
-    subst (λ l. AreLimits value l × IsGood l) good.1 (are, good.0))))))
+    subst (λ l. AreLimits given usual l × IsGood l) good.1 (are, good.0))))))
 
-limits-complete : (value : Values) (l : Limits) → AreLimits value l → IsGood l
-    → limits_in value ≡ Some l
-limits-complete value l are good =
+limits-complete : (given : QuotaValues) (usual l : Limits) → AreLimits given usual l → IsGood l
+    → limits_in given usual ≡ Some l
+limits-complete given usual l are good =
     let g = good in
-    let payload = read_or-complete numbers usual_limits.payload (value Payload) l.payload
+    let payload = read_or-complete numbers usual.payload given.payload l.payload
     (omega (arith, g.payload_most)) are.payload in
-    let depth = read_or-complete numbers usual_limits.depth (value Depth) l.depth
+    let depth = read_or-complete numbers usual.depth given.depth l.depth
     (omega (arith, g.depth_most)) are.depth in
-    let dictionary = read_or-complete numbers usual_limits.dictionary (value Dictionary)
+    let dictionary = read_or-complete numbers usual.dictionary given.dictionary
     l.dictionary (omega (arith, g.dictionary_most, g.payload_most)) are.dictionary in
-    let content = read_or-complete numbers (usual_content l.payload) (value Content) l.content
-    (omega (arith, g.content_most)) are.content in
-    let session = read_or-complete numbers usual_limits.session (value Session) l.session
+    let content = read_or-complete numbers (content_beside given.payload usual.content l.payload)
+    given.content l.content (omega (arith, g.content_most)) are.content in
+    let session = read_or-complete numbers usual.session given.session l.session
     (omega (arith, g.session_most)) are.session in
     rw (payload, depth, dictionary, content, session)
     (ap (λ via. good_alone (limits l.payload l.depth l.dictionary l.content via l.session))
     (sym are.via) ∙ rw (good-passes l good) refl)
+
+pub limits-one : (given : QuotaValues) (usual one other : Limits) → AreLimits given usual one
+    → IsGood one → AreLimits given usual other → IsGood other → one ≡ other
+limits-one given usual one other is good is_other good_other =
+    let same : Some one ≡ Some other = sym (limits-complete given usual one is good)
+    ∙ limits-complete given usual other is_other good_other in
+    cc same
+
+abbrev both_limits : Limits → Limits → TwoLimits
+both_limits forward back = record { forward = forward; back = back }
+
+abbrev two_in : Values → Option TwoLimits
+two_in value =
+    option_and_then (λ forward. option_map (both_limits forward)
+    (limits_in (reply_values value) forward))
+    (limits_in (forward_values value) usual_limits)
 
 -- ---- tasks
 
@@ -157,20 +180,21 @@ origin_in (Some text) kind = option_map (λ mode. Receiver mode kind) (mode_in t
 
 abbrev report_in : Detail → Values → Option Task
 report_in detail value =
-    option_and_then (λ kind. option_map (report detail) (origin_in (value Replies) kind))
-    (read_or kind_in kinds.Session (value Encoding))
+    option_and_then (λ encoding. option_map (report detail)
+    (origin_in (value Replies) (encoding_kind encoding)))
+    (read_or encoding_in usual_encoding (value EncodingOption))
 
 abbrev short_alone : Text → Option Text
 short_alone via = if nat_le (length via) usual_limits.via then Some via else None
 
-abbrev opening : Text → Mode → Kind → Opening
-opening via mode kind = record { via = via; mode = mode; kind = kind }
+abbrev opening : Text → Mode → Encoding → Opening
+opening via mode encoding = record { via = via; mode = mode; encoding = encoding }
 
 abbrev opening_in : Values → Option Opening
 opening_in value =
     option_and_then (λ via.
     option_and_then (λ mode.
-    option_map (opening via mode) (read_or kind_in kinds.Session (value Encoding)))
+    option_map (opening via mode) (read_or encoding_in usual_encoding (value EncodingOption)))
     (read_or mode_in Duplex (value ModeOption)))
     (option_and_then short_alone (value Via))
 
@@ -191,6 +215,30 @@ call_in value =
     option_map (λ opens. call connect opens (value Second)) (opening_in value))
     (value Connect)
 
+-- the number of a count that is at least 1
+abbrev counted : ℕ → Option Text → Option ℕ
+counted most value = option_and_then (within_alone 1 most) (number_or most value)
+
+abbrev relay_in : Values → Option Task
+relay_in value =
+    option_and_then (λ listen.
+    option_and_then (λ connect.
+    option_and_then (λ via.
+    option_map (λ n. relay (relaying_in value listen connect via n))
+    (counted most_connections (value Connections)))
+    (option_and_then short_alone (value Via)))
+    (value Connect))
+    (value Listen)
+
+abbrev pool_in : Values → Option Task
+pool_in value =
+    option_and_then (λ listen.
+    option_and_then (λ connections.
+    option_map (λ sessions. pool listen connections sessions (serving_in value))
+    (counted most_in_turn (value Sessions)))
+    (counted most_at_once (value Connections)))
+    (value Listen)
+
 abbrev generate_in : Values → Option Task
 generate_in value =
     option_and_then (λ seed. option_map (generate seed)
@@ -205,6 +253,8 @@ task_in Build value = option_map build (opening_in value)
 task_in Replay value = Some (replay (serving_in value))
 task_in Serve value = serve_in value
 task_in Call value = call_in value
+task_in Relay value = relay_in value
+task_in Pool value = pool_in value
 task_in Gen value = generate_in value
 task_in Rehearse value = None
 
@@ -213,6 +263,28 @@ map-some : {A B : Type 0} (f : A → B) (o : Option A) (y : B) → option_map f 
     → (x : A) × (o ≡ Some x) × (f x ≡ y)
 map-some f None y e = cc e
 map-some f (Some x) y e = (x, refl, cc e)
+
+two-sound : (value : Values) (two : TwoLimits) → two_in value ≡ Some two
+    → AreTwo value two × AreGood two
+two-sound value two e =
+    option_and_then_some _ _ two e (λ forward is_forward e.
+    let back =
+    map-some (both_limits forward) (limits_in (reply_values value) forward) two e in
+    let first = limits-sound (forward_values value) usual_limits forward is_forward in
+    let second = limits-sound (reply_values value) forward back.0 back.1 in
+    let are : AreTwo value (both_limits forward back.0) × AreGood (both_limits forward back.0) = (
+      record { forward = first.0; back = second.0 },
+      record { forward = first.1; back = second.1 },
+    ) in
+    subst (λ two. AreTwo value two × AreGood two) back.2 are)
+
+two-complete : (value : Values) (two : TwoLimits) → AreTwo value two → AreGood two
+    → two_in value ≡ Some two
+two-complete value two are good =
+    rw (
+      limits-complete (forward_values value) usual_limits two.forward are.forward good.forward,
+      limits-complete (reply_values value) two.forward two.back are.back good.back,
+    ) refl
 
 origin-sound : (value : Option Text) (kind : Kind) (origin : Origin)
     → origin_in value kind ≡ Some origin → IsOrigin value kind origin
@@ -231,12 +303,14 @@ origin-complete (Some text) kind origin (mode, named, is) =
 report-sound : (detail : Detail) (value : Values) (task : Task) → report_in detail value ≡ Some task
     → AskToReport detail value task
 report-sound detail value task e =
-    option_and_then_some _ _ task e (λ kind is_kind e.
+    option_and_then_some _ _ task e (λ encoding is_encoding e.
+    let kind = encoding_kind encoding in
     let origin = map-some (report detail) (origin_in (value Replies) kind) task e in
     record {
       origin = origin.0;
-      kind = kind;
-      encoding = read_or-sound kinds_read kinds.Session (value Encoding) kind is_kind;
+      encoding = encoding;
+      encoded =
+          read_or-sound encodings usual_encoding (value EncodingOption) encoding is_encoding;
       replies = origin-sound (value Replies) kind origin.0 origin.1;
       is = sym origin.2;
     })
@@ -244,10 +318,11 @@ report-sound detail value task e =
 report-complete : (detail : Detail) (value : Values) (task : Task) → AskToReport detail value task
     → report_in detail value ≡ Some task
 report-complete detail value task asks =
-    let kind =
-    read_or-complete kinds_read kinds.Session (value Encoding) asks.kind tt asks.encoding in
-    let origin = origin-complete (value Replies) asks.kind asks.origin asks.replies in
-    rw (kind, origin) (ap Some (sym asks.is))
+    let encoding = read_or-complete encodings usual_encoding (value EncodingOption) asks.encoding tt
+    asks.encoded in
+    let origin =
+    origin-complete (value Replies) (encoding_kind asks.encoding) asks.origin asks.replies in
+    rw (encoding, origin) (ap Some (sym asks.is))
 
 short-alone : (text via : Text) → short_alone text ≡ Some via
     → (text ≡ via) × (length via ≤ usual_limits.via)
@@ -266,22 +341,24 @@ opening-sound value opens e =
     option_and_then_some _ _ opens e (λ mode is_mode e.
     option_and_then_some _ _ via is_via (λ text is_text is_short.
     let short = short-alone text via is_short in
-    let read = read_or kind_in kinds.Session (value Encoding) in
-    let kind = map-some (opening via mode) read opens e in
-    let is : IsOpening value (opening via mode kind.0) = record {
+    let read = read_or encoding_in usual_encoding (value EncodingOption) in
+    let encoding = map-some (opening via mode) read opens e in
+    let is : IsOpening value (opening via mode encoding.0) = record {
       via = is_text ∙ ap Some short.0;
       short = short.1;
       mode = read_or-sound modes Duplex (value ModeOption) mode is_mode;
-      kind = read_or-sound kinds_read kinds.Session (value Encoding) kind.0 kind.1;
+      encoded =
+          read_or-sound encodings usual_encoding (value EncodingOption) encoding.0 encoding.1;
     } in
-    subst (IsOpening value) kind.2 is)))
+    subst (IsOpening value) encoding.2 is)))
 
 opening-complete : (value : Values) (opens : Opening) → IsOpening value opens
     → opening_in value ≡ Some opens
 opening-complete value opens is =
     let mode = read_or-complete modes Duplex (value ModeOption) opens.mode tt is.mode in
-    let kind = read_or-complete kinds_read kinds.Session (value Encoding) opens.kind tt is.kind in
-    rw (is.via, le-leb (length opens.via) usual_limits.via is.short, mode, kind) refl
+    let encoding = read_or-complete encodings usual_encoding (value EncodingOption) opens.encoding tt
+    is.encoded in
+    rw (is.via, le-leb (length opens.via) usual_limits.via is.short, mode, encoding) refl
 
 build-sound : (value : Values) (task : Task) → option_map build (opening_in value) ≡ Some task
     → AskToBuild value task
@@ -358,6 +435,88 @@ call-complete : (value : Values) (task : Task) → AskToCall value task → call
 call-complete value task asks =
     rw (asks.place, opening-complete value asks.opening asks.opens) (ap Some (sym asks.is))
 
+-- a count that is given, or the most
+counted-is : (most : ℕ) (value : Option Text) (n : ℕ) → counted most value ≡ Some n
+    → IsNumber value most n × (1 ≤ n) × (n ≤ most)
+counted-is most value n e = option_and_then_some _ _ n e (λ m is_m e.
+    let within = within-alone 1 most m n e in (
+      read_or-sound numbers most value n (is_m ∙ ap Some within.0),
+      within.1,
+      within.2,
+    ))
+
+is-counted : (most : ℕ) → most < 2 ^ 64 → (value : Option Text) (n : ℕ) → IsNumber value most n
+    → 1 ≤ n → n ≤ most → counted most value ≡ Some n
+is-counted most small value n is least great =
+    rw (read_or-complete numbers most value n (omega (arith, small, great)) is)
+    (within-passes 1 most n least great)
+
+relay-sound : (value : Values) (task : Task) → relay_in value ≡ Some task → AskToRelay value task
+relay-sound value task e =
+    option_and_then_some _ _ task e (λ listen is_listen e.
+    option_and_then_some _ _ task e (λ connect is_connect e.
+    option_and_then_some _ _ task e (λ via is_via e.
+    option_and_then_some _ _ via is_via (λ text is_text is_short.
+    let short = short-alone text via is_short in
+    let made = map-some (λ n. relay (relaying_in value listen connect via n)) _ task e in
+    let number = counted-is most_connections (value Connections) made.0 made.1 in
+    record {
+      listen = listen;
+      connect = connect;
+      via = via;
+      connections = made.0;
+      place = is_listen;
+      server = is_connect;
+      opened = is_text ∙ ap Some short.0;
+      short = short.1;
+      number = number.0;
+      least = number.1;
+      most = number.2;
+      is = sym made.2;
+    }))))
+
+relay-complete : (value : Values) (task : Task) → AskToRelay value task
+    → relay_in value ≡ Some task
+relay-complete value task asks =
+    let number = is-counted most_connections (omega arith) (value Connections) asks.connections
+    asks.number asks.least asks.most in
+    rw (
+      asks.place,
+      asks.server,
+      asks.opened,
+      le-leb (length asks.via) usual_limits.via asks.short,
+      number,
+    ) (ap Some (sym asks.is))
+
+pool-sound : (value : Values) (task : Task) → pool_in value ≡ Some task → AskToPool value task
+pool-sound value task e =
+    option_and_then_some _ _ task e (λ listen is_listen e.
+    option_and_then_some _ _ task e (λ connections is_connections e.
+    let made = map-some (λ n. pool listen connections n (serving_in value)) _ task e in
+    let number = counted-is most_at_once (value Connections) connections is_connections in
+    let turns = counted-is most_in_turn (value Sessions) made.0 made.1 in
+    record {
+      listen = listen;
+      connections = connections;
+      sessions = made.0;
+      place = is_listen;
+      number = number.0;
+      least = number.1;
+      most = number.2;
+      turns = turns.0;
+      least_turns = turns.1;
+      most_turns = turns.2;
+      is = sym made.2;
+    }))
+
+pool-complete : (value : Values) (task : Task) → AskToPool value task → pool_in value ≡ Some task
+pool-complete value task asks =
+    let number = is-counted most_at_once (omega arith) (value Connections) asks.connections
+    asks.number asks.least asks.most in
+    let turns = is-counted most_in_turn (omega arith) (value Sessions) asks.sessions asks.turns
+    asks.least_turns asks.most_turns in
+    rw (asks.place, number, turns) (ap Some (sym asks.is))
+
 -- a number that has to be there
 number-given : (value : Option Text) (n : ℕ) → option_and_then number_in value ≡ Some n
     → (value ≡ Some (decimal n)) × (n < 2 ^ 64)
@@ -404,6 +563,8 @@ task-sound Replay value task e =
     sym is
 task-sound Serve value task e = serve-sound value task e
 task-sound Call value task e = call-sound value task e
+task-sound Relay value task e = relay-sound value task e
+task-sound Pool value task e = pool-sound value task e
 task-sound Gen value task e = generate-sound value task e
 task-sound Rehearse value task e = cc e
 
@@ -415,6 +576,8 @@ task-complete Build value task asks = build-complete value task asks
 task-complete Replay value task asks = ap Some (sym asks)
 task-complete Serve value task asks = serve-complete value task asks
 task-complete Call value task asks = call-complete value task asks
+task-complete Relay value task asks = relay-complete value task asks
+task-complete Pool value task asks = pool-complete value task asks
 task-complete Gen value task asks = generate-complete value task asks
 task-complete Rehearse value task asks = absurd asks
 
@@ -471,14 +634,14 @@ rehearsal-complete value asked asks =
 
 -- ---- requests
 
-abbrev asked : Text → Limits → Task → AskedOfSessions
+abbrev asked : Text → TwoLimits → Task → AskedOfSessions
 asked statics limits task = record { statics = statics; limits = limits; task = task }
 
 abbrev session_in : Action → Values → Option AskedOfSessions
 session_in action value =
     option_and_then (λ statics.
     option_and_then (λ limits. option_map (asked statics limits) (task_in action value))
-    (limits_in value))
+    (two_in value))
     (value Static)
 
 session-sound : (action : Action) (value : Values) (asks : AskedOfSessions)
@@ -487,7 +650,7 @@ session-sound action value asks e =
     option_and_then_some _ _ asks e (λ statics is_statics e.
     option_and_then_some _ _ asks e (λ limits is_limits e.
     let task = map-some (asked statics limits) (task_in action value) asks e in
-    let set = limits-sound value limits is_limits in
+    let set = two-sound value limits is_limits in
     let asks_for : AskForSessions action value (asked statics limits task.0) = record {
       named = is_statics;
       numbers = set.0;
@@ -501,7 +664,7 @@ session-complete : (action : Action) (value : Values) (asks : AskedOfSessions)
 session-complete action value asks is =
     rw (
       is.named,
-      limits-complete value asks.limits is.numbers is.good,
+      two-complete value asks.limits is.numbers is.good,
       task-complete action value asks.task is.task,
     ) refl
 

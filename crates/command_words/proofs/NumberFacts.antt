@@ -8,13 +8,11 @@ use Rattle.std.proofs.lemmas.Fmt.{decimal_is_IsNumeral, first_decimal, parse-dec
 use Rattle.std.proofs.lemmas.Str.Parse.{IsNumeralModel, digit_at, numerals_by_value, parse_plain}
 use Rattle.std.specs.{Fmt.digits, Result.result_ok}
 use Rattle.std.specs.Str.Parse.{AllDigits, ParsesUnsigned, digits_value}
-use Rattle.{clap.proofs.WalkLemmas.both, nbfx_values.specs.declared.session.Kind.TheVariants.Plain}
-use Rattle.nbfx_values.specs.Limits.{IsGood, Limits, limits, usual_limits}
-use Rattle.command_words.specs.{declared.option_name.OptionName.OptionName, Options.Text}
-use Rattle.command_words.specs.declared.option_name.OptionName.TheVariants.{Content, Depth, Session}
-use Rattle.command_words.specs.declared.option_name.OptionName.TheVariants.{Dictionary, Payload}
-use Rattle.command_words.specs.Requests.{AreLimits, usual_content}
-use Rattle.command_words.specs.{Values.IsNumber, Values.kind_text, WordAnswers.begins_plain}
+use Rattle.{clap.proofs.WalkLemmas.both, nbfx_values.specs.declared.session.Encoding.TheVariants.Known}
+use Rattle.nbfx_values.specs.Limits.{IsGood, Limits, limits}
+use Rattle.command_words.specs.{Options.Text, Requests.AreLimits, Requests.content_beside}
+use Rattle.command_words.specs.{Requests.QuotaValues, Values.encoding_text, Values.IsNumber}
+use Rattle.command_words.specs.{WordAnswers.begins_plain}
 use Rattle.nbfx_values.specs.declared.session.Kind.TheVariants as kinds
 
 -- ---- decimal digits
@@ -96,53 +94,52 @@ small-none value usual m (Err e) converts fits is = λ n small is_n.
     converts (subst (λ k. k < 2 ^ 32) (IsNumber-unique value usual n m (omega arith) fits is_n is)
     small)
 
--- the payload of good limits that values set is the number read
-pub payload-same : (value : OptionName → Option Text) (l : Limits) (payload : ℕ) → AreLimits value l
-    → IsGood l → payload < 2 ^ 64
-    → IsNumber (value Payload) usual_limits.payload payload → payload ≡ l.payload
-payload-same value l payload are good small is =
-    IsNumber-unique (value Payload) usual_limits.payload payload l.payload small
-    (omega (arith, good.payload_most)) is are.payload
+module _ (given : QuotaValues) (usual l : Limits) (are : AreLimits given usual l) (good : IsGood l)
+  where
+    -- the payload of good limits that values set is the number read
+    pub payload-same : (payload : ℕ) → payload < 2 ^ 64
+        → IsNumber given.payload usual.payload payload → payload ≡ l.payload
+    payload-same payload small is = IsNumber-unique given.payload usual.payload payload l.payload small
+        (omega (arith, good.payload_most)) is are.payload
 
--- good limits that values set are the numbers read
-pub limits-same : (value : OptionName → Option Text) (l : Limits)
-    (payload depth dictionary content session : ℕ) → AreLimits value l → IsGood l
-    → payload < 2 ^ 64 → depth < 2 ^ 64 → dictionary < 2 ^ 64 → content < 2 ^ 64 → session < 2 ^ 64
-    → IsNumber (value Payload) usual_limits.payload payload → IsNumber (value Depth)
-    usual_limits.depth depth
-    → IsNumber (value Dictionary) usual_limits.dictionary dictionary → IsNumber (value Content)
-    (usual_content payload) content
-    → IsNumber (value Session) usual_limits.session session → limits payload depth dictionary
-    content usual_limits.via session ≡ l
-limits-same value l payload depth dictionary content session are good small_p small_d small_di
-    small_c small_s is_p is_d is_di is_c is_s =
-    let p = payload-same value l payload are good small_p is_p in
-    let d = IsNumber-unique (value Depth) usual_limits.depth depth l.depth small_d
-    (omega (arith, good.depth_most)) is_d are.depth in
-    let di = IsNumber-unique (value Dictionary) usual_limits.dictionary dictionary l.dictionary
-    small_di (omega (arith, good.dictionary_most, good.payload_most)) is_di are.dictionary in
-    let c = IsNumber-unique (value Content) (usual_content payload) content l.content small_c
-    (omega (arith, good.content_most)) is_c
-    (subst (λ n. IsNumber (value Content) (usual_content n) l.content) (sym p) are.content) in
-    let s = IsNumber-unique (value Session) usual_limits.session session l.session small_s
-    (omega (arith, good.session_most)) is_s are.session in
-    λ i. limits (p i) (d i) (di i) (c i) (sym are.via i) (s i)
+    -- good limits that values set are the numbers read
+    pub limits-same : (payload depth dictionary content session : ℕ) → payload < 2 ^ 64
+        → depth < 2 ^ 64 → dictionary < 2 ^ 64 → content < 2 ^ 64 → session < 2 ^ 64
+        → IsNumber given.payload usual.payload payload → IsNumber given.depth usual.depth depth
+        → IsNumber given.dictionary usual.dictionary dictionary
+        → IsNumber given.content (content_beside given.payload usual.content payload) content
+        → IsNumber given.session usual.session session
+        → limits payload depth dictionary content usual.via session ≡ l
+    limits-same payload depth dictionary content session small_p small_d small_di small_c small_s
+        is_p is_d is_di is_c is_s =
+        let p = payload-same payload small_p is_p in
+        let d = IsNumber-unique given.depth usual.depth depth l.depth small_d
+        (omega (arith, good.depth_most)) is_d are.depth in
+        let di = IsNumber-unique given.dictionary usual.dictionary dictionary l.dictionary small_di
+        (omega (arith, good.dictionary_most, good.payload_most)) is_di are.dictionary in
+        let beside : ℕ → ℕ = content_beside given.payload usual.content in
+        let c = IsNumber-unique given.content (beside payload) content l.content small_c
+        (omega (arith, good.content_most)) is_c
+        (subst (λ n. IsNumber given.content (beside n) l.content) (sym p) are.content) in
+        let s = IsNumber-unique given.session usual.session session l.session small_s
+        (omega (arith, good.session_most)) is_s are.session in
+        λ i. limits (p i) (d i) (di i) (c i) (sym are.via i) (s i)
 
 -- numbers that are no good limits
-pub none-good : {Q : Type 0} (r : Option Q) (value : OptionName → Option Text) (read : Limits)
+pub none-good : {Q : Type 0} (r : Option Q) (given : QuotaValues) (usual read : Limits)
     → (IsGood read → IsSome r)
-    → ((l : Limits) → AreLimits value l → IsGood l → read ≡ l)
-    → IfNone r ((l : Limits) → AreLimits value l → ¬ IsGood l)
-none-good (Some quotas) value read found same = tt
-none-good None value read found same = λ l are good. let some = found
+    → ((l : Limits) → AreLimits given usual l → IsGood l → read ≡ l)
+    → IfNone r ((l : Limits) → AreLimits given usual l → ¬ IsGood l)
+none-good (Some quotas) given usual read found same = tt
+none-good None given usual read found same = λ l are good. let some = found
     (subst IsGood (sym (same l are good)) good) in cc some
 
 -- ---- encodings
 
-pub seven : kind_text Plain ≡ codes "7"
+pub seven : encoding_text (Known kinds.Plain) ≡ codes "7"
 unfolding digits
 seven = refl
 
-pub eight : kind_text kinds.Session ≡ codes "8"
+pub eight : encoding_text (Known kinds.Session) ≡ codes "8"
 unfolding digits
 eight = refl

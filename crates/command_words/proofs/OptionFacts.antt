@@ -11,6 +11,9 @@ use Rattle.command_words.specs.declared.option_name.OptionName.TheVariants.{Coun
 use Rattle.command_words.specs.declared.option_name.OptionName.TheVariants.{Dictionary, Encoding}
 use Rattle.command_words.specs.declared.option_name.OptionName.TheVariants.{Endpoint, Id, Listen, Mode}
 use Rattle.command_words.specs.declared.option_name.OptionName.TheVariants.{Payload, Replies}
+use Rattle.command_words.specs.declared.option_name.OptionName.TheVariants.{BackStatic, Sessions}
+use Rattle.command_words.specs.declared.option_name.OptionName.TheVariants.{ReplyContent, ReplyDepth}
+use Rattle.command_words.specs.declared.option_name.OptionName.TheVariants.{ReplyDictionary, ReplyPayload}
 use Rattle.command_words.specs.declared.option_name.OptionName.TheVariants.{Second, Seed, Session}
 use Rattle.command_words.specs.declared.option_name.OptionName.TheVariants.{Static, Via, Window}
 use Rattle.command_words.specs.Options.{Given, given_for, is_empty, is_option, IsOnce, option_text}
@@ -29,6 +32,8 @@ named text =
     else if bytes_eq text (codes "connections") then Connections
     else if bytes_eq text (codes "connect") then Connect
     else if bytes_eq text (codes "second") then Second
+    else if bytes_eq text (codes "back-static") then BackStatic
+    else if bytes_eq text (codes "sessions") then Sessions
     else if bytes_eq text (codes "seed") then Seed
     else if bytes_eq text (codes "count") then Count
     else if bytes_eq text (codes "id") then Id
@@ -39,7 +44,11 @@ named text =
     else if bytes_eq text (codes "depth") then Depth
     else if bytes_eq text (codes "dictionary") then Dictionary
     else if bytes_eq text (codes "content") then Content
-    else Session
+    else if bytes_eq text (codes "session") then Session
+    else if bytes_eq text (codes "reply-payload") then ReplyPayload
+    else if bytes_eq text (codes "reply-depth") then ReplyDepth
+    else if bytes_eq text (codes "reply-dictionary") then ReplyDictionary
+    else ReplyContent
 
 pub named-option_text : (option : OptionName) → named (option_text option) ≡ option
 named-option_text Static = refl
@@ -51,6 +60,8 @@ named-option_text Listen = refl
 named-option_text Connections = refl
 named-option_text Connect = refl
 named-option_text Second = refl
+named-option_text BackStatic = refl
+named-option_text Sessions = refl
 named-option_text Seed = refl
 named-option_text Count = refl
 named-option_text Id = refl
@@ -62,6 +73,10 @@ named-option_text Depth = refl
 named-option_text Dictionary = refl
 named-option_text Content = refl
 named-option_text Session = refl
+named-option_text ReplyPayload = refl
+named-option_text ReplyDepth = refl
+named-option_text ReplyDictionary = refl
+named-option_text ReplyContent = refl
 
 pub option_text-injective : (one other : OptionName) → option_text one ≡ option_text other → one
     ≡ other

@@ -7,7 +7,7 @@ use Rattle.std.{proofs.lemmas.Slice.Eq.bytes_eq-Decides, specs.List.list_all, sp
 use Rattle.{clap.proofs.WalkLemmas.both, command_words.proofs.OptionFacts.bytes_eq-same}
 use Rattle.command_words.specs.{declared.action.Action.Action, Requests.Asked, Requests.IsRequest}
 use Rattle.command_words.specs.declared.action.Action.TheVariants.{Build, Call, Check, Dump, Gen}
-use Rattle.command_words.specs.declared.action.Action.TheVariants.{Rehearse, Replay, Serve}
+use Rattle.command_words.specs.declared.action.Action.TheVariants.{Pool, Rehearse, Relay, Replay, Serve}
 use Rattle.command_words.specs.Commands.{options_of, word_of}
 use Rattle.command_words.specs.Options.{Given, given_for, is_empty, is_option, IsOnce, Text}
 use Rattle.command_words.proofs.AskingFacts.{asked-complete, asked-sound, asked_in}
@@ -24,6 +24,8 @@ named text =
     else if bytes_eq text (codes "replay") then Replay
     else if bytes_eq text (codes "serve") then Serve
     else if bytes_eq text (codes "call") then Call
+    else if bytes_eq text (codes "relay") then Relay
+    else if bytes_eq text (codes "pool") then Pool
     else if bytes_eq text (codes "gen") then Gen else Rehearse
 
 named-word_of : (action : Action) → named (word_of action) ≡ action
@@ -33,6 +35,8 @@ named-word_of Build = refl
 named-word_of Replay = refl
 named-word_of Serve = refl
 named-word_of Call = refl
+named-word_of Relay = refl
+named-word_of Pool = refl
 named-word_of Gen = refl
 named-word_of Rehearse = refl
 

@@ -4,10 +4,11 @@ use Rattle.std.proofs.Common.{◌≡◌, ℕ, ◌^◌, ◌<◌, if◌then◌else
 use Rattle.std.proofs.Common.{Option, bytes_eq, sym, refl, ap, ◌∙◌, subst, inl, inr, ltb-true}
 use Rattle.std.{proofs.Common.lt-ltb, specs.Fmt.digits, specs.Str.Parse.digits_value}
 use Rattle.std.proofs.lemmas.{Bool.cases_Bool, Fmt.decimal_is_IsNumeral, Slice.Eq.bytes_eq-Decides}
-use Rattle.nbfx_values.specs.declared.session.{Kind.Kind, Mode.Mode}
+use Rattle.nbfx_values.specs.declared.session.{Encoding.Encoding, Mode.Mode}
+use Rattle.nbfx_values.specs.declared.session.Encoding.TheVariants.{Extensible, Known}
 use Rattle.nbfx_values.specs.declared.session.Mode.TheVariants.{Duplex, Simplex, Singleton}
 use Rattle.command_words.{specs.Options.Text, proofs.OptionFacts.bytes_eq-same}
-use Rattle.command_words.specs.Values.{IsKind, IsWritten, kind_text, mode_name}
+use Rattle.command_words.specs.Values.{encoding_text, IsEncoding, IsWritten, mode_name, usual_encoding}
 use Rattle.nbfx_values.specs.declared.session.Kind.TheVariants as kinds
 
 -- what is guessed, where a text writes it
@@ -90,21 +91,28 @@ modes = record {
   complete = mode_in-complete;
 }
 
-abbrev guessed_kind : Text → Kind
-guessed_kind text = if bytes_eq text (codes "7") then kinds.Plain else kinds.Session
+abbrev guessed_encoding : Text → Encoding
+guessed_encoding text =
+    if bytes_eq text (codes "7") then Known kinds.Plain
+    else if bytes_eq text (codes "msbin1") then Extensible kinds.Plain
+    else if bytes_eq text (codes "msbinsession1") then Extensible kinds.Session
+    else Known kinds.Session
 
-abbrev pub kind_in : Text → Option Kind
-kind_in text = checked kind_text text (guessed_kind text)
+abbrev pub encoding_in : Text → Option Encoding
+encoding_in text = checked encoding_text text (guessed_encoding text)
 
-kind_in-complete : (kind : Kind) → Unit {0} → kind_in (kind_text kind) ≡ Some kind
+encoding_in-complete : (encoding : Encoding) → Unit {0}
+    → encoding_in (encoding_text encoding) ≡ Some encoding
 unfolding digits
-kind_in-complete kinds.Plain _ = refl
-kind_in-complete kinds.Session _ = refl
+encoding_in-complete (Known kinds.Plain) _ = refl
+encoding_in-complete (Known kinds.Session) _ = refl
+encoding_in-complete (Extensible kinds.Plain) _ = refl
+encoding_in-complete (Extensible kinds.Session) _ = refl
 
-pub kinds_read : Reads Kind (λ _. Unit {0}) kind_text kind_in
-kinds_read = record {
-  sound = λ text kind e. checked-sound kind_text text (guessed_kind text) kind e;
-  complete = kind_in-complete;
+pub encodings : Reads Encoding (λ _. Unit {0}) encoding_text encoding_in
+encodings = record {
+  sound = λ text encoding e. checked-sound encoding_text text (guessed_encoding text) encoding e;
+  complete = encoding_in-complete;
 }
 
 -- ---- values that there may be
@@ -125,10 +133,10 @@ module _ {A : Type 0} {P : A → Type 0} {written : A → Text} {read : Text →
   read_or-complete None x p is = ap Some (sym is)
   read_or-complete (Some text) x p is = ap read is ∙ reads.complete x p
 
-pub kind-one : (value : Option Text) (one other : Kind) → IsKind value one → IsKind value other
-    → one ≡ other
-kind-one value one other is is_other =
+pub encoding-one : (value : Option Text) (one other : Encoding) → IsEncoding value one
+    → IsEncoding value other → one ≡ other
+encoding-one value one other is is_other =
     let same : Some one ≡ Some other =
-    sym (read_or-complete kinds_read kinds.Session value one tt is)
-    ∙ read_or-complete kinds_read kinds.Session value other tt is_other in
+    sym (read_or-complete encodings usual_encoding value one tt is)
+    ∙ read_or-complete encodings usual_encoding value other tt is_other in
     cc same

@@ -14,6 +14,9 @@ use Rattle.command_words.specs.declared.option_name.OptionName.TheVariants.{Coun
 use Rattle.command_words.specs.declared.option_name.OptionName.TheVariants.{Dictionary, Encoding}
 use Rattle.command_words.specs.declared.option_name.OptionName.TheVariants.{Endpoint, Id, Listen, Mode}
 use Rattle.command_words.specs.declared.option_name.OptionName.TheVariants.{Payload, Replies}
+use Rattle.command_words.specs.declared.option_name.OptionName.TheVariants.{BackStatic, Sessions}
+use Rattle.command_words.specs.declared.option_name.OptionName.TheVariants.{ReplyContent, ReplyDepth}
+use Rattle.command_words.specs.declared.option_name.OptionName.TheVariants.{ReplyDictionary, ReplyPayload}
 use Rattle.command_words.specs.declared.option_name.OptionName.TheVariants.{Second, Seed, Session}
 use Rattle.command_words.specs.declared.option_name.OptionName.TheVariants.{Static, Via, Window}
 use Rattle.command_words.specs.Options.{begins_with_hyphen, dashed, option_text, Text}
@@ -31,6 +34,8 @@ long_of-dashed Listen = refl
 long_of-dashed Connections = refl
 long_of-dashed Connect = refl
 long_of-dashed Second = refl
+long_of-dashed BackStatic = refl
+long_of-dashed Sessions = refl
 long_of-dashed Seed = refl
 long_of-dashed Count = refl
 long_of-dashed Id = refl
@@ -42,6 +47,10 @@ long_of-dashed Depth = refl
 long_of-dashed Dictionary = refl
 long_of-dashed Content = refl
 long_of-dashed Session = refl
+long_of-dashed ReplyPayload = refl
+long_of-dashed ReplyDepth = refl
+long_of-dashed ReplyDictionary = refl
+long_of-dashed ReplyContent = refl
 
 pub long_of-joined : (option : OptionName) (value : Text)
     → long_of (dashed option ++ (codes "=" ++ value)) ≡ Some (option_text option, Some value)
@@ -54,6 +63,8 @@ long_of-joined Listen value = refl
 long_of-joined Connections value = refl
 long_of-joined Connect value = refl
 long_of-joined Second value = refl
+long_of-joined BackStatic value = refl
+long_of-joined Sessions value = refl
 long_of-joined Seed value = refl
 long_of-joined Count value = refl
 long_of-joined Id value = refl
@@ -65,6 +76,10 @@ long_of-joined Depth value = refl
 long_of-joined Dictionary value = refl
 long_of-joined Content value = refl
 long_of-joined Session value = refl
+long_of-joined ReplyPayload value = refl
+long_of-joined ReplyDepth value = refl
+long_of-joined ReplyDictionary value = refl
+long_of-joined ReplyContent value = refl
 
 -- a word with a name is no pair of hyphens
 pub long-not_pair : (word : Text) (long : Text × Option Text) → long_of word ≡ Some long

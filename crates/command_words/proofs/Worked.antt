@@ -3,7 +3,9 @@
 use Rattle.std.proofs.Common.{◌≡◌, ℕ, List, [], ◌∷◌, ◌++◌, map, if◌then◌else◌, ◌==◌, Some, None}
 use Rattle.std.proofs.Common.{codes, Option, sym, refl, ◌∙◌}
 use Rattle.std.specs.{Fmt.digits, List.AllByRecursion}
-use Rattle.nbfx_values.specs.declared.session.Kind.{Kind, TheVariants.Plain, TheVariants.Session}
+use Rattle.nbfx_values.specs.declared.session.Encoding.{Encoding, TheVariants.Extensible}
+use Rattle.nbfx_values.specs.declared.session.Encoding.TheVariants.{Known}
+use Rattle.nbfx_values.specs.declared.session.Kind.TheVariants.{Plain, Session}
 use Rattle.nbfx_values.specs.declared.session.Mode.{Mode}
 use Rattle.nbfx_values.specs.declared.session.Mode.TheVariants.{Duplex, Simplex, Singleton}
 use Rattle.nbfx_values.specs.Limits.{Limits, limits, usual_limits}
@@ -11,8 +13,9 @@ use Rattle.command_words.specs.declared.task.Detail.{Detail, TheVariants.Summary
 use Rattle.command_words.specs.{declared.task.Origin.Origin, Options.Text}
 use Rattle.command_words.specs.declared.task.Origin.TheVariants.{Initiator, Receiver}
 use Rattle.command_words.specs.{Requests.Asked, Requests.IsRequest, Tasks.Serving, Tasks.Task}
-use Rattle.command_words.specs.Requests.{of_sessions, rehearsal}
-use Rattle.command_words.specs.Tasks.{build, call, generate, Opening, replay, report, serve}
+use Rattle.command_words.specs.Requests.{of_sessions, rehearsal, TwoLimits}
+use Rattle.command_words.specs.Tasks.{build, call, generate, Opening, pool, relay, replay, report}
+use Rattle.command_words.specs.Tasks.{serve}
 use Rattle.command_words.proofs.RequestFacts.{request-complete, request-sound, request_in}
 
 -- the words of a line, the first of which has begun
@@ -56,13 +59,20 @@ are-refused (line ∷ lines) same =
 
 -- ---- requests
 
-abbrev asks : Text → Limits → Task → Asked
+abbrev asks : Text → TwoLimits → Task → Asked
 asks statics limits task =
     of_sessions (record { statics = statics; limits = limits; task = task })
 
+-- one set of limits for both directions
+abbrev twice : Limits → TwoLimits
+twice limits = record { forward = limits; back = limits }
+
+abbrev usual_two : TwoLimits
+usual_two = twice usual_limits
+
 -- with the static strings of the file S
 abbrev within : Limits → Detail → Origin → Asked
-within limits detail origin = asks (codes "S") limits (report detail origin)
+within limits detail origin = asks (codes "S") (twice limits) (report detail origin)
 
 abbrev usual : Detail → Origin → Asked
 usual = within usual_limits
@@ -73,9 +83,9 @@ spelled =
     (codes "nettcp check --static S", usual Summary Initiator) ∷
     (codes " check --static=S", usual Summary Initiator) ∷
     (codes "nettcp dump --static=S", usual Whole Initiator) ∷
-    (codes "x dump --static=a=b", asks (codes "a=b") usual_limits (report Whole Initiator)) ∷
-    (codes "x dump --static=-x", asks (codes "-x") usual_limits (report Whole Initiator)) ∷
-    (codes "x dump --static=--", asks (codes "--") usual_limits (report Whole Initiator)) ∷ (
+    (codes "x dump --static=a=b", asks (codes "a=b") usual_two (report Whole Initiator)) ∷
+    (codes "x dump --static=-x", asks (codes "-x") usual_two (report Whole Initiator)) ∷
+    (codes "x dump --static=--", asks (codes "--") usual_two (report Whole Initiator)) ∷ (
       codes "x check --session 1 --static S",
       within (limits 65536 32 2048 262144 2048 1) Summary Initiator,
     ) ∷ (
@@ -128,6 +138,48 @@ are_numbers : AreRequests numbers
 unfolding digits
 are_numbers = are-requests numbers refl
 
+-- quotas of replies, which are those of the other direction where they aren't given
+abbrev both_ways : Limits → Limits → Asked
+both_ways forward back =
+    asks (codes "S") (record { forward = forward; back = back }) (replay (record {
+      endpoint = None;
+      actions = None;
+    }))
+
+abbrev reply_numbers : List Row
+reply_numbers = (
+  codes "x replay --static S --reply-payload 4096",
+  both_ways usual_limits (limits 4096 32 2048 262144 2048 281474976710656),
+) ∷ (
+  codes "x replay --static S --reply-payload=16777216 --payload=4096",
+  both_ways (limits 4096 32 2048 262144 2048 281474976710656)
+      (limits 16777216 32 2048 67108864 2048 281474976710656),
+) ∷ (
+  codes "x replay --static S --reply-depth 1024 --session 9",
+  both_ways (limits 65536 32 2048 262144 2048 9) (limits 65536 1024 2048 262144 2048 9),
+) ∷ (
+  codes "x replay --reply-dictionary 0 --static S --depth 8",
+  both_ways (limits 65536 8 2048 262144 2048 281474976710656)
+      (limits 65536 8 0 262144 2048 281474976710656),
+) ∷ (
+  codes "x replay --static S --reply-content=65536 --payload 4096 --content 5000 --reply-payload 4097",
+  both_ways (limits 4096 32 2048 5000 2048 281474976710656)
+      (limits 4097 32 2048 65536 2048 281474976710656),
+) ∷ (
+  codes "x replay --static S --payload 131072",
+  both_ways (limits 131072 32 2048 524288 2048 281474976710656)
+      (limits 131072 32 2048 524288 2048 281474976710656),
+) ∷ (
+  codes "x replay --static S --content 70000 --reply-dictionary 1",
+  both_ways (limits 65536 32 2048 70000 2048 281474976710656)
+      (limits 65536 32 1 70000 2048 281474976710656),
+) ∷
+    []
+
+are_reply_numbers : AreRequests reply_numbers
+unfolding digits
+are_reply_numbers = are-requests reply_numbers refl
+
 -- whose stream it is
 abbrev replies : List Row
 replies =
@@ -139,6 +191,12 @@ replies =
     ) ∷ (
       codes "x check --static S --replies singleton --encoding=8",
       usual Summary (Receiver Singleton Session),
+    ) ∷ (
+      codes "x dump --static S --replies duplex --encoding msbin1",
+      usual Whole (Receiver Duplex Plain),
+    ) ∷ (
+      codes "x check --encoding=msbinsession1 --static S --replies simplex",
+      usual Summary (Receiver Simplex Session),
     ) ∷
     (codes "x check --static S --encoding 7", usual Summary Initiator) ∷
     (codes "x dump --static S --encoding 8", usual Whole Initiator) ∷
@@ -149,23 +207,29 @@ unfolding digits
 are_replies = are-requests replies refl
 
 -- the session that documents are written as
-abbrev opening : Text → Mode → Kind → Opening
-opening via mode kind = record { via = via; mode = mode; kind = kind }
+abbrev opening : Text → Mode → Encoding → Opening
+opening via mode encoding = record { via = via; mode = mode; encoding = encoding }
 
-abbrev written : Text → Mode → Kind → Asked
-written via mode kind = asks (codes "S") usual_limits (build (opening via mode kind))
+abbrev written : Text → Mode → Encoding → Asked
+written via mode encoding = asks (codes "S") usual_two (build (opening via mode encoding))
 
 abbrev builds : List Row
 builds = (
   codes "x build --static S --via net.tcp://h/e",
-  written (codes "net.tcp://h/e") Duplex Session,
+  written (codes "net.tcp://h/e") Duplex (Known Session),
 ) ∷
-    (codes "x build --via=a=b --mode simplex --static=S", written (codes "a=b") Simplex Session) ∷ (
+    (codes "x build --via=a=b --mode simplex --static=S", written (codes "a=b") Simplex (Known Session)) ∷ (
       codes "x build --encoding 7 --static S --mode=singleton --via V",
-      written (codes "V") Singleton Plain,
+      written (codes "V") Singleton (Known Plain),
     ) ∷ (
       codes "x build --encoding=8 --via=- --mode=duplex --static S",
-      written (codes "-") Duplex Session,
+      written (codes "-") Duplex (Known Session),
+    ) ∷ (
+      codes "x build --static S --via V --encoding msbin1",
+      written (codes "V") Duplex (Extensible Plain),
+    ) ∷ (
+      codes "x build --encoding=msbinsession1 --via V --static S --mode singleton",
+      written (codes "V") Singleton (Extensible Session),
     ) ∷
     []
 
@@ -178,7 +242,7 @@ abbrev serving : Option Text → Option Text → Serving
 serving endpoint actions = record { endpoint = endpoint; actions = actions }
 
 abbrev replayed : Option Text → Option Text → Asked
-replayed endpoint actions = asks (codes "S") usual_limits (replay (serving endpoint actions))
+replayed endpoint actions = asks (codes "S") usual_two (replay (serving endpoint actions))
 
 abbrev replays : List Row
 replays =
@@ -199,7 +263,7 @@ are_replays = are-requests replays refl
 -- how many connections are answered, at the place P
 abbrev served : ℕ → Option Text → Option Text → Asked
 served connections endpoint actions =
-    asks (codes "S") usual_limits (serve (codes "P") connections (serving endpoint actions))
+    asks (codes "S") usual_two (serve (codes "P") connections (serving endpoint actions))
 
 abbrev serves : List Row
 serves =
@@ -216,21 +280,24 @@ unfolding digits
 are_serves = are-requests serves refl
 
 -- a server that is called at the place P
-abbrev called : Text → Mode → Kind → Option Text → Asked
-called via mode kind second =
-    asks (codes "S") usual_limits (call (codes "P") (opening via mode kind) second)
+abbrev called : Text → Mode → Encoding → Option Text → Asked
+called via mode encoding second =
+    asks (codes "S") usual_two (call (codes "P") (opening via mode encoding) second)
 
 abbrev calls : List Row
 calls =
-    (codes "x call --static S --connect P --via V", called (codes "V") Duplex Session None) ∷ (
+    (codes "x call --static S --connect P --via V", called (codes "V") Duplex (Known Session) None) ∷ (
       codes "x call --via=V --second=B --connect=P --static=S",
-      called (codes "V") Duplex Session (Some (codes "B")),
+      called (codes "V") Duplex (Known Session) (Some (codes "B")),
     ) ∷ (
       codes "x call --static S --connect P --via V --mode singleton --encoding 7",
-      called (codes "V") Singleton Plain None,
+      called (codes "V") Singleton (Known Plain) None,
     ) ∷ (
       codes "x call --mode=simplex --static S --second B --encoding=8 --connect P --via V",
-      called (codes "V") Simplex Session (Some (codes "B")),
+      called (codes "V") Simplex (Known Session) (Some (codes "B")),
+    ) ∷ (
+      codes "x call --encoding msbinsession1 --static S --connect P --via V",
+      called (codes "V") Duplex (Extensible Session) None,
     ) ∷
     []
 
@@ -238,9 +305,55 @@ are_calls : AreRequests calls
 unfolding digits
 are_calls = are-requests calls refl
 
+-- sessions that are joined with those of the server at the place C
+abbrev joined : Text → Option Text → ℕ → Option Text → Asked
+joined via back_statics connections endpoint = asks (codes "S") usual_two (relay (record {
+  listen = codes "P";
+  connect = codes "C";
+  via = via;
+  back_statics = back_statics;
+  connections = connections;
+  endpoint = endpoint;
+}))
+
+abbrev joins : List Row
+joins = (
+  codes "x relay --static S --listen P --connect C --via V",
+  joined (codes "V") None 1000000 None,
+) ∷ (
+  codes "x relay --via=V --back-static=T --connect=C --listen=P --static=S --connections=1",
+  joined (codes "V") (Some (codes "T")) 1 None,
+) ∷ (
+  codes "x relay --static S --endpoint E --connections 1000000 --listen P --connect C --via V",
+  joined (codes "V") None 1000000 (Some (codes "E")),
+) ∷
+    []
+
+are_joins : AreRequests joins
+unfolding digits
+are_joins = are-requests joins refl
+
+-- connections that are answered at once
+abbrev pooled : ℕ → ℕ → Option Text → Option Text → Asked
+pooled connections sessions endpoint actions = asks (codes "S") usual_two
+    (pool (codes "P") connections sessions (serving endpoint actions))
+
+abbrev pools : List Row
+pools =
+    (codes "x pool --static S --listen P", pooled 1024 1024 None None) ∷
+    (codes "x pool --sessions=1 --static=S --connections 1 --listen=P", pooled 1 1 None None) ∷ (
+      codes "x pool --static S --listen P --actions A --endpoint V --sessions 1024 --connections 64",
+      pooled 64 1024 (Some (codes "V")) (Some (codes "A")),
+    ) ∷
+    []
+
+are_pools : AreRequests pools
+unfolding digits
+are_pools = are-requests pools refl
+
 -- documents that are made
 abbrev made : ℕ → ℕ → Asked
-made seed count = asks (codes "S") usual_limits (generate seed count)
+made seed count = asks (codes "S") usual_two (generate seed count)
 
 abbrev makes : List Row
 makes =
@@ -364,6 +477,27 @@ no_good_number_is : AreRefused no_good_number
 unfolding digits
 no_good_number_is = are-refused no_good_number refl
 
+-- the quotas of replies aren't good, or the command has none
+abbrev no_reply_number : List Text
+no_reply_number =
+    codes "x replay --static S --reply-payload 4095" ∷
+    codes "x replay --static S --reply-payload 16777217" ∷
+    codes "x replay --static S --reply-depth 1025" ∷
+    codes "x replay --static S --dictionary 8192 --reply-payload 4096" ∷
+    codes "x replay --static S --reply-content 65535" ∷
+    codes "x replay --static S --content 70000 --payload 65537 --reply-content 65536" ∷
+    codes "x check --static S --reply-payload=" ∷
+    codes "x call --static S --connect P --via V --reply-dictionary 65537" ∷
+    codes "x serve --static S --listen P --reply-session 1" ∷
+    codes "x build --static S --via V --reply-payload 65536" ∷
+    codes "x gen --static S --seed 0 --count 1 --reply-depth 8" ∷
+    codes "x rehearse --id u --reply-content 65536" ∷
+    []
+
+no_reply_number_is : AreRefused no_reply_number
+unfolding digits
+no_reply_number_is = are-refused no_reply_number refl
+
 -- no mode, or no encoding
 abbrev no_mode_or_encoding : List Text
 no_mode_or_encoding =
@@ -374,6 +508,9 @@ no_mode_or_encoding =
     codes "x check --static S --replies duplex --encoding 07" ∷
     codes "x check --static S --encoding 9" ∷
     codes "x check --static S --encoding 78" ∷
+    codes "x check --static S --encoding MSBIN1" ∷
+    codes "x check --static S --encoding msbin1+gzip" ∷
+    codes "x build --static S --via V --encoding application/soap+msbin1" ∷
     []
 
 no_mode_or_encoding_is : AreRefused no_mode_or_encoding
@@ -458,6 +595,33 @@ no_calls =
 no_calls_is : AreRefused no_calls
 unfolding digits
 no_calls_is = are-refused no_calls refl
+
+-- sessions can't be joined so, and connections can't be answered at once so
+abbrev no_joins_or_pools : List Text
+no_joins_or_pools =
+    codes "x relay --static S --listen P --connect C" ∷
+    codes "x relay --static S --listen P --via V" ∷
+    codes "x relay --static S --connect C --via V" ∷
+    codes "x relay --listen P --connect C --via V" ∷
+    codes "x relay --static S --listen P --connect C --via V --back-static=" ∷
+    codes "x relay --static S --listen P --connect C --via V --connections 0" ∷
+    codes "x relay --static S --listen P --connect C --via V --connections 1000001" ∷
+    codes "x relay --static S --listen P --connect C --via V --actions A" ∷
+    codes "x relay --static S --listen P --connect C --via V --mode duplex" ∷
+    codes "x serve --static S --listen P --back-static T" ∷
+    codes "x pool --static S" ∷
+    codes "x pool --listen P" ∷
+    codes "x pool --static S --listen P --connections 0" ∷
+    codes "x pool --static S --listen P --connections 1025" ∷
+    codes "x pool --static S --listen P --sessions 0" ∷
+    codes "x pool --static S --listen P --sessions 1025" ∷
+    codes "x pool --static S --listen P --via V" ∷
+    codes "x serve --static S --listen P --sessions 2" ∷
+    []
+
+no_joins_or_pools_are : AreRefused no_joins_or_pools
+unfolding digits
+no_joins_or_pools_are = are-refused no_joins_or_pools refl
 
 -- documents can't be made so
 abbrev no_makes : List Text

@@ -9,6 +9,9 @@ use Rattle.command_words.specs.declared.option_name.OptionName.TheVariants.{Coun
 use Rattle.command_words.specs.declared.option_name.OptionName.TheVariants.{Dictionary, Encoding}
 use Rattle.command_words.specs.declared.option_name.OptionName.TheVariants.{Endpoint, Id, Listen, Mode}
 use Rattle.command_words.specs.declared.option_name.OptionName.TheVariants.{Payload, Replies}
+use Rattle.command_words.specs.declared.option_name.OptionName.TheVariants.{BackStatic, Sessions}
+use Rattle.command_words.specs.declared.option_name.OptionName.TheVariants.{ReplyContent, ReplyDepth}
+use Rattle.command_words.specs.declared.option_name.OptionName.TheVariants.{ReplyDictionary, ReplyPayload}
 use Rattle.command_words.specs.declared.option_name.OptionName.TheVariants.{Second, Seed, Session}
 use Rattle.command_words.specs.declared.option_name.OptionName.TheVariants.{Static, Via, Window}
 
@@ -26,6 +29,8 @@ option_text Listen = codes "listen"
 option_text Connections = codes "connections"
 option_text Connect = codes "connect"
 option_text Second = codes "second"
+option_text BackStatic = codes "back-static"
+option_text Sessions = codes "sessions"
 option_text Seed = codes "seed"
 option_text Count = codes "count"
 option_text Id = codes "id"
@@ -37,6 +42,10 @@ option_text Depth = codes "depth"
 option_text Dictionary = codes "dictionary"
 option_text Content = codes "content"
 option_text Session = codes "session"
+option_text ReplyPayload = codes "reply-payload"
+option_text ReplyDepth = codes "reply-depth"
+option_text ReplyDictionary = codes "reply-dictionary"
+option_text ReplyContent = codes "reply-content"
 
 abbrev pub is_option : OptionName → OptionName → Bool
 is_option one other = bytes_eq (option_text one) (option_text other)

@@ -1,7 +1,8 @@
 -- What values write: numbers, the names of modes and encodings, and texts that aren't blank.
 use Rattle.std.specs.Prelude.{◌≡◌, ℕ, Bool, ◌||◌, ◌==◌, Some, None, codes, decimal, Option, option_map}
 use Rattle.{std.specs.Borrow.Bor, std.specs.List.list_all, nbfx_values.specs.Session.kind_number}
-use Rattle.nbfx_values.specs.declared.session.{Kind.Kind, Mode.Mode}
+use Rattle.nbfx_values.specs.declared.session.{Encoding.Encoding, Mode.Mode}
+use Rattle.nbfx_values.specs.declared.session.Encoding.TheVariants.{Extensible, Known}
 use Rattle.nbfx_values.specs.declared.session.Mode.TheVariants.{Duplex, Simplex, Singleton}
 use Rattle.command_words.specs.Options.{Text}
 use Rattle.nbfx_values.specs.declared.session.Kind.TheVariants as kinds
@@ -28,13 +29,19 @@ mode_name Singleton = codes "singleton"
 abbrev pub IsMode : Option Text → Mode → Type 0
 IsMode value mode = IsWritten mode_name Duplex value mode
 
--- the number of an encoding
-abbrev pub kind_text : Kind → Text
-kind_text kind = decimal (kind_number kind)
+-- the number of an encoding, or what its content type has behind `application/soap+`
+abbrev pub encoding_text : Encoding → Text
+encoding_text (Known kind) = decimal (kind_number kind)
+encoding_text (Extensible kinds.Plain) = codes "msbin1"
+encoding_text (Extensible kinds.Session) = codes "msbinsession1"
 
--- the encoding that a value names, or the one with a session dictionary where there is no value
-abbrev pub IsKind : Option Text → Kind → Type 0
-IsKind value kind = IsWritten kind_text kinds.Session value kind
+-- the encoding with a session dictionary, by its number
+abbrev pub usual_encoding : Encoding
+usual_encoding = Known kinds.Session
+
+-- the encoding that a value names, or the usual one where there is no value
+abbrev pub IsEncoding : Option Text → Encoding → Type 0
+IsEncoding value encoding = IsWritten encoding_text usual_encoding value encoding
 
 -- space, tab, line feed and carriage return
 abbrev pub is_white : ℕ → Bool

@@ -8,7 +8,8 @@ use Rattle.clap.specs.Simple.{App, new_app, new_rule, on_top, with_rule}
 use Rattle.command_words.specs.declared.{action.Action.Action, option_name.OptionName.OptionName}
 use Rattle.command_words.specs.Commands.{options_of, word_of}
 use Rattle.command_words.specs.Options.{Given, given_for, IsOnce, option_text, SpellOptions, Text}
-use Rattle.command_words.specs.Requests.{AreOptionsOf, GiveOptions}
+use Rattle.command_words.specs.Requests.{AreOptionsOf, GiveOptions, QuotaValues}
+use Rattle.command_words.specs.{declared.quotas.QuotaValues.QuotaValues as QuotaValuesTaken, Values.text_behind}
 
 -- ---- words that are given to clap
 
@@ -56,6 +57,16 @@ app_for action = app_with (word_of action) (options_of action)
 -- the value of each option that a parse found
 abbrev pub found_values : ArgMatches → OptionName → Option Text
 found_values matches option = first_value (found_of matches) (option_text option)
+
+-- the values of the options of quotas, as texts
+abbrev pub values_of : QuotaValuesTaken → QuotaValues
+values_of taken = record {
+  payload = text_behind taken.payload;
+  depth = text_behind taken.depth;
+  dictionary = text_behind taken.dictionary;
+  content = text_behind taken.content;
+  session = text_behind taken.session;
+}
 
 -- the words spell options of the command, with the values that a parse found, which may be empty
 pub record HasTaken (action : Action) (words : List Text) (matches : ArgMatches) : Type 0 where

@@ -19,6 +19,10 @@ pub enum Action {
     Serve,
     /// `call`: calls a server.
     Call,
+    /// `relay`: joins the sessions of peers with sessions of a server.
+    Relay,
+    /// `pool`: answers connections as a server, all at once.
+    Pool,
     /// `gen`: makes documents, and reads them from their session.
     Gen,
     /// `rehearse`: plays the history of a reliable sequence.
@@ -40,15 +44,39 @@ macro_rules! options {
     };
 }
 
-static READING: [OptionName; 8] = options![Replies, Encoding];
+// The same, of a command on what both ends of a session send.
+macro_rules! two_way_options {
+    ($($own:ident),+) => {
+        options![$($own,)+ ReplyPayload, ReplyDepth, ReplyDictionary, ReplyContent]
+    };
+}
+
+static READING: [OptionName; 12] = two_way_options![Replies, Encoding];
 
 static BUILDING: [OptionName; 9] = options![Via, Mode, Encoding];
 
-static REPLAYING: [OptionName; 8] = options![Endpoint, Actions];
+static REPLAYING: [OptionName; 12] = two_way_options![Endpoint, Actions];
 
-static SERVING: [OptionName; 10] = options![Listen, Connections, Endpoint, Actions];
+static SERVING: [OptionName; 14] = two_way_options![Listen, Connections, Endpoint, Actions];
 
-static CALLING: [OptionName; 11] = options![Connect, Via, Mode, Encoding, Second];
+static CALLING: [OptionName; 15] = two_way_options![Connect, Via, Mode, Encoding, Second];
+
+static RELAYING: [OptionName; 16] = two_way_options![
+    Listen,
+    Connect,
+    Via,
+    BackStatic,
+    Connections,
+    Endpoint
+];
+
+static POOLING: [OptionName; 15] = two_way_options![
+    Listen,
+    Connections,
+    Sessions,
+    Endpoint,
+    Actions
+];
 
 static GENERATING: [OptionName; 8] = options![Seed, Count];
 
@@ -66,6 +94,8 @@ pub fn action_of(word: &str) -> Option<Action>
         "replay" => Some(Action::Replay),
         "serve" => Some(Action::Serve),
         "call" => Some(Action::Call),
+        "relay" => Some(Action::Relay),
+        "pool" => Some(Action::Pool),
         "gen" => Some(Action::Gen),
         "rehearse" => Some(Action::Rehearse),
         _ => None,
@@ -83,6 +113,8 @@ pub fn word_of(action: Action) -> &'static str
         Action::Replay => "replay",
         Action::Serve => "serve",
         Action::Call => "call",
+        Action::Relay => "relay",
+        Action::Pool => "pool",
         Action::Gen => "gen",
         Action::Rehearse => "rehearse",
     }
@@ -98,6 +130,8 @@ pub fn options_of(action: Action) -> &'static [OptionName]
         Action::Replay => REPLAYING.as_slice(),
         Action::Serve => SERVING.as_slice(),
         Action::Call => CALLING.as_slice(),
+        Action::Relay => RELAYING.as_slice(),
+        Action::Pool => POOLING.as_slice(),
         Action::Gen => GENERATING.as_slice(),
         Action::Rehearse => REHEARSING.as_slice(),
     }

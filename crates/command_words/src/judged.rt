@@ -7,22 +7,28 @@ ghost use Rattle.command_words.specs.WordAnswers.{found_values};
 ghost use Rattle.command_words.specs.Values as spec;
 ghost use Rattle.command_words.specs.Values.{text_behind};
 ghost use Rattle.command_words.specs.Asking.{asked_of, opening_of, rehearsal_of, serving_of, session_of, task_of};
-ghost use Rattle.command_words.specs.Requests.{AreLimits, AskFor, AskForSessions, AskForTask, AskToBuild, AskToCall, AskToGenerate, AskToRehearse, AskToReport, AskToServe, Asked, AskedOfSessions, IsOpening, IsOrigin, serving_in};
+ghost use Rattle.command_words.specs.Requests.{AskFor, AskForSessions, AskForTask, AskToBuild, AskToCall, AskToGenerate, AskToPool, AskToRehearse, AskToRelay, AskToReport, AskToServe, Asked, AskedOfSessions, IsOpening, IsOrigin, serving_in};
 ghost use Rattle.command_words.specs.Tasks.{Opening as AskedOpening, Rehearsal as AskedRehearsal, Task as AskedTask};
 
 use crate::action::Action;
-use crate::naming::{kind_in, mode_in, mode_named};
+use crate::naming::{encoding_in, mode_in, mode_named};
 use crate::number::{number_in, number_within};
 use crate::option_name::OptionName;
 use crate::parsed::given_for;
 use crate::quotas::quotas_of;
 use crate::request::{Request, SessionRequest};
-use crate::task::{Detail, Opening, Origin, Rehearsal, Serving, Task};
+use crate::task::{Detail, Opening, Origin, Rehearsal, Relaying, Serving, Task};
 use clap::ArgMatches;
 use nbfx_values::{Kind, Quotas};
 
 /// How many connections are accepted at most, and where no number is given.
 const MOST_CONNECTIONS: u32 = 1_000_000;
+
+/// How many connections are answered at once at most, and where no number is given.
+const MOST_AT_ONCE: u32 = 1_024;
+
+/// The same of the sessions of one connection.
+const MOST_IN_TURN: u32 = 1_024;
 
 /// How many documents are made at most.
 const MOST_DOCUMENTS: u32 = 1_000_000;
@@ -52,8 +58,9 @@ fn report_in<'w>(detail: Detail, matches: &ArgMatches<'w>) -> Option<Task<'w>>
     ensures none { IfNone result ((task : AskedTask)
         → ¬ AskToReport detail (found_values matches.now) task) }
 {
-    let kind = kind_in(given_for(matches, OptionName::Encoding))?;
-    let origin = origin_in(given_for(matches, OptionName::Replies), kind)?;
+    let encoding = encoding_in(given_for(matches, OptionName::Encoding))?;
+    let replies = given_for(matches, OptionName::Replies);
+    let origin = origin_in(replies, encoding.kind())?;
     Some(Task::Report { detail, origin })
 }
 
@@ -76,8 +83,12 @@ fn opening_in<'w>(matches: &ArgMatches<'w>) -> Option<Opening<'w>>
         return None;
     }
     let mode = mode_in(given_for(matches, OptionName::Mode))?;
-    let kind = kind_in(given_for(matches, OptionName::Encoding))?;
-    Some(Opening { via, mode, kind })
+    let encoding = encoding_in(given_for(matches, OptionName::Encoding))?;
+    Some(Opening {
+        via,
+        mode,
+        encoding,
+    })
 }
 
 // The writing of a session that the values ask for.
@@ -132,6 +143,49 @@ fn call_in<'w>(matches: &ArgMatches<'w>) -> Option<Task<'w>>
     })
 }
 
+// The joining of sessions that the values ask for.
+fn relay_in<'w>(matches: &ArgMatches<'w>) -> Option<Task<'w>>
+    ensures meant { IfSome result (λ task. AskToRelay (found_values matches.now) (task_of task)) }
+    ensures none { IfNone result ((task : AskedTask)
+        → ¬ AskToRelay (found_values matches.now) task) }
+{
+    let listen = given_for(matches, OptionName::Listen)?;
+    let connect = given_for(matches, OptionName::Connect)?;
+    let via = given_for(matches, OptionName::Via)?;
+    if !is_short(via) {
+        return None;
+    }
+    let number = given_for(matches, OptionName::Connections);
+    let connections = number_within(number, MOST_CONNECTIONS, 1, MOST_CONNECTIONS)?;
+    Some(Task::Relay(Relaying {
+        listen,
+        connect,
+        via,
+        back_statics: given_for(matches, OptionName::BackStatic),
+        connections,
+        endpoint: given_for(matches, OptionName::Endpoint),
+    }))
+}
+
+// The answering of connections at once that the values ask for.
+fn pool_in<'w>(matches: &ArgMatches<'w>) -> Option<Task<'w>>
+    ensures meant { IfSome result (λ task. AskToPool (found_values matches.now) (task_of task)) }
+    ensures none { IfNone result ((task : AskedTask)
+        → ¬ AskToPool (found_values matches.now) task) }
+{
+    let listen = given_for(matches, OptionName::Listen)?;
+    let number = given_for(matches, OptionName::Connections);
+    let connections = number_within(number, MOST_AT_ONCE, 1, MOST_AT_ONCE)?;
+    let turns = given_for(matches, OptionName::Sessions);
+    let sessions = number_within(turns, MOST_IN_TURN, 1, MOST_IN_TURN)?;
+    Some(Task::Pool {
+        listen,
+        connections,
+        sessions,
+        serving: serving_in(matches),
+    })
+}
+
 // The making of documents that the values ask for.
 fn generate_in<'w>(matches: &ArgMatches<'w>) -> Option<Task<'w>>
     ensures meant { IfSome result
@@ -159,6 +213,8 @@ fn task_in<'w>(action: Action, matches: &ArgMatches<'w>) -> Option<Task<'w>>
         Action::Replay => Some(Task::Replay(serving_in(matches))),
         Action::Serve => serve_in(matches),
         Action::Call => call_in(matches),
+        Action::Relay => relay_in(matches),
+        Action::Pool => pool_in(matches),
         Action::Gen => generate_in(matches),
         Action::Rehearse => None,
     }

@@ -10,11 +10,14 @@
 //! Every command but `rehearse` has `--static NAME`, which has to be there, and `--payload`, `--depth`,
 //! `--dictionary`, `--content` and `--session`, each with a number. A quota that isn't given is the
 //! default, and the default content is four times the payload where that is more; the quota of a
-//! Via is always the default. Quotas that aren't valid, and any other words, are not understood.
+//! Via is always the default. All of these but `build` and `gen` have `--reply-payload`,
+//! `--reply-depth`, `--reply-dictionary` and `--reply-content` too, for what a receiver sends; one that
+//! isn't given is that of what an initiator sends, but the content goes with `--reply-payload` where
+//! that is given. Quotas that aren't valid, and any other words, are not understood.
 //!
 //! - `check` and `dump` have `--replies` with a mode, where a receiver's stream is read, and
-//!   `--encoding` with 7 or 8, which is 8 where it is missing, and has no effect on an initiator's
-//!   stream, whose own records name one.
+//!   `--encoding` with 7, 8, `msbin1` or `msbinsession1`, which is 8 where it is missing, and has no
+//!   effect on an initiator's stream, whose own records name one.
 //! - `build` has `--via`, which has to be there and is of at most 2,048 bytes, `--mode` with a
 //!   mode, which is duplex where it is missing, and `--encoding`.
 //! - `replay` has `--endpoint` with the Via that is served alone, and `--actions` with the name of
@@ -23,6 +26,10 @@
 //!   with a number from 1 to 1,000,000, which is the greatest where it is missing.
 //! - `call` has the options of `build`, `--connect` with a place, which has to be there, and
 //!   `--second` with the name of a file.
+//! - `relay` has `--listen` and `--connect` with places and `--via`, which all have to be there,
+//!   `--connections` and `--endpoint` as `serve`, and `--back-static` with the name of a file.
+//! - `pool` has the options of `serve`, but its `--connections` is from 1 to 1,024, which is the
+//!   greatest where it is missing, and `--sessions` likewise.
 //! - `gen` has `--seed` with a number below 2^64 and `--count` with one of at most 1,000,000, which
 //!   both have to be there.
 //! - `rehearse` has `--id` with a text, which has to be there and has a character other than white
@@ -50,5 +57,5 @@ mod task;
 mod words;
 
 pub use request::{Request, SessionRequest};
-pub use task::{Detail, Opening, Origin, Rehearsal, Serving, Task};
+pub use task::{Detail, Opening, Origin, Rehearsal, Relaying, Serving, Task};
 pub use words::{WordsFault, read};

@@ -1,8 +1,8 @@
 // The modes and encodings that values name.
 ghost use Rattle.std.specs.Prelude.{◌≡◌, ◌≢◌, IfNone, IfSome};
-ghost use Rattle.command_words.specs.Values.{IsKind, IsMode, kind_text, mode_name, text_behind};
+ghost use Rattle.command_words.specs.Values.{IsEncoding, IsMode, encoding_text, mode_name, text_behind};
 
-use nbfx_values::{Kind, Mode};
+use nbfx_values::{Encoding, Kind, Mode};
 
 /// The mode that this word names; None where it names none.
 pub fn mode_named(name: &str) -> Option<Mode>
@@ -28,26 +28,29 @@ pub fn mode_in(value: Option<&str>) -> Option<Mode>
     }
 }
 
-// The encoding of a number.
+// The encoding that this word names; None where it names none.
 #[tactic(auto, using(crate::proofs::NumberFacts::seven, crate::proofs::NumberFacts::eight))]
-fn kind_named(name: &str) -> Option<Kind>
-    ensures named { IfSome result (λ kind. name.now ≡ kind_text kind) }
-    ensures unknown { IfNone result ((kind : Kind) → name.now ≢ kind_text kind) }
+fn encoding_named(name: &str) -> Option<Encoding>
+    ensures named { IfSome result (λ encoding. name.now ≡ encoding_text encoding) }
+    ensures unknown { IfNone result ((encoding : Encoding) → name.now ≢ encoding_text encoding) }
 {
     match name {
-        "7" => Some(Kind::Plain),
-        "8" => Some(Kind::Session),
+        "7" => Some(Encoding::Known(Kind::Plain)),
+        "8" => Some(Encoding::Known(Kind::Session)),
+        "msbin1" => Some(Encoding::Extensible(Kind::Plain)),
+        "msbinsession1" => Some(Encoding::Extensible(Kind::Session)),
         _ => None,
     }
 }
 
 /// The encoding that a value names, 8 without a value; None where the value names none.
-pub fn kind_in(value: Option<&str>) -> Option<Kind>
-    ensures named { IfSome result (IsKind (text_behind value.entry)) }
-    ensures none { IfNone result ((kind : Kind) → ¬ IsKind (text_behind value.entry) kind) }
+pub fn encoding_in(value: Option<&str>) -> Option<Encoding>
+    ensures named { IfSome result (IsEncoding (text_behind value.entry)) }
+    ensures none { IfNone result ((encoding : Encoding)
+        → ¬ IsEncoding (text_behind value.entry) encoding) }
 {
     match value {
-        Some(name) => kind_named(name),
-        None => Some(Kind::Session),
+        Some(name) => encoding_named(name),
+        None => Some(Encoding::Known(Kind::Session)),
     }
 }

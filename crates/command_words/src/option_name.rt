@@ -2,7 +2,7 @@
 ghost use Rattle.std.specs.Prelude.{◌≡◌};
 ghost use Rattle.command_words.specs.Options.{option_text};
 
-/// An option of a command: `--` and the variant's name in lower case.
+/// An option of a command: `--` and the variant's words in lower case, with a hyphen between them.
 #[derive(Clone, Copy, Debug, PartialEq, Eq)]
 pub enum OptionName {
     /// The file of the static strings.
@@ -23,6 +23,10 @@ pub enum OptionName {
     Connect,
     /// The file of a second list of documents.
     Second,
+    /// The file of the static strings of the session that is opened.
+    BackStatic,
+    /// How many sessions of a connection are answered.
+    Sessions,
     /// The number that determines the documents that are made.
     Seed,
     /// How many documents are made.
@@ -45,6 +49,14 @@ pub enum OptionName {
     Content,
     /// The quota on the bytes of a session.
     Session,
+    /// The quota on the bytes of an envelope's payload that the receiver sends.
+    ReplyPayload,
+    /// The quota on open elements of what the receiver sends.
+    ReplyDepth,
+    /// The quota on the cost of session strings that the receiver sends.
+    ReplyDictionary,
+    /// The quota on the content of a document that the receiver sends.
+    ReplyContent,
 }
 
 /// What stands after the two hyphens of an option.
@@ -61,6 +73,8 @@ pub fn option_text(option: OptionName) -> &'static str
         OptionName::Connections => "connections",
         OptionName::Connect => "connect",
         OptionName::Second => "second",
+        OptionName::BackStatic => "back-static",
+        OptionName::Sessions => "sessions",
         OptionName::Seed => "seed",
         OptionName::Count => "count",
         OptionName::Id => "id",
@@ -72,5 +86,9 @@ pub fn option_text(option: OptionName) -> &'static str
         OptionName::Dictionary => "dictionary",
         OptionName::Content => "content",
         OptionName::Session => "session",
+        OptionName::ReplyPayload => "reply-payload",
+        OptionName::ReplyDepth => "reply-depth",
+        OptionName::ReplyDictionary => "reply-dictionary",
+        OptionName::ReplyContent => "reply-content",
     }
 }

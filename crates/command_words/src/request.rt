@@ -1,7 +1,7 @@
 // What words ask for.
 
 use crate::task::{Rehearsal, Task};
-use nbfx_values::Quotas;
+use nbfx_values::Two;
 
 /// What the arguments ask for.
 #[derive(Clone, Copy, Debug, PartialEq, Eq)]
@@ -17,8 +17,8 @@ pub enum Request<'w> {
 pub struct SessionRequest<'w> {
     /// The name of the file of the static strings.
     pub statics: &'w str,
-    /// The quotas that it works within.
-    pub quotas: Quotas,
+    /// The quotas that each direction of a session is held within.
+    pub quotas: Two,
     /// What is to be done.
     pub task: Task<'w>,
 }

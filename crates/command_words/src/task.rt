@@ -1,6 +1,6 @@
 // What is to be done.
 
-use nbfx_values::{Kind, Mode};
+use nbfx_values::{Encoding, Kind, Mode};
 
 /// What the report of a stream shows of its documents.
 #[derive(Clone, Copy, Debug, PartialEq, Eq)]
@@ -27,8 +27,8 @@ pub struct Opening<'w> {
     pub via: &'w str,
     /// The mode of the session.
     pub mode: Mode,
-    /// The encoding of its envelopes.
-    pub kind: Kind,
+    /// The encoding of its envelopes, and how the preamble names it.
+    pub encoding: Encoding,
 }
 
 /// How sessions are served.
@@ -39,6 +39,24 @@ pub struct Serving<'w> {
     /// The name of the file that has the reply's text for each action; without it the service
     /// echoes.
     pub actions: Option<&'w str>,
+}
+
+/// How the sessions of peers are joined with sessions of a server.
+#[derive(Clone, Copy, Debug, PartialEq, Eq)]
+pub struct Relaying<'w> {
+    /// The place where connections are accepted.
+    pub listen: &'w str,
+    /// The place of the server.
+    pub connect: &'w str,
+    /// The Via that the server's sessions are opened with, of at most 2,048 bytes.
+    pub via: &'w str,
+    /// The name of the file of the static strings of the server's sessions; without it they have
+    /// those of the peers.
+    pub back_statics: Option<&'w str>,
+    /// How many connections are accepted, from 1 to 1,000,000.
+    pub connections: u32,
+    /// The only Via that peers are served; any is without it.
+    pub endpoint: Option<&'w str>,
 }
 
 /// The reliable sequence whose history is played.
@@ -77,6 +95,18 @@ pub enum Task<'w> {
         opening: Opening<'w>,
         /// The name of the file of a second list of documents, which are sent beside the input's.
         second: Option<&'w str>,
+    },
+    /// To join the sessions of peers with sessions of a server: `relay`.
+    Relay(Relaying<'w>),
+    /// To answer connections as a server, all at once: `pool`.
+    Pool {
+        /// The place where they are accepted.
+        listen: &'w str,
+        /// How many are, from 1 to 1,024.
+        connections: u32,
+        /// How many sessions of each are answered, one after the other, from 1 to 1,024.
+        sessions: u32,
+        serving: Serving<'w>,
     },
     /// To make documents and read them: `gen`.
     Generate {
