@@ -3,8 +3,11 @@ use Rattle.std.proofs.Common.{◌≡◌, ℕ, zero, suc, ◌+◌, ◌/◌, ◌%�
 use Rattle.std.proofs.Common.{◌∷◌, ◌++◌, length, if◌then◌else◌, nat_lt, refl, arith, length-append}
 use Rattle.{string_tables.specs.StaticStrings.Entry, command_words.specs.Tasks.Opening}
 use Rattle.multibyte_ints.specs.{Integer.shortest, Integer.shortest_within, Text.string_bytes_of}
-use Rattle.nbfx_values.specs.{Limits.IsGood, Limits.Limits, Session.kind_number}
-use Rattle.nmf_records.specs.declared.record_types.TheConstants.{KNOWN_ENCODING, PREAMBLE_END}
+use Rattle.nbfx_values.specs.{Limits.IsGood, Limits.Limits, Session.content_type}
+use Rattle.nbfx_values.specs.declared.session.Encoding.{Encoding, TheVariants.Extensible}
+use Rattle.nbfx_values.specs.declared.session.Encoding.TheVariants.{Known}
+use Rattle.nmf_records.specs.declared.record_types.TheConstants.{PREAMBLE_END}
+use Rattle.initiator_machine.specs.Opening.{encoding_bytes}
 use Rattle.stream_loop.specs.{Answers.EndsWithin, Edges.Input}
 use Rattle.document_lines.proofs.Lines.{begins, bounded, closes}
 use Rattle.document_lines.specs.Input.{envelopes_and_end, lines_of_documents, Settings}
@@ -12,6 +15,7 @@ use Rattle.dump_replay.specs.Building.{Builds, preamble_of, settings_for_buildin
 use Rattle.dump_replay.proofs.Beginnings.{not_begun}
 use Rattle.io_edges.specs.Views.{SinkView}
 use Rattle.stream_loop.specs.declared.reporting.ReportEnding.TheVariants as endings
+use Rattle.nbfx_values.specs.declared.session.Kind.TheVariants as kinds
 
 -- the loop may read lines of documents
 pub lines_end_within : (x : Settings) → IsGood x.limits
@@ -41,16 +45,24 @@ string_short text =
     let few = short_within 4 (length text) in
     omega (arith, all, few)
 
+encoding_short : (encoding : Encoding) → length (encoding_bytes encoding) ≤ 64
+encoding_short (Known kind) = omega arith
+encoding_short (Extensible kinds.Plain) =
+    let few = string_short (content_type kinds.Plain) in omega (arith, few)
+encoding_short (Extensible kinds.Session) =
+    let few = string_short (content_type kinds.Session) in omega (arith, few)
+
 -- it is shorter than any room that it is gathered in
 pub preamble_short : (opening : Opening) → length opening.via ≤ 2048
     → length (preamble_of opening) ≤ 65536
 preamble_short opening short =
     let text : List ℕ = string_bytes_of opening.via in
-    let encoding : List ℕ = KNOWN_ENCODING ∷ kind_number opening.kind ∷ [] in
+    let encoding : List ℕ = encoding_bytes opening.encoding in
     let a = length-append (text ++ encoding) (PREAMBLE_END ∷ []) in
     let b = length-append text encoding in
     let c = string_short opening.via in
-    omega (arith, a, b, c, short)
+    let d = encoding_short opening.encoding in
+    omega (arith, a, b, c, d, short)
 
 -- ---- there was no memory to begin with
 

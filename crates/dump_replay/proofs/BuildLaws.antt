@@ -20,7 +20,7 @@ use Rattle.document_lines.specs.Input.{envelopes_and_end, is_singleton, lines_of
 use Rattle.document_lines.specs.{Input.Settings as LineSettings, Laws.Explains, Laws.IsWritten}
 use Rattle.session_ends.proofs.Sent.{sent_are_sessions}
 use Rattle.session_ends.specs.Sent.{AreDocuments, AreSent, MayBeSent, session_bytes}
-use Rattle.dump_replay.specs.Building.{Builds, preamble_of, settings_for_building}
+use Rattle.dump_replay.specs.Building.{Builds, kind_of, preamble_of, settings_for_building}
 use Rattle.dump_replay.specs.Building.{status_of_building}
 use Rattle.dump_replay.specs.Laws.{BuildsAreComplete, BuiltAreSessions, input_offence, IsBuiltOf}
 use Rattle.dump_replay.specs.Laws.{IsBuiltWell, IsSessionOf, ReadsAsMuch, session_of}
@@ -61,12 +61,12 @@ module _ (opening : Opening) (statics : List Entry) (limits : Limits) (x : Setti
     why : Explains lines_settings bytes w.lines w.more w.envelopes.1 None
     why = subst (Explains lines_settings bytes w.lines w.more w.envelopes.1) none w.why
 
-    preamble : IsPreamble x opening.mode opening.kind opening.via (preamble_of opening)
-    preamble = openings_are_preambles x reads.good opening.mode opening.kind opening.via utf8
+    preamble : IsPreamble x opening.mode (kind_of opening) opening.via (preamble_of opening)
+    preamble = openings_are_preambles x reads.good opening.mode opening.encoding opening.via utf8
         reads.via reads.served
 
-    sent : AreSent x.statics limits opening.mode opening.kind documents w.envelopes
-    sent = subst (λ (s : List Entry). AreSent s limits opening.mode opening.kind documents
+    sent : AreSent x.statics limits opening.mode (kind_of opening) documents w.envelopes
+    sent = subst (λ (s : List Entry). AreSent s limits opening.mode (kind_of opening) documents
         w.envelopes) (sym reads.statics_are) (record {
           good = good;
           static_map = static_map;
@@ -82,9 +82,9 @@ module _ (opening : Opening) (statics : List Entry) (limits : Limits) (x : Setti
 
     session : (carried : List Carried)
         × (map (λ (one : Carried). one.items) carried ≡ documents)
-        × IsSession x (conversation opening.mode opening.kind opening.via carried)
+        × IsSession x (conversation opening.mode (kind_of opening) opening.via carried)
         (session_bytes (preamble_of opening) w.envelopes.0)
-    session = sent_are_sessions x reads.endpoint limits opening.mode opening.kind opening.via
+    session = sent_are_sessions x reads.endpoint limits opening.mode (kind_of opening) opening.via
         (preamble_of opening) documents w.envelopes reads.good reads.admits reads.side preamble
         (may_be_sent opening.mode documents why.3) sent
         (subst (λ (l : List ℕ). length l ≤ x.limits.session) session_is reads.session)
@@ -93,7 +93,7 @@ module _ (opening : Opening) (statics : List Entry) (limits : Limits) (x : Setti
         (session_bytes (preamble_of opening) w.envelopes.0)
     session_of_documents =
         let all = session_bytes (preamble_of opening) w.envelopes.0 in
-        let parts = conversation opening.mode opening.kind opening.via session.0 in record {
+        let parts = conversation opening.mode (kind_of opening) opening.via session.0 in record {
           carried = session.0;
           documents_are = session.1;
           is_session = session.2;

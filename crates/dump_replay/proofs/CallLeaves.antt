@@ -2,13 +2,13 @@
 use Rattle.std.proofs.Common.{◌≡◌, ℕ, List, take, Err, sym, refl, ap, subst, inl, inr}
 use Rattle.{std.proofs.Common.arith, io_edges.specs.Wires.Network}
 use Rattle.{string_tables.specs.StaticStrings.Entry, command_words.specs.Tasks.Opening}
-use Rattle.nbfx_values.specs.{declared.content.Item.Item, Limits.Limits}
+use Rattle.{nbfx_values.specs.declared.content.Item.Item, command_words.specs.Requests.TwoLimits}
 use Rattle.stream_loop.specs.Edges.{Input}
 use Rattle.two_lanes.specs.Merges.{merge}
-use Rattle.client.specs.{Sent.Sending, Sent.sending, Statuses.status_of, Tags.sent_line}
+use Rattle.client.specs.{Sent.Sending, Statuses.status_of, Tags.sent_line}
 use Rattle.dump_replay.specs.{Building.status_of_building, Running.CountsWire, Working.Leaves}
 use Rattle.dump_replay.specs.Calling.{CalledOrNot, CalledPlace, ending_of_list, status_of_documents}
-use Rattle.dump_replay.specs.Calling.{TookNone, UnreadSecond}
+use Rattle.dump_replay.specs.Calling.{sending_on, TookNone, UnreadSecond}
 use Rattle.dump_replay.specs.Outside.{seen, SeenShelf}
 use Rattle.dump_replay.proofs.CallEnds.{called_cause, called_out, called_wire, called_writes}
 use Rattle.dump_replay.proofs.CallEnds.{list_cause, report_rose, second_cause}
@@ -25,7 +25,7 @@ second_leaves Says Untouched name s s' i o n n' status h =
     (second_cause h.fault) (λ failed. inr (h.rose failed)) (λ none. absurd none) (inl refl)
     (omega arith) (omega arith))
 
-module _ (Says : List ℕ → Type 0) (limits : Limits) (i i' : Input) (o o' : SinkView) (status : ℕ)
+module _ (Says : List ℕ → Type 0) (limits : TwoLimits) (i i' : Input) (o o' : SinkView) (status : ℕ)
     {R K : Type 0} (reader : R → Input) (writer : K → SinkView) (opening : Opening)
     (statics : List Entry) (second : List (List Item)) (n n' : Network R K) where
   -- ---- what is left of the wire
@@ -35,7 +35,7 @@ module _ (Says : List ℕ → Type 0) (limits : Limits) (i i' : Input) (o o' : S
 
   pub calls_wire : Left → CountsWire n.faults n'.faults n.end_faults n'.end_faults status
   calls_wire (inl h) = called_wire reader writer
-      (sending limits statics opening.mode opening.kind (merge h.first second h.order)) opening.via
+      (sending_on opening statics limits (merge h.first second h.order)) opening.via
       (λ sent. sent_line (take sent h.order)) n n' o o' h.called
       status h.status_is h.calls
   calls_wire (inr h) = subst (λ (status : ℕ). CountsWire n.faults n'.faults n.end_faults
@@ -48,7 +48,7 @@ module _ (Says : List ℕ → Type 0) (limits : Limits) (i i' : Input) (o o' : S
 
   pub calls_out : Left → n'.out ≡ n.out
   calls_out (inl h) = called_out reader writer
-      (sending limits statics opening.mode opening.kind (merge h.first second h.order)) opening.via
+      (sending_on opening statics limits (merge h.first second h.order)) opening.via
       (λ sent. sent_line (take sent h.order)) n n' o o' h.called
       h.calls
   calls_out (inr h) = ap (λ (w : Network R K). w.out) h.same
@@ -59,8 +59,7 @@ module _ (Says : List ℕ → Type 0) (limits : Limits) (i i' : Input) (o o' : S
     placed_leaves : CalledPlace Says limits i i' o o' status reader writer opening statics second
         n n' → Leaves (seen s i o n) (seen s' i' o' n') status
     placed_leaves h =
-        let x : Sending = sending limits statics opening.mode opening.kind
-        (merge h.first second h.order) in
+        let x : Sending = sending_on opening statics limits (merge h.first second h.order) in
         let line : ℕ → List ℕ = λ sent. sent_line (take sent h.order) in
         subst (Leaves (seen s i o n) (seen s' i' o' n')) (sym h.status_is)
         (leaves_by (seen s i o n) (seen s' i' o' n') (status_of h.called) (called_cause h.called)

@@ -1,6 +1,6 @@
 -- The statuses of a run by what causes them: each outcome has one lemma that says so, and what a
 -- run leaves whatever it did follows.
-use Rattle.std.proofs.Common.{◌≡◌, ℕ, ◌≤◌, ◌⊎◌, sym, refl, ◌∙◌, inl, inr, arith}
+use Rattle.std.proofs.Common.{◌≡◌, ℕ, ◌≤◌, ◌⊎◌, sym, ◌∙◌, inl, inr}
 use Rattle.io_edges.specs.Faults.{one_more, Rose}
 use Rattle.dump_replay.specs.{Outside.Outside, Running.IsJudged, Running.IsStatus, Working.Leaves}
 

@@ -3,40 +3,49 @@ use Rattle.std.proofs.Common.{◌≡◌, ℕ, ◌⊎◌, List, [], take, if◌th
 use Rattle.std.proofs.Common.{Result, sym, refl, ap, ◌∙◌, subst, inl, inr}
 use Rattle.io_edges.specs.{Faults.Rose, Files.Has, Files.whole, Store.Store}
 use Rattle.{string_tables.specs.StaticStrings.Entry, nbfx_values.specs.Limits.Limits}
+use Rattle.command_words.specs.Requests.{TwoLimits}
 use Rattle.nbfx_values.specs.declared.{content.Item.Item, refusals.Offence.Offence}
 use Rattle.nbfx_values.specs.declared.refusals.Reason.{Reason, TheVariants.SessionTooLong}
 use Rattle.stream_reader.specs.{Judging.offence, Stream.any_initiators, Stream.Settings}
 use Rattle.stream_loop.specs.{declared.outbound.Outbound.Outbound, Edges.Input}
 use Rattle.session_report.specs.declared.reporter.Outcome.TheVariants.{Ended}
-use Rattle.document_lines.specs.{Documents.documents_within, Files.Answers, Taking.Says}
-use Rattle.{command_words.proofs.RequestFacts.request-one, action_dispatch.specs.Answers.Serves}
+use Rattle.document_lines.specs.{Documents.documents_within, Files.Answers}
+use Rattle.command_words.proofs.RequestFacts.{request-one}
 use Rattle.command_words.specs.Requests.{AskedOfSessions, IsRequest, of_sessions, rehearsal}
-use Rattle.command_words.specs.Tasks.{Serving, Task}
-use Rattle.command_words.specs.Tasks.{build, call, generate, Opening, replay, report, serve}
+use Rattle.command_words.specs.Tasks.{Relaying, Serving, Task}
+use Rattle.command_words.specs.Tasks.{build, call, generate, Opening, pool, relay, replay, report}
+use Rattle.command_words.specs.Tasks.{serve}
 use Rattle.session_generator.specs.{declared.summary.Summary.Summary, Documents.documents}
 use Rattle.session_generator.specs.Generated.{session_of}
 use Rattle.session_generator.specs.Summary.{status_of as status_of_summary, Writes}
 use Rattle.duplex_server.specs.declared.{outcome.Inbound.Inbound, stopping.ServeFault.ServeFault}
-use Rattle.duplex_server.specs.{ServerStream.answering, Serving.Judges}
-use Rattle.duplex_server.specs.Responding.{reading_actions, served_by}
+use Rattle.duplex_server.specs.{declared.responding.Responder.Responder, Serving.Judges}
+use Rattle.duplex_server.specs.Responding.{reading_actions}
 use Rattle.two_lanes.specs.{declared.jobs.Lane.Lane, Merges.merge}
 use Rattle.client.specs.{declared.called.Called.Called, Places.CallsPlace, Sent.Sending}
-use Rattle.client.specs.{Sent.sending, Statuses.status_of as status_of_called, Tags.sent_line}
-use Rattle.dump_replay.specs.Answering.{action_kind_name, IsAskedFor, status_of_replay}
+use Rattle.client.specs.{Statuses.status_of as status_of_called, Tags.sent_line}
+use Rattle.dump_replay.specs.Answering.{action_kind_name, answering_by, IsAskedFor, status_of_replay}
 use Rattle.dump_replay.specs.{Building.status_of_building, Outside.Outside}
 use Rattle.dump_replay.specs.Calling.{CalledPlace, ending_of_list, IsSecond, status_of_documents}
-use Rattle.dump_replay.specs.{Calling.TookNone, Serving.status_of_stop}
+use Rattle.dump_replay.specs.{Calling.sending_on, Calling.TookNone, Serving.status_of_stop}
 use Rattle.dump_replay.specs.Complete.{GoesWell, HasOneOrder, in_order, IsComplete, IsDetermined}
 use Rattle.dump_replay.specs.Complete.{sending_with, settings_to_answer}
-use Rattle.dump_replay.specs.Complete.{status_for, status_of_call, status_of_made, status_of_stream}
-use Rattle.dump_replay.specs.Complete.{status_of_task, with_actions, with_lines, with_second}
+use Rattle.dump_replay.specs.Complete.{status_of_call, status_of_made, status_of_stream}
+use Rattle.dump_replay.specs.Complete.{status_of_task, with_actions, with_back, with_lines}
+use Rattle.dump_replay.specs.{Complete.with_second, Relaying.IsBack}
 use Rattle.dump_replay.specs.Laws.{input_offence, status_of_input}
 use Rattle.dump_replay.specs.Running.{is_session_too_long, offence_status, status_of, WhereAsked}
 use Rattle.dump_replay.specs.Statics.{reading_statics, table_kind_name}
 use Rattle.dump_replay.specs.Working.{Does, HasNoActions, Runs, Works}
 use Rattle.dump_replay.proofs.{BuildLaws.builds_are_complete, CompleteCalls.call_placed}
-use Rattle.dump_replay.proofs.CompleteFiles.{actions_read, as_other, by_status, file_read, IsOr}
+use Rattle.dump_replay.proofs.CompleteFiles.{actions_read, as_other, back_read, by_status}
+use Rattle.dump_replay.proofs.CompleteFiles.{file_read, IsOr}
 use Rattle.dump_replay.proofs.CompleteFiles.{lines_unread, second_read, second_unread, unread}
+use Rattle.relay.specs.declared.stopping.RelayFault.{RelayFault}
+use Rattle.dump_replay.specs.Relaying.{joining_by, sides_seen, status_of_relay}
+use Rattle.dump_replay.specs.Outside.{ends_seen}
+use Rattle.dump_replay.proofs.{PoolEnds.pool_rose, PoolEnds.pool_wire_counted}
+use Rattle.dump_replay.proofs.RelayEnds.{lines_counted, wire_counted}
 use Rattle.dump_replay.proofs.Orders.{all_in_order, alone}
 use Rattle.io_edges.specs.Views.{SinkView}
 use Rattle.dump_replay.proofs.Played.{played_ends}
@@ -44,16 +53,17 @@ use Rattle.stream_loop.specs.declared.outbound.Outbound.TheVariants as outbounds
 use Rattle.duplex_server.specs.declared.outcome.Inbound.TheVariants as inbounds
 use Rattle.session_generator.specs.declared.summary.Summary.TheVariants as summaries
 use Rattle.duplex_server.specs.declared.stopping.ServeFault.TheVariants as stops
+use Rattle.relay.specs.declared.stopping.RelayFault.TheVariants as relays
 
 -- ---- streams
 
-module _ (serves : Serves) (serving : Serving) (statics : List Entry) (limits : Limits)
+module _ (responder : Responder) (serving : Serving) (statics : List Entry) (limits : TwoLimits)
     (bytes : List ℕ) where
   abbrev answered : Settings
-  answered = settings_to_answer serving statics limits
+  answered = settings_to_answer serving statics limits.forward
 
   replayed : (inbound : Inbound) (outbound : Outbound)
-      → Judges (answering serves statics limits) serving.endpoint bytes inbound
+      → Judges (answering_by responder statics limits) serving.endpoint bytes inbound
       → (inbound ≡ inbounds.ReadFault → ⊥) → (outbound ≡ outbounds.WriteFault → ⊥)
       → IsOr (status_of_stream answered bytes) (status_of_replay inbound outbound)
   replayed inbounds.Ended outbounds.Done judges read written =
@@ -71,6 +81,13 @@ stopped (Ok _) wire output = inl refl
 stopped (Err stops.Wire) wire output = absurd (wire refl)
 stopped (Err stops.Output) wire output = absurd (output refl)
 stopped (Err stops.Memory) wire output = inr refl
+
+relay_stopped : (stop : Result (Unit {0}) RelayFault) → (stop ≡ Err relays.Wire → ⊥)
+    → (stop ≡ Err relays.Output → ⊥) → IsOr 0 (status_of_relay stop)
+relay_stopped (Ok _) wire output = inl refl
+relay_stopped (Err relays.Wire) wire output = absurd (wire refl)
+relay_stopped (Err relays.Output) wire output = absurd (output refl)
+relay_stopped (Err relays.Memory) wire output = inr refl
 
 -- a session that is made is too long by its last reason alone
 long_status : (o : Offence) → o.reason ≡ SessionTooLong → 10 ≡ offence_status o
@@ -107,7 +124,7 @@ module _ (Says : List ℕ → Type 0) (Untouched : Type 0) {R K : Type 0} (reade
       (unread reading_actions store h.0 (λ texts. next) Says Untouched action_kind_name old.shelf
       new.shelf status files fetched h.2)
 
-  module _ (statics : List Entry) (limits : Limits) where
+  module _ (statics : List Entry) (limits : TwoLimits) where
     abbrev Left : Task → Type 0
     Left task = Works Says Untouched reader writer task statics limits old new status
 
@@ -123,17 +140,17 @@ module _ (Says : List ℕ → Type 0) (Untouched : Type 0) {R K : Type 0} (reade
     replay_ends : (serving : Serving) → Well (replay serving) → Left (replay serving)
         → EndsBy [] (replay serving)
     replay_ends serving well (inl h) =
-        let next = status_of_stream (settings_to_answer serving statics limits) input in
+        let next = status_of_stream (settings_to_answer serving statics limits.forward) input in
         actions_read store next serving.actions h.responder status
         (subst (λ (f : Option Store). IsAskedFor f serving.actions h.responder) well.files
         h.asked_for)
         (by_status next status (status_of_replay h.inbound h.outbound) h.status_is
-        (replayed (served_by h.responder) serving statics limits input h.inbound h.outbound
+        (replayed h.responder serving statics limits input h.inbound h.outbound
         (h.replays.judged input well.given)
         (λ fault. well.read (h.replays.reads_counted.rose fault))
         (λ fault. well.written (h.replays.writes_counted.rose fault))))
     replay_ends serving well (inr h) = no_actions serving
-        (status_of_stream (settings_to_answer serving statics limits) input) well.files
+        (status_of_stream (settings_to_answer serving statics limits.forward) input) well.files
         well.fetched h
 
     serve_ends : (listen : List ℕ) (connections : ℕ) (serving : Serving)
@@ -149,6 +166,46 @@ module _ (Says : List ℕ → Type 0) (Untouched : Type 0) {R K : Type 0} (reade
     serve_ends listen connections serving well (inr h) =
         no_actions serving 0 well.files well.fetched h
 
+    relay_ends : (relaying : Relaying) → Well (relay relaying) → Left (relay relaying)
+        → EndsBy [] (relay relaying)
+    relay_ends relaying well (inl h) =
+        let x = joining_by relaying statics h.back limits in
+        let seen = sides_seen reader writer in
+        let wired = wire_counted x seen relaying.connections old.wire new.wire old.output new.output
+        (new.output ≡ old.output) h.joined.stop h.joined.relays in
+        let lined = lines_counted x seen relaying.connections old.wire new.wire old.output
+        new.output h.joined.stop h.joined.relays in
+        back_read store 0 relaying.back_statics statics h.back status
+        (subst (λ (f : Option Store). IsBack f relaying.back_statics statics h.back) well.files
+        h.back_is)
+        (by_status 0 status (status_of_relay h.joined.stop) h.joined.status_is
+        (relay_stopped h.joined.stop (λ fault. well.connected (wired.rose fault))
+        (λ fault. well.written (lined.rose fault))))
+    relay_ends relaying well (inr h) =
+        as_other (with_back store (Some h.0) 0) (with_back store relaying.back_statics 0) status
+        (sym (ap (λ named. with_back store named 0) h.1))
+        (unread reading_statics store h.0 (λ says. 0) Says Untouched table_kind_name old.shelf
+        new.shelf status well.files well.fetched h.2)
+
+    pool_ends : (listen : List ℕ) (connections sessions : ℕ) (serving : Serving)
+        → Well (pool listen connections sessions serving)
+        → Left (pool listen connections sessions serving)
+        → EndsBy [] (pool listen connections sessions serving)
+    pool_ends listen connections sessions serving well (inl h) =
+        let x = answering_by h.responder statics limits in
+        let wired = pool_wire_counted x serving.endpoint sessions (ends_seen reader writer)
+        connections old.wire new.wire old.output new.output h.stop h.pools in
+        let rose = pool_rose x serving.endpoint sessions (ends_seen reader writer)
+        connections old.wire new.wire old.output new.output h.stop h.pools in
+        actions_read store 0 serving.actions h.responder status
+        (subst (λ (f : Option Store). IsAskedFor f serving.actions h.responder) well.files
+        h.asked_for)
+        (by_status 0 status (status_of_stop h.stop) h.status_is
+        (stopped h.stop (λ fault. well.connected (wired.rose fault))
+        (λ fault. well.written (rose fault))))
+    pool_ends listen connections sessions serving well (inr h) =
+        no_actions serving 0 well.files well.fetched h
+
     module _ (connect : List ℕ) (opening : Opening) (named : Option (List ℕ))
         (well : Well (call connect opening named)) (second : List (List Item)) where
       abbrev sends : List Lane → List (List Item) → Sending
@@ -158,11 +215,11 @@ module _ (Says : List ℕ → Type 0) (Untouched : Type 0) {R K : Type 0} (reade
       after order first = status_of_call (sends order first) peer
 
       abbrev lines : List Lane → ℕ
-      lines order = with_lines (documents_within limits.session input) (after order)
+      lines order = with_lines (documents_within limits.forward.session input) (after order)
 
       abbrev CallsWith : Called → List Lane → List (List Item) → Type 0
       CallsWith called order documents = CallsPlace reader writer
-          (sending limits statics opening.mode opening.kind documents) opening.via
+          (sending_on opening statics limits documents) opening.via
           (λ sent. sent_line (take sent order)) old.wire new.wire old.output new.output called
 
       abbrev Placed' : Type 0
@@ -183,7 +240,7 @@ module _ (Says : List ℕ → Type 0) (Untouched : Type 0) {R K : Type 0} (reade
       none_ends : {Same : Type 0} → TookNone Says limits old.input new.input old.output new.output
           status Same → IsOr (lines []) status
       none_ends h = by_status (lines []) status (status_of_building (ending_of_list h.fault))
-          h.status_is (lines_unread (documents_within limits.session input) (after []) h.fault
+          h.status_is (lines_unread (documents_within limits.forward.session input) (after []) h.fault
           (h.taken.says input well.given)
           (λ fault. well.read (h.taken.counted.rose (ap Err fault))))
 
@@ -254,9 +311,9 @@ module _ (Says : List ℕ → Type 0) (Untouched : Type 0) {R K : Type 0} (reade
           | inr (inr (inr five)) ↦ inr five
         ])
     task_ends (build opening) well h = other_ends (build opening)
-        (by_status (status_of_input (input_offence opening statics limits input)) status
+        (by_status (status_of_input (input_offence opening statics limits.forward input)) status
         (status_of_building h.ending) h.status_is
-        (elim (builds_are_complete opening statics limits old.input new.input old.output new.output
+        (elim (builds_are_complete opening statics limits.forward old.input new.input old.output new.output
         h.ending h.builds input well.given well.read well.written) [
           | inl built ↦ inl built.status_is
           | inr five ↦ inr five
@@ -266,9 +323,14 @@ module _ (Says : List ℕ → Type 0) (Untouched : Type 0) {R K : Type 0} (reade
     task_ends (serve listen connections serving) well h =
         other_ends (serve listen connections serving) (serve_ends listen connections serving well h)
     task_ends (call connect opening named) well h = call_ends connect opening named well h
+    task_ends (relay relaying) well h =
+        other_ends (relay relaying) (relay_ends relaying well h)
+    task_ends (pool listen connections sessions serving) well h =
+        other_ends (pool listen connections sessions serving)
+        (pool_ends listen connections sessions serving well h)
     task_ends (generate seed count) well h = other_ends (generate seed count)
         (by_status _ status (status_of_summary h.0.summary) h.0.status_is
-        (summed_up limits statics (documents seed count) old.output new.output h.0.summary
+        (summed_up limits.forward statics (documents seed count) old.output new.output h.0.summary
         h.0.summarizes.writes (λ fault. well.written (h.0.summarizes.counted.rose fault))))
 
   -- ---- and of any words

@@ -14,7 +14,9 @@ use Rattle.duplex_server.specs.Responding.{GivesTexts, reading_actions}
 use Rattle.dump_replay.specs.{Answering.IsAskedFor, Working.Unread}
 use Rattle.dump_replay.specs.{Building.status_of_building, Outside.SeenShelf}
 use Rattle.dump_replay.specs.Calling.{ending_of_list, IsSecond, status_of_documents}
-use Rattle.dump_replay.specs.Complete.{with_actions, with_documents, with_file, with_lines}
+use Rattle.dump_replay.specs.Complete.{with_actions, with_back, with_documents, with_file}
+use Rattle.dump_replay.specs.{Complete.with_lines, Relaying.IsBack, Statics.reading_statics}
+use Rattle.string_tables.specs.StaticStrings.{Entry}
 use Rattle.dump_replay.specs.{Complete.with_second, Running.status_of_file}
 use Rattle.io_edges.specs.declared.fault.FileFault.TheVariants as faults
 use Rattle.document_lines.specs.declared.fetching.DocumentsFault.TheVariants as lists
@@ -74,6 +76,14 @@ module _ (store : Store) (next : ℕ) where
       → IsOr (with_actions store named next) status
   actions_read None responder status asked h = h
   actions_read (Some name) responder status asked h = gives_texts name responder status asked h
+
+-- the file of the static strings of sessions that are opened for others
+pub back_read : (store : Store) (next : ℕ) (named : Option (List ℕ)) (front back : List Entry)
+    (status : ℕ) → IsBack (Some store) named front back → IsOr next status
+    → IsOr (with_back store named next) status
+back_read store next None front back status is h = h
+back_read store next (Some name) front back status is h =
+    file_read reading_statics store name (λ says. next) back status is h
 
 -- the file of the second list
 module _ (store : Store) (next : List (List Item) → ℕ) where

@@ -6,6 +6,8 @@ pub mod BuildEndings
 pub mod BuildLaws
 -- the answering of connections (specs/Serving)
 pub mod ServeEnds
+pub mod RelayEnds
+pub mod PoolEnds
 -- the call of a peer (specs/Calling)
 pub mod CallEnds
 pub mod CallLeaves
@@ -17,6 +19,7 @@ pub mod Works
 pub mod RunSteps
 -- what is seen of the ends, by their traits (specs/Outside)
 pub mod Seen
+pub mod Directions
 -- the status where nothing of the outside fails (specs/Complete, Order)
 pub mod CompleteFiles
 pub mod CompleteCalls

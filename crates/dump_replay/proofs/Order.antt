@@ -1,8 +1,8 @@
 -- A run ends with 0 exactly where all is in order (specs/Order).
-use Rattle.std.proofs.Common.{◌≡◌, ℕ, ◌+◌, ◌<◌, Bool, true, false, List, [], ◌∷◌, ◌++◌, map, length}
+use Rattle.std.proofs.Common.{◌≡◌, ℕ, ◌<◌, Bool, true, false, List, [], ◌∷◌, ◌++◌, map, length}
 use Rattle.std.proofs.Common.{if◌then◌else◌, nat_le, ◌==◌, Some, None, Ok, Err, Option, Result, sym}
 use Rattle.std.proofs.Common.{refl, ap, ◌∙◌, subst, append-nil, arith, eqb-true, leb-false}
-use Rattle.io_edges.specs.Files.{bad, file_in, missing, ShelfFile, whole}
+use Rattle.io_edges.specs.Files.{bad, file_in, missing, Reading, ShelfFile, whole}
 use Rattle.{io_edges.specs.Store.Store, unit_streams.specs.Units.IsAccepted}
 use Rattle.unit_streams.proofs.Accepted.{accepted_or_offended, leads_length}
 use Rattle.unit_streams.specs.Judging.{events, History, offence as offence_by}
@@ -10,7 +10,8 @@ use Rattle.{string_tables.specs.StaticStrings.Entry, session_ends.specs.Sent.May
 use Rattle.nbfx_values.specs.declared.{content.Item.Item, refusals.Offence.Offence}
 use Rattle.nbfx_values.specs.declared.session.{Kind.Kind, Mode.Mode}
 use Rattle.nbfx_values.specs.declared.session.Mode.TheVariants.{Duplex, Simplex, Singleton}
-use Rattle.nbfx_values.specs.Limits.{IsGood, Limits}
+use Rattle.nbfx_values.specs.{Limits.IsGood, Limits.Limits, Session.encoding_kind}
+use Rattle.command_words.specs.Requests.{AreGood, TwoLimits}
 use Rattle.nbfx_encoder.specs.{Envelopes.UnfitAt, Placing.Placed}
 use Rattle.stream_reader.proofs.{Closed.closed_or_refused, SessionEnds.sessions_are_told}
 use Rattle.stream_reader.specs.{Judging.offence, Sessions.turned_down}
@@ -28,7 +29,8 @@ use Rattle.document_lines.specs.Documents.{documents_within}
 use Rattle.document_lines.specs.Input.{lines_of_documents, Settings as LineSettings}
 use Rattle.document_lines.specs.Laws.{Explains, FittingIsAccepted, IsWritten, MayBeBuilt}
 use Rattle.command_words.specs.declared.task.Detail.{Detail, TheVariants.Whole}
-use Rattle.command_words.specs.Tasks.{build, call, generate, Opening, replay, report, serve, Task}
+use Rattle.command_words.specs.Tasks.{build, call, generate, Opening, pool, relay, replay, report}
+use Rattle.command_words.specs.Tasks.{serve, Task}
 use Rattle.session_generator.specs.{Documents.documents, Generated.session_of}
 use Rattle.session_generator.specs.Summary.{IsWithinQuota}
 use Rattle.duplex_server.specs.Responding.{reading_actions}
@@ -39,12 +41,13 @@ use Rattle.client.specs.Sent.{envelopes, Sending}
 use Rattle.dump_replay.specs.{Building.settings_for_building, Calling.IsSecond, Running.status_of}
 use Rattle.dump_replay.specs.Complete.{in_order, sending_with, settings_to_answer, status_of_call}
 use Rattle.dump_replay.specs.Complete.{status_of_made, status_of_report, status_of_stream}
-use Rattle.dump_replay.specs.Complete.{status_of_task, unless_unfit, with_actions, with_count}
+use Rattle.dump_replay.specs.Complete.{status_of_task, unless_unfit, with_count, with_named}
 use Rattle.dump_replay.specs.Complete.{with_documents, with_file, with_lines, with_second}
 use Rattle.dump_replay.specs.Laws.{input_offence, status_of_input}
-use Rattle.dump_replay.specs.Order.{HasActions, IsCallInOrder, IsTaskInOrder, ZeroInOrder}
+use Rattle.dump_replay.specs.Order.{HasNamed, IsCallInOrder, IsTaskInOrder, ZeroInOrder}
 use Rattle.dump_replay.specs.Reporting.{ends_by_fault, IsEnded}
-use Rattle.dump_replay.specs.Statics.{reading_statics, settings_for}
+use Rattle.dump_replay.specs.Statics.{limits_for, reading_statics, settings_for}
+use Rattle.command_words.specs.declared.task.Origin.{Origin, TheVariants.Initiator, TheVariants.Receiver}
 use Rattle.dump_replay.proofs.Statuses.{no_offence, status_closing, zero_parts}
 use Rattle.std.specs.FinMap as finite
 use Rattle.session_report.specs.declared.reading.Event.TheVariants as said
@@ -62,19 +65,19 @@ module _ {X K : Type 0} (next : X → ℕ) where
       → with_file file next ≡ 0
   file_zero file says is zero_next = ap (λ f. with_file f next) is ∙ zero_next
 
-module _ (store : Store) (next : ℕ) where
-  zero_actions : (named : Option (List ℕ)) → with_actions store named next ≡ 0
-      → HasActions store named × (next ≡ 0)
-  zero_actions None is = (tt, is)
-  zero_actions (Some name) is =
-      let h = zero_file (λ texts. next) (file_in reading_actions store name) is in
+module _ {X K : Type 0} (reading : Reading X K) (store : Store) (next : ℕ) where
+  zero_named : (named : Option (List ℕ)) → with_named reading store named next ≡ 0
+      → HasNamed store reading named × (next ≡ 0)
+  zero_named None is = (tt, is)
+  zero_named (Some name) is =
+      let h = zero_file (λ (says : X). next) (file_in reading store name) is in
       ((h.0, h.1), h.2)
 
-  actions_zero : (named : Option (List ℕ)) → HasActions store named → next ≡ 0
-      → with_actions store named next ≡ 0
-  actions_zero None has is = is
-  actions_zero (Some name) has is =
-      file_zero (λ texts. next) (file_in reading_actions store name) has.0 has.1 is
+  named_zero : (named : Option (List ℕ)) → HasNamed store reading named → next ≡ 0
+      → with_named reading store named next ≡ 0
+  named_zero None has is = is
+  named_zero (Some name) has is =
+      file_zero (λ (says : X). next) (file_in reading store name) has.0 has.1 is
 
 module _ (next : List (List Item) → ℕ) where
   zero_documents : (read : Option (Result (List (List Item)) InputFault))
@@ -234,7 +237,7 @@ module _ (x : Settings) (mode : Mode) (kind : Kind) where
   begins_by_ack (broken_off carried text) bytes has well = cc
   begins_by_ack (turned_down text) bytes has well = cc
 
-module _ (x : Sending) (good : IsGood x.limits) (peer : List ℕ) where
+module _ (x : Sending) (good : IsGood x.back) (peer : List ℕ) where
   abbrev g : Settings
   g = answers_to x
 
@@ -245,7 +248,7 @@ module _ (x : Sending) (good : IsGood x.limits) (peer : List ℕ) where
       ap (λ (all : List ℕ). ack_along Awaited (handled_of x all)) c.joined
       ∙ ap (λ (v : History StreamEvent Offence). ack_along Awaited (map event_for v.events))
       (sessions_are_told g good c.parts c.session c.rest c.is_session c.may_follow)
-      ∙ begins_by_ack g x.mode x.kind c.parts c.session c.is_session.0 h.1
+      ∙ begins_by_ack g x.mode (encoding_kind x.encoding) c.parts c.session c.is_session.0 h.1
 
   abbrev judged : ℕ
   judged = status_of_report Whole g peer
@@ -279,8 +282,13 @@ count_zero Duplex sent next may is = is
 count_zero Simplex sent next may is = is
 count_zero Singleton sent next may is = ap (λ (n : ℕ). if n == 1 then next else 6) may ∙ is
 
-module _ (store : Store) (input peer : List ℕ) (order : List Lane) (statics : List Entry) (limits : Limits)
-    (good : IsGood limits) where
+good_of : (origin : Origin) (limits : TwoLimits) → AreGood limits
+    → IsGood (limits_for origin limits)
+good_of Initiator limits good = good.forward
+good_of (Receiver mode kind) limits good = good.back
+
+module _ (store : Store) (input peer : List ℕ) (order : List Lane) (statics : List Entry) (limits : TwoLimits)
+    (good : AreGood limits) where
   module _ (opening : Opening) (named : Option (List ℕ)) where
     abbrev sends : (first second : List (List Item)) → Sending
     sends first second = sending_with opening statics limits first second order
@@ -289,16 +297,16 @@ module _ (store : Store) (input peer : List ℕ) (order : List Lane) (statics : 
     after second first = status_of_call (sends first second) peer
 
     abbrev lines : List (List Item) → ℕ
-    lines second = with_lines (documents_within limits.session input) (after second)
+    lines second = with_lines (documents_within limits.forward.session input) (after second)
 
     zero_call : with_second store named lines ≡ 0
         → IsCallInOrder store input peer order opening named statics limits
     zero_call is =
         let two = zero_second lines store named is in
-        let one = zero_lines (after two.0) (documents_within limits.session input) two.2 in
+        let one = zero_lines (after two.0) (documents_within limits.forward.session input) two.2 in
         let x = sends one.0 two.0 in
         let count = zero_count opening.mode (in_order one.0 two.0 order) _ one.2 in
-        let fits = zero_sent x good peer (ack_along Awaited (handled_of x peer)) refl
+        let fits = zero_sent x good.back peer (ack_along Awaited (handled_of x peer)) refl
         (envelopes x (in_order one.0 two.0 order)) count.1 in record {
           first = one.0;
           second = two.0;
@@ -317,38 +325,47 @@ module _ (store : Store) (input peer : List ℕ) (order : List Lane) (statics : 
         second_zero lines store named h.second h.second_is
         (ap (λ read. with_lines read (after h.second)) h.first_is
         ∙ count_zero opening.mode (in_order h.first h.second order) _ h.admitted
-        (sent_zero x good peer (ack_along Awaited (handled_of x peer))
+        (sent_zero x good.back peer (ack_along Awaited (handled_of x peer))
         (envelopes x (in_order h.first h.second order)) h.sent h.all_fit
-        (report_zero Whole (answers_to x) good peer h.ended)))
+        (report_zero Whole (answers_to x) good.back peer h.ended)))
 
   zero_task : (task : Task) → status_of_task store input peer order task statics limits ≡ 0
       → IsTaskInOrder store input peer order task statics limits
   zero_task (report detail origin) is =
-      zero_report detail (settings_for origin statics limits) good input is
-  zero_task (build opening) is = may_be_built (settings_for_building opening statics limits) input
-      (zero_input (input_offence opening statics limits input) is)
+      zero_report detail (settings_for origin statics limits) (good_of origin limits good) input is
+  zero_task (build opening) is = may_be_built (settings_for_building opening statics limits.forward) input
+      (zero_input (input_offence opening statics limits.forward input) is)
   zero_task (replay serving) is =
-      let h = zero_actions store _ serving.actions is in
-      (h.0, zero_stream (settings_to_answer serving statics limits) good input h.1)
+      let h = zero_named reading_actions store _ serving.actions is in
+      (h.0, zero_stream (settings_to_answer serving statics limits.forward) good.forward input h.1)
   zero_task (serve listen connections serving) is =
-      let h = zero_actions store 0 serving.actions is in h.0
+      let h = zero_named reading_actions store 0 serving.actions is in h.0
+  zero_task (relay relaying) is =
+      let h = zero_named reading_statics store 0 relaying.back_statics is in h.0
+  zero_task (pool listen connections sessions serving) is =
+      let h = zero_named reading_actions store 0 serving.actions is in h.0
   zero_task (call connect opening second) is = zero_call opening second is
-  zero_task (generate seed count) is = zero_made limits statics good (documents seed count) is
+  zero_task (generate seed count) is =
+      zero_made limits.forward statics good.forward (documents seed count) is
 
   task_zero : FittingIsAccepted → (task : Task)
       → IsTaskInOrder store input peer order task statics limits
       → status_of_task store input peer order task statics limits ≡ 0
   task_zero fitting (report detail origin) h =
-      report_zero detail (settings_for origin statics limits) good input h
+      report_zero detail (settings_for origin statics limits) (good_of origin limits good) input h
   task_zero fitting (build opening) h =
-      ap status_of_input (fitting (settings_for_building opening statics limits) input h)
-  task_zero fitting (replay serving) h = actions_zero store _ serving.actions h.0
-      (stream_zero (settings_to_answer serving statics limits) good input h.1)
+      ap status_of_input (fitting (settings_for_building opening statics limits.forward) input h)
+  task_zero fitting (replay serving) h = named_zero reading_actions store _ serving.actions h.0
+      (stream_zero (settings_to_answer serving statics limits.forward) good.forward input h.1)
   task_zero fitting (serve listen connections serving) h =
-      actions_zero store 0 serving.actions h refl
+      named_zero reading_actions store 0 serving.actions h refl
+  task_zero fitting (relay relaying) h =
+      named_zero reading_statics store 0 relaying.back_statics h refl
+  task_zero fitting (pool listen connections sessions serving) h =
+      named_zero reading_actions store 0 serving.actions h refl
   task_zero fitting (call connect opening second) h = call_zero opening second h
   task_zero fitting (generate seed count) h =
-      made_zero limits statics good (documents seed count) h
+      made_zero limits.forward statics good.forward (documents seed count) h
 
 pub zero_in_order : FittingIsAccepted → ZeroInOrder
 zero_in_order fitting store input peer order asked good = (

@@ -1,12 +1,11 @@
 -- The playing of a history: its beginning, what its endings say, and what it leaves.
-use Rattle.std.proofs.Common.{◌≡◌, ℕ, ◌<◌, ◌≤◌, ◌⊎◌, List, ◌++◌, Some, None, Ok, Option, sym, refl, ap}
+use Rattle.std.proofs.Common.{◌≡◌, ℕ, ◌⊎◌, List, ◌++◌, Some, None, Option, sym, refl, ap}
 use Rattle.std.proofs.Common.{◌∙◌, false, map, append-nil, subst, inl, inr, arith, lit<}
 use Rattle.rehearsal.specs.Forms.{event_of}
 use Rattle.io_edges.specs.{Faults.one_more, Faults.Rose, Wires.Network}
-use Rattle.{unit_streams.specs.Judging.offence, unit_streams.specs.Tellers.report}
+use Rattle.{unit_streams.specs.Judging.offence}
 use Rattle.stream_loop.specs.{declared.reporting.ReportEnding.ReportEnding, Answers.EndsWithin, Edges.Input}
-use Rattle.{io_edges.specs.Views.SinkView, stream_loop.specs.Reported.EndsAs}
-use Rattle.reliable_sequence.specs.declared.events.Counts.{Counts}
+use Rattle.{io_edges.specs.Views.SinkView}
 use Rattle.reliable_sequence.specs.Rehearsal.{counts_of}
 use Rattle.rehearsal.specs.declared.fault.HistoryFault.{HistoryFault, TheVariants.Line}
 use Rattle.rehearsal.specs.declared.fault.HistoryFault.TheVariants.{TooLong}
@@ -16,8 +15,8 @@ use Rattle.rehearsal.specs.History.{IsPlayed, last_line, no_counts, run_over, Se
 use Rattle.rehearsal.proofs.{LineFacts.begins, LineFacts.bounded, LineFacts.closes}
 use Rattle.rehearsal.proofs.Playing.{accepted_is_in_form, is_played}
 use Rattle.command_words.specs.Tasks.{Rehearsal}
-use Rattle.dump_replay.specs.{Outside.Outside, Outside.seen, Outside.SeenShelf, Working.Leaves}
-use Rattle.dump_replay.specs.Rehearsing.{history_offence, IsPlayedWhole, Rehearsed, Rehearses}
+use Rattle.dump_replay.specs.{Outside.seen, Outside.SeenShelf, Working.Leaves}
+use Rattle.dump_replay.specs.Rehearsing.{history_offence, Rehearses}
 use Rattle.dump_replay.specs.Rehearsing.{settings_for_history, status_of_history}
 use Rattle.dump_replay.specs.Rehearsing.{status_of_rehearsal, ZeroInForm, ZeroIsPlayedWhole}
 use Rattle.dump_replay.proofs.{Beginnings.not_begun, CompleteFiles.IsOr}

@@ -3,21 +3,28 @@ use Rattle.std.proofs.Common.{◌≡◌, ℕ, ◌<◌, ◌≤◌, false, ◌⊎�
 use Rattle.command_words.specs.Values.{is_blank}
 use Rattle.{std.proofs.Common.inr, string_tables.specs.StaticStrings.Entry}
 use Rattle.io_edges.specs.{Faults.one_more, Store.Store}
-use Rattle.nbfx_values.specs.Limits.{Limits}
+use Rattle.command_words.specs.Requests.{TwoLimits}
 use Rattle.stream_loop.specs.Edges.{Input}
 use Rattle.command_words.specs.declared.{action.Action.Action, words.WordsFault.WordsFault}
 use Rattle.command_words.specs.declared.action.Action.TheVariants.{Build, Call, Check, Dump, Gen}
-use Rattle.command_words.specs.declared.action.Action.TheVariants.{Rehearse, Replay, Serve}
-use Rattle.command_words.specs.{Options.given_for, Tasks.Rehearsal, Tasks.serve, Tasks.Serving, Tasks.Task}
-use Rattle.command_words.specs.Requests.{AskedOfSessions, AskForTask, AskToRehearse, IsRequest}
+use Rattle.command_words.specs.declared.action.Action.TheVariants.{Pool, Rehearse, Relay}
+use Rattle.command_words.specs.declared.action.Action.TheVariants.{Replay, Serve}
+use Rattle.command_words.specs.{Options.given_for, Tasks.Rehearsal, Tasks.Relaying, Tasks.Serving}
+use Rattle.command_words.specs.Tasks.{pool, relay, serve, Task}
+use Rattle.command_words.specs.Requests.{AskedOfSessions, AskForTask, IsRequest}
 use Rattle.command_words.specs.Requests.{of_sessions, rehearsal, Values}
 use Rattle.command_words.specs.Asking.{asked_of, rehearsal_of, session_of}
 use Rattle.command_words.specs.declared.request.{Request.Request, SessionRequest.SessionRequest}
 use Rattle.command_words.specs.declared.task.Rehearsal.{Rehearsal as RehearsalTaken}
 use Rattle.dump_replay.specs.Outside.{Outside, SeenShelf, shelf_at}
 use Rattle.dump_replay.specs.Running.{HasFetched, WhereAsked}
+use Rattle.io_edges.specs.Files.{Reading}
+use Rattle.duplex_server.specs.Responding.{reading_actions}
+use Rattle.dump_replay.specs.{Answering.action_kind_name, Pooling.PooledAll, Relaying.RelayedAll}
 use Rattle.dump_replay.specs.{Serving.AnsweredAll, Statuses.status_of_words}
-use Rattle.dump_replay.specs.Working.{AreNotRead, HasNoActions, IsPossible, Works}
+use Rattle.dump_replay.specs.Statics.{reading_statics, table_kind_name}
+use Rattle.dump_replay.specs.Working.{AreNotRead, HasNoActions, HasNoBack, IsPossible, Unread}
+use Rattle.dump_replay.specs.Working.{Works}
 use Rattle.io_edges.specs.Views.{SinkView}
 use Rattle.command_words.specs.declared.words.WordsFault.TheVariants as words
 use Rattle.command_words.specs.declared.request.Request.TheVariants as requests
@@ -30,6 +37,9 @@ possible_so Build value t h = subst IsPossible (sym h.is) h.opens.short
 possible_so Replay value t h = subst IsPossible (sym h) tt
 possible_so Serve value t h = subst IsPossible (sym h.is) tt
 possible_so Call value t h = subst IsPossible (sym h.is) h.opens.short
+possible_so Relay value t h = subst IsPossible (sym h.is) h.short
+possible_so Pool value t h =
+    subst IsPossible (sym h.is) ((h.least, h.most), (h.least_turns, h.most_turns))
 possible_so Gen value t h = subst IsPossible (sym h.is) tt
 possible_so Rehearse value t h = absurd h
 
@@ -91,6 +101,20 @@ same_shelf files faults first now kept same =
     let with_faults : ℕ → SeenShelf = λ v. record { files = files first; faults = v } in
     ap with_files kept ∙ ap with_faults same
 
+-- where a file isn't read, more is as before
+unread_more : {X K : Type 0} (reading : Reading X K) (kind_name : K → List ℕ) (Says : List ℕ → Type 0)
+    (Less More : Type 0) → (Less → More) → (name : List ℕ) (s s' : SeenShelf) (n : ℕ)
+    → Unread Says Less reading kind_name name s s' n
+    → Unread Says More reading kind_name name s s' n
+unread_more reading kind_name Says Less More more name s s' n h = record {
+  fault = h.fault;
+  tells = h.tells;
+  rose = h.rose;
+  status_is = h.status_is;
+  says = h.says;
+  untouched = more h.untouched;
+}
+
 -- where no file of actions is read, more is as before
 pub no_actions : (Says : List ℕ → Type 0) (Less More : Type 0) → (Less → More)
     → (serving : Serving) (s s' : SeenShelf) (n : ℕ) → HasNoActions Says Less serving s s' n
@@ -98,20 +122,13 @@ pub no_actions : (Says : List ℕ → Type 0) (Less More : Type 0) → (Less →
 no_actions Says Less More more serving s s' n h = (
   h.0,
   h.1,
-  record {
-    fault = h.2.fault;
-    tells = h.2.tells;
-    rose = h.2.rose;
-    status_is = h.2.status_is;
-    says = h.2.says;
-    untouched = more h.2.untouched;
-  },
+  unread_more reading_actions action_kind_name Says Less More more h.0 s s' n h.2,
 )
 
 -- connections were answered, or no file of actions is read
 pub serve_works : (Says : List ℕ → Type 0) (Less More : Type 0) → (Less → More)
     → {R K : Type 0} (reader : R → Input) (writer : K → SinkView) (listen : List ℕ)
-    (connections : ℕ) (serving : Serving) (statics : List Entry) (limits : Limits)
+    (connections : ℕ) (serving : Serving) (statics : List Entry) (limits : TwoLimits)
     (old new : Outside R K) (n : ℕ)
     → AnsweredAll Says reader writer connections serving statics limits old new n
     ⊎ HasNoActions Says Less serving old.shelf new.shelf n
@@ -120,3 +137,31 @@ serve_works Says Less More more reader writer listen connections serving statics
     (inl h) = inl h
 serve_works Says Less More more reader writer listen connections serving statics limits old new n
     (inr h) = inr (no_actions Says Less More more serving old.shelf new.shelf n h)
+
+-- sessions were joined, or no file of static strings of those that are opened is read
+pub relay_works : (Says : List ℕ → Type 0) (Less More : Type 0) → (Less → More)
+    → {R K : Type 0} (reader : R → Input) (writer : K → SinkView) (relaying : Relaying)
+    (statics : List Entry) (limits : TwoLimits) (old new : Outside R K) (n : ℕ)
+    → RelayedAll Says reader writer relaying statics limits old new n
+    ⊎ HasNoBack Says Less relaying.back_statics old.shelf new.shelf n
+    → Works Says More reader writer (relay relaying) statics limits old new n
+relay_works Says Less More more reader writer relaying statics limits old new n (inl h) = inl h
+relay_works Says Less More more reader writer relaying statics limits old new n (inr h) = inr (
+  h.0,
+  h.1,
+  unread_more reading_statics table_kind_name Says Less More more h.0 old.shelf new.shelf n h.2,
+)
+
+-- connections were answered at once, or no file of actions is read
+pub pool_works : (Says : List ℕ → Type 0) (Less More : Type 0) → (Less → More)
+    → {R K : Type 0} (reader : R → Input) (writer : K → SinkView) (listen : List ℕ)
+    (connections sessions : ℕ) (serving : Serving) (statics : List Entry) (limits : TwoLimits)
+    (old new : Outside R K) (n : ℕ)
+    → PooledAll Says reader writer connections sessions serving statics limits old new n
+    ⊎ HasNoActions Says Less serving old.shelf new.shelf n
+    → Works Says More reader writer (pool listen connections sessions serving) statics limits old
+    new n
+pool_works Says Less More more reader writer listen connections sessions serving statics limits old
+    new n (inl h) = inl h
+pool_works Says Less More more reader writer listen connections sessions serving statics limits old
+    new n (inr h) = inr (no_actions Says Less More more serving old.shelf new.shelf n h)

@@ -1,9 +1,10 @@
 -- What any task leaves, by what it does.
-use Rattle.std.proofs.Common.{◌≡◌, ℕ, ◌⊎◌, List, Some, None, Ok, Err, Option, Result, sym, refl, ap}
+use Rattle.std.proofs.Common.{◌≡◌, ℕ, ◌≤◌, ◌⊎◌, List, Some, None, Ok, Err, Option, Result, sym, refl, ap, ◌∙◌}
 use Rattle.std.proofs.{Common.subst, Common.inl, Common.inr, Common.arith, lemmas.Bool.cases_Bool}
 use Rattle.io_edges.specs.{declared.fault.FileFault.FileFault, Wires.Network}
 use Rattle.io_edges.specs.Faults.{CountsFaults, one_more, Rose}
 use Rattle.{string_tables.specs.StaticStrings.Entry, nbfx_values.specs.Limits.Limits}
+use Rattle.command_words.specs.Requests.{TwoLimits}
 use Rattle.nbfx_values.specs.declared.{content.Item.Item, refusals.Offence.Offence}
 use Rattle.stream_reader.specs.Stream.{Settings}
 use Rattle.stream_loop.specs.declared.{outbound.Outbound.Outbound}
@@ -11,7 +12,8 @@ use Rattle.stream_loop.specs.declared.{reporting.ReportEnding.ReportEnding}
 use Rattle.stream_loop.specs.Edges.{Input}
 use Rattle.document_lines.specs.declared.InputFault.{InputFault}
 use Rattle.document_lines.specs.declared.InputFault.TheVariants.{Line, TooLong, Unfit}
-use Rattle.command_words.specs.{declared.task.Detail.Detail, Tasks.Opening, Tasks.Serving}
+use Rattle.command_words.specs.{declared.task.Detail.Detail, Tasks.Opening, Tasks.Relaying}
+use Rattle.command_words.specs.Tasks.{Serving}
 use Rattle.session_generator.specs.declared.summary.Summary.{Summary}
 use Rattle.session_generator.specs.Summary.{status_of, Summarizes}
 use Rattle.duplex_server.specs.declared.{outcome.Inbound.Inbound, stopping.ServeFault.ServeFault}
@@ -21,9 +23,13 @@ use Rattle.dump_replay.specs.Building.{Builds, status_of_building}
 use Rattle.dump_replay.specs.Outside.{Outside, seen, SeenShelf}
 use Rattle.dump_replay.specs.Reporting.{IsReportStatus, Reports}
 use Rattle.dump_replay.specs.Running.{is_session_too_long, IsJudged, offence_status, status_of_file}
+use Rattle.relay.specs.declared.stopping.RelayFault.{RelayFault}
+use Rattle.dump_replay.specs.{Answering.answering_by, Outside.ends_seen, Pooling.PooledAll}
+use Rattle.dump_replay.specs.Relaying.{joining_by, RelayedAll, sides_seen, status_of_relay}
+use Rattle.dump_replay.proofs.{PoolEnds.pool_grows, PoolEnds.pool_rose, RelayEnds.lines_counted}
 use Rattle.dump_replay.specs.Serving.{AnsweredAll, status_of_stop}
 use Rattle.dump_replay.proofs.Causes.{Cause, judged, leaves_by, refused, starved, unfit, unread}
-use Rattle.dump_replay.proofs.Causes.{unwired, unwritten}
+use Rattle.dump_replay.proofs.Causes.{unwired, unwritten, wires_by}
 use Rattle.io_edges.specs.Views.{SinkView}
 use Rattle.io_edges.specs.declared.fault.FileFault.TheVariants as faults
 use Rattle.stream_loop.specs.declared.reporting.ReportEnding.TheVariants as endings
@@ -31,6 +37,7 @@ use Rattle.stream_loop.specs.declared.outbound.Outbound.TheVariants as outbounds
 use Rattle.duplex_server.specs.declared.outcome.Inbound.TheVariants as inbounds
 use Rattle.session_generator.specs.declared.summary.Summary.TheVariants as summaries
 use Rattle.duplex_server.specs.declared.stopping.ServeFault.TheVariants as stops
+use Rattle.relay.specs.declared.stopping.RelayFault.TheVariants as relays
 
 -- ---- what causes a status
 
@@ -87,6 +94,33 @@ stop_cause (Ok v) = judged (inl refl)
 stop_cause (Err stops.Wire) = unwired refl refl
 stop_cause (Err stops.Output) = unwritten refl refl
 stop_cause (Err stops.Memory) = starved refl
+
+-- of sessions that are joined
+relay_cause : (stop : Result (Unit {0}) RelayFault)
+    → Cause ⊥ (stop ≡ Err relays.Output) (stop ≡ Err relays.Wire) (status_of_relay stop)
+relay_cause (Ok v) = judged (inl refl)
+relay_cause (Err relays.Wire) = unwired refl refl
+relay_cause (Err relays.Output) = unwritten refl refl
+relay_cause (Err relays.Memory) = starved refl
+
+-- a wire's count, by the status
+pub stop_counts : (count count' : ℕ) (stop : Result (Unit {0}) ServeFault) (n : ℕ)
+    → n ≡ status_of_stop stop → CountsFaults count count' (stop ≡ Err stops.Wire)
+    → CountsFaults count count' (n ≡ 8)
+stop_counts count count' stop n is c = record {
+  rose = λ eight. c.rose (wires_by (status_of_stop stop) (stop_cause stop) (sym is ∙ eight));
+  same = λ not. c.same (λ e. not (is ∙ ap status_of_stop e));
+  grows = c.grows;
+}
+
+pub relay_counts : (count count' : ℕ) (stop : Result (Unit {0}) RelayFault) (n : ℕ)
+    → n ≡ status_of_relay stop → CountsFaults count count' (stop ≡ Err relays.Wire)
+    → CountsFaults count count' (n ≡ 8)
+relay_counts count count' stop n is c = record {
+  rose = λ eight. c.rose (wires_by (status_of_relay stop) (relay_cause stop) (sym is ∙ eight));
+  same = λ not. c.same (λ e. not (is ∙ ap status_of_relay e));
+  grows = c.grows;
+}
 
 -- of a session that is made
 summary_cause : (summary : Summary) → Cause ⊥ (summary ≡ summaries.WriteFault) ⊥ (status_of summary)
@@ -163,23 +197,43 @@ module _ (s s' : SeenShelf) (i i' : Input) (o o' : SinkView) {R K : Type 0} (w w
 
     -- what doesn't read the input
     unread_leaves : (same : i' ≡ i) {writes wires : Type 0} (n status : ℕ)
-        → Cause ⊥ writes wires status → n ≡ status → CountsFaults o.faults o'.faults writes
-        → Leaves old new n
-    unread_leaves same n status cause is counted =
+        → Cause ⊥ writes wires status → n ≡ status → (writes → Rose o.faults o'.faults)
+        → o.faults ≤ o'.faults → Leaves old new n
+    unread_leaves same n status cause is rose grows =
         let read = ap (λ (v : Input). v.faults) same in
         subst (Leaves old new) (sym is) (leaves_by old new status cause (λ none. absurd none)
-        counted.rose (inl (ap (λ (v : Input). v.empty_takes) same)) (omega (arith, read))
-        counted.grows)
+        rose (inl (ap (λ (v : Input). v.empty_takes) same)) (omega (arith, read)) grows)
 
     module _ (Says : List ℕ → Type 0) (reader : R → Input) (writer : K → SinkView)
-        (connections : ℕ) (serving : Serving) (statics : List Entry) (limits : Limits) (n : ℕ)
-        (h : AnsweredAll Says reader writer connections serving statics limits old new n) where
-      pub serve_leaves : Leaves old new n
-      serve_leaves = unread_leaves h.unread n (status_of_stop h.stop) (stop_cause h.stop)
-          h.status_is h.serves.output_counted
+        (statics : List Entry) (limits : TwoLimits) (n : ℕ) where
+      pub serve_leaves : (connections : ℕ) (serving : Serving)
+          → AnsweredAll Says reader writer connections serving statics limits old new n
+          → Leaves old new n
+      serve_leaves connections serving h = unread_leaves h.unread n (status_of_stop h.stop)
+          (stop_cause h.stop) h.status_is h.serves.output_counted.rose h.serves.output_counted.grows
+
+      pub relay_leaves : (relaying : Relaying)
+          → RelayedAll Says reader writer relaying statics limits old new n → Leaves old new n
+      relay_leaves relaying h =
+          let counted = lines_counted (joining_by relaying statics h.back limits)
+          (sides_seen reader writer) relaying.connections w w' o o' h.joined.stop h.joined.relays in
+          unread_leaves h.unread n (status_of_relay h.joined.stop) (relay_cause h.joined.stop)
+          h.joined.status_is
+          counted.rose counted.grows
+
+      pub pool_leaves : (connections sessions : ℕ) (serving : Serving)
+          → PooledAll Says reader writer connections sessions serving statics limits old new n
+          → Leaves old new n
+      pool_leaves connections sessions serving h =
+          let x = answering_by h.responder statics limits in
+          unread_leaves h.unread n
+          (status_of_stop h.stop) (stop_cause h.stop) h.status_is
+          (pool_rose x serving.endpoint sessions (ends_seen reader writer) connections w w' o o' h.stop h.pools)
+          (pool_grows x serving.endpoint sessions (ends_seen reader writer) connections w w' o o' h.stop h.pools)
 
     module _ (limits : Limits) (statics : List Entry) (made : List (List Item)) (summary : Summary)
         (h : Summarizes limits statics made o o' summary) (same : i' ≡ i) where
       pub generate_leaves : (n : ℕ) → n ≡ status_of summary → Leaves old new n
       generate_leaves n is =
-          unread_leaves same n (status_of summary) (summary_cause summary) is h.counted
+          unread_leaves same n (status_of summary) (summary_cause summary) is h.counted.rose
+          h.counted.grows

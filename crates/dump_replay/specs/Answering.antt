@@ -1,12 +1,12 @@
 -- What the command that answers an initiator's stream leaves, by how that ended.
 use Rattle.std.specs.Prelude.{◌≡◌, ℕ, List, [], Some, None, codes, Option}
 use Rattle.{io_edges.specs.Store.Store, string_tables.specs.StaticStrings.Entry}
-use Rattle.{nbfx_values.specs.Limits.Limits, session_report.specs.Report.offence_line}
+use Rattle.{command_words.specs.Requests.TwoLimits, session_report.specs.Report.offence_line}
 use Rattle.stream_loop.specs.{declared.outbound.Outbound.Outbound, Edges.Input}
 use Rattle.command_words.specs.Tasks.{Serving}
 use Rattle.action_dispatch.specs.declared.fault.ActionKind.{ActionKind, TheVariants.Repeated}
 use Rattle.action_dispatch.specs.declared.fault.ActionKind.TheVariants.{Fields, Header, NotUtf8}
-use Rattle.duplex_server.specs.{declared.outcome.Inbound.Inbound, ServerStream.answering}
+use Rattle.duplex_server.specs.{declared.outcome.Inbound.Inbound, ServerStream.Answering}
 use Rattle.duplex_server.specs.{Replaying.Replays}
 use Rattle.duplex_server.specs.declared.responding.Responder.{Responder, TheVariants.Echo}
 use Rattle.duplex_server.specs.Responding.{GivesTexts, served_by}
@@ -61,16 +61,25 @@ abbrev pub IsAskedFor : Option Store → Option (List ℕ) → Responder → Typ
 IsAskedFor files None responder = responder ≡ Echo
 IsAskedFor files (Some name) responder = GivesTexts files name responder
 
+-- how streams are answered by a service, with these static strings and limits
+abbrev pub answering_by : Responder → List Entry → TwoLimits → Answering
+answering_by responder statics limits = record {
+  serves = served_by responder;
+  statics = statics;
+  forward = limits.forward;
+  back = limits.back;
+}
+
 -- An initiator's stream was answered so, by the service that is asked for, with the status and the
 -- note of how that ended; Says is what is known of the note with a text.
 pub record Answered (Says : List ℕ → Type 0) (files : Option Store) (serving : Serving)
-    (statics : List Entry) (limits : Limits) (i i' : Input) (o o' : SinkView) (status : ℕ)
+    (statics : List Entry) (limits : TwoLimits) (i i' : Input) (o o' : SinkView) (status : ℕ)
     : Type 0 where
   pub responder : Responder
   pub asked_for : IsAskedFor files serving.actions responder
   pub inbound : Inbound
   pub outbound : Outbound
   pub status_is : status ≡ status_of_replay inbound outbound
-  pub replays : Replays (answering (served_by responder) statics limits) serving.endpoint i i' o o'
+  pub replays : Replays (answering_by responder statics limits) serving.endpoint i i' o o'
       inbound outbound
   pub says : Says (note_of_replay inbound outbound)

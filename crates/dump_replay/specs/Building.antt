@@ -1,6 +1,7 @@
 -- What the command that writes documents as an initiator's session leaves, by how it ended.
 use Rattle.std.specs.Prelude.{ℕ, List, [], ◌∷◌, ◌++◌, Some, None, codes, decimal, flat_map}
 use Rattle.{string_tables.specs.StaticStrings.Entry, nbfx_values.specs.Limits.Limits}
+use Rattle.nbfx_values.specs.{declared.session.Kind.Kind, Session.encoding_kind}
 use Rattle.nbfx_encoder.specs.declared.faults.EncodeFault.{EncodeFault}
 use Rattle.stream_loop.specs.declared.reporting.ReportEnding.{ReportEnding, TheVariants.WriteFault}
 use Rattle.stream_loop.specs.declared.reporting.ReportEnding.TheVariants.{Judged, Memory, ReadFault}
@@ -15,14 +16,23 @@ use Rattle.document_lines.specs.Input.{envelopes_and_end, lines_of_documents, Se
 use Rattle.io_edges.specs.Views.{SinkView}
 use Rattle.nbfx_encoder.specs.declared.faults.EncodeFault.TheVariants as unfit
 
+-- the encoding of the session's envelopes
+abbrev pub kind_of : Opening → Kind
+kind_of opening = encoding_kind opening.encoding
+
 -- how documents are written, with these static strings and within these quotas
 abbrev pub settings_for_building : Opening → List Entry → Limits → Settings
 settings_for_building opening statics limits =
-    record { limits = limits; kind = opening.kind; mode = opening.mode; statics = statics }
+    record {
+      limits = limits;
+      kind = kind_of opening;
+      mode = opening.mode;
+      statics = statics;
+    }
 
 -- the preamble of the session
 abbrev pub preamble_of : Opening → List ℕ
-preamble_of opening = opening_bytes opening.mode opening.kind opening.via
+preamble_of opening = opening_bytes opening.mode opening.encoding opening.via
 
 -- the output, as if it held the preamble too, which is written first
 abbrev pub with_preamble : Opening → SinkView → SinkView

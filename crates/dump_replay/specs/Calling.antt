@@ -2,8 +2,9 @@
 use Rattle.std.specs.Prelude.{◌≡◌, ℕ, ◌⊎◌, List, [], ◌++◌, take, Some, None, Ok, Err, codes}
 use Rattle.std.specs.Prelude.{Option, Result}
 use Rattle.io_edges.specs.{Faults.Rose, Store.Store, Wires.Network}
-use Rattle.{string_tables.specs.StaticStrings.Entry, command_words.specs.Tasks.Opening}
-use Rattle.nbfx_values.specs.{declared.content.Item.Item, Limits.Limits}
+use Rattle.{string_tables.specs.StaticStrings.Entry, command_words.specs.Requests.TwoLimits}
+use Rattle.command_words.specs.Tasks.{Opening}
+use Rattle.nbfx_values.specs.declared.content.Item.{Item}
 use Rattle.stream_loop.specs.{declared.reporting.ReportEnding.ReportEnding, Edges.Input}
 use Rattle.stream_loop.specs.declared.reporting.ReportEnding.TheVariants.{Judged, Memory, ReadFault}
 use Rattle.document_lines.specs.declared.InputFault.{InputFault, TheVariants.Line}
@@ -11,7 +12,7 @@ use Rattle.document_lines.specs.declared.{fetching.DocumentsFault.DocumentsFault
 use Rattle.document_lines.specs.declared.{reading.ListFault.ListFault}
 use Rattle.document_lines.specs.{Files.Answers, Taking.TakesDocuments}
 use Rattle.two_lanes.specs.{declared.jobs.Lane.Lane, Merges.AreAll, Merges.merge}
-use Rattle.client.specs.{declared.called.Called.Called, Sent.sending}
+use Rattle.client.specs.{declared.called.Called.Called, Sent.Sending, Sent.sending}
 use Rattle.client.specs.{Places.CallsPlace, Statuses.fault_of, Statuses.status_of, Tags.sent_line}
 use Rattle.dump_replay.specs.{declared.calling.UnreadDocuments.UnreadDocuments, Running.note_of}
 use Rattle.dump_replay.specs.Building.{input_note, line_note, note_of_building, status_of_building}
@@ -58,6 +59,11 @@ note_of_called called = note_by (fault_of called) (status_of called)
 
 -- ---- what is left
 
+-- how documents are sent on a session that is opened so, with these static strings and limits
+abbrev pub sending_on : Opening → List Entry → TwoLimits → List (List Item) → Sending
+sending_on opening statics limits documents =
+    sending limits.forward limits.back statics opening.mode opening.encoding documents
+
 -- the second list: none, or what the file with this name says
 abbrev pub IsSecond : Option Store → Option (List ℕ) → List (List Item) → Type 0
 IsSecond stored None second = second ≡ []
@@ -86,12 +92,12 @@ module _ (Says : List ℕ → Type 0) where
   HasNoSecond Untouched named old new status = (name : List ℕ) × (named ≡ Some name)
       × UnreadSecond Untouched name old new status
 
-  module _ (limits : Limits) (i i' : Input) (o o' : SinkView) (status : ℕ) where
+  module _ (limits : TwoLimits) (i i' : Input) (o o' : SinkView) (status : ℕ) where
     -- the documents of the input aren't read, with the status and the note of why, and no
     -- connection is asked for; Same is known of the wire then
     pub record TookNone (Same : Type 0) : Type 0 where
       pub fault : ListFault
-      pub taken : TakesDocuments limits.session i i' (Err fault)
+      pub taken : TakesDocuments limits.forward.session i i' (Err fault)
       pub status_is : status ≡ status_of_building (ending_of_list fault)
       pub says : Says (note_of_building (ending_of_list fault))
       pub unwritten : o' ≡ o
@@ -104,13 +110,13 @@ module _ (Says : List ℕ → Type 0) where
       -- became of it. The line of what was sent has the letters of that order.
       pub record CalledPlace : Type 0 where
         pub first : List (List Item)
-        pub taken : TakesDocuments limits.session i i' (Ok first)
+        pub taken : TakesDocuments limits.forward.session i i' (Ok first)
         pub called : Called
         pub order : List Lane
         pub all : AreAll first second order
         pub calls : CallsPlace reader writer
-            (sending limits statics opening.mode opening.kind (merge first second order))
-            opening.via (λ sent. sent_line (take sent order)) n n' o o' called
+            (sending_on opening statics limits (merge first second order)) opening.via
+            (λ sent. sent_line (take sent order)) n n' o o' called
         pub status_is : status ≡ status_of called
         pub says : Says (note_of_called called)
 
@@ -119,7 +125,7 @@ module _ (Says : List ℕ → Type 0) where
       CalledOrNot = CalledPlace ⊎ TookNone (n' ≡ n)
 
   -- A peer was called, or the documents of the input aren't read, where the second list is.
-  pub record CalledFor (stored : Option Store) (named : Option (List ℕ)) (limits : Limits)
+  pub record CalledFor (stored : Option Store) (named : Option (List ℕ)) (limits : TwoLimits)
       (i i' : Input) (o o' : SinkView) (status : ℕ) {R K : Type 0} (reader : R → Input)
       (writer : K → SinkView) (opening : Opening) (statics : List Entry) (n n' : Network R K)
       : Type 0 where
@@ -128,7 +134,7 @@ module _ (Says : List ℕ → Type 0) where
     pub does : CalledOrNot limits i i' o o' status reader writer opening statics second n n'
 
   abbrev pub CalledWith : {R K : Type 0} → (R → Input) → (K → SinkView) → Opening
-      → (named : Option (List ℕ)) → List Entry → Limits → (old new : Outside R K) → ℕ → Type 0
+      → (named : Option (List ℕ)) → List Entry → TwoLimits → (old new : Outside R K) → ℕ → Type 0
   CalledWith reader writer opening named statics limits old new status =
       CalledFor old.shelf.files named limits old.input new.input old.output new.output status
       reader writer opening statics old.wire new.wire

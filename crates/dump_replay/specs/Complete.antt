@@ -4,7 +4,7 @@
 use Rattle.std.specs.Prelude.{◌≡◌, ℕ, ◌⊎◌, List, [], ◌∷◌, ◌++◌, drop, length, if◌then◌else◌, ◌==◌}
 use Rattle.std.specs.Prelude.{Some, None, Ok, Err, Option, Result, ⊤}
 use Rattle.io_edges.specs.{Faults.Rose, Store.Store, Wires.Network}
-use Rattle.io_edges.specs.Files.{bad, file_in, missing, ShelfFile, whole}
+use Rattle.io_edges.specs.Files.{bad, file_in, missing, Reading, ShelfFile, whole}
 use Rattle.{string_tables.specs.StaticStrings.Entry, stream_loop.specs.Edges.Input}
 use Rattle.nbfx_values.specs.{declared.content.Item.Item, Limits.Limits}
 use Rattle.nbfx_values.specs.declared.session.Mode.{Mode, TheVariants.Singleton}
@@ -14,17 +14,18 @@ use Rattle.stream_reader.specs.Stream.{any_initiators, initiators, Settings}
 use Rattle.session_report.specs.{declared.reporter.Outcome.TheVariants.Ended, Report.outcome}
 use Rattle.document_lines.specs.{declared.InputFault.InputFault, Files.read_of}
 use Rattle.command_words.specs.declared.task.Detail.{Detail, TheVariants.Whole}
-use Rattle.command_words.specs.Requests.{AskedOfSessions, IsRequest, of_sessions, rehearsal}
+use Rattle.command_words.specs.Requests.{AskedOfSessions, IsRequest, of_sessions, rehearsal, TwoLimits}
 use Rattle.command_words.specs.Tasks.{Rehearsal, Serving, Task}
-use Rattle.command_words.specs.Tasks.{build, call, generate, Opening, replay, report, serve}
+use Rattle.command_words.specs.Tasks.{build, call, generate, Opening, pool, relay, replay, report}
+use Rattle.command_words.specs.Tasks.{serve}
 use Rattle.session_generator.specs.{Documents.documents, Generated.session_of}
 use Rattle.duplex_server.specs.Responding.{reading_actions}
 use Rattle.two_lanes.specs.declared.jobs.Lane.{Lane, TheVariants.A, TheVariants.B}
 use Rattle.two_lanes.specs.Merges.{merge, times}
 use Rattle.client.specs.Called.{Ack, Awaited, Read}
 use Rattle.client.specs.Called.{ack_along, answers_to, handled_of}
-use Rattle.client.specs.Sent.{envelopes, Sending, sending}
-use Rattle.dump_replay.specs.{Building.status_of_input_fault, Outside.Outside}
+use Rattle.client.specs.Sent.{envelopes, Sending}
+use Rattle.dump_replay.specs.{Building.status_of_input_fault, Calling.sending_on, Outside.Outside}
 use Rattle.dump_replay.specs.Laws.{input_offence, status_of_input}
 use Rattle.dump_replay.specs.Rehearsing.{history_offence, status_of_history}
 use Rattle.dump_replay.specs.Running.{status_of, WhereAsked}
@@ -39,11 +40,18 @@ with_file (whole says) next = next says
 with_file (bad row kind) next = 6
 with_file missing next = 6
 
--- it goes on where the file of actions is read, if one is named
+-- it goes on where a file is read, if one is named
+abbrev pub with_named : {X K : Type 0} → Reading X K → Store → Option (List ℕ) → (next : ℕ) → ℕ
+with_named reading store None next = next
+with_named reading store (Some name) next = with_file (file_in reading store name) (λ says. next)
+
+-- where the file of actions is
 abbrev pub with_actions : Store → Option (List ℕ) → (next : ℕ) → ℕ
-with_actions store None next = next
-with_actions store (Some name) next =
-    with_file (file_in reading_actions store name) (λ texts. next)
+with_actions = with_named reading_actions
+
+-- and that of the static strings of sessions that are opened for others
+abbrev pub with_back : Store → Option (List ℕ) → (next : ℕ) → ℕ
+with_back = with_named reading_statics
 
 -- it goes on with the documents of a file
 abbrev pub with_documents : Option (Result (List (List Item)) InputFault)
@@ -108,29 +116,32 @@ in_order first second order = merge first second order
     ++ drop (times A order) first ++ drop (times B order) second
 
 -- what is sent in a call
-abbrev pub sending_with : Opening → List Entry → Limits → (first second : List (List Item))
+abbrev pub sending_with : Opening → List Entry → TwoLimits → (first second : List (List Item))
     → (order : List Lane) → Sending
 sending_with opening statics limits first second order =
-    sending limits statics opening.mode opening.kind (in_order first second order)
+    sending_on opening statics limits (in_order first second order)
 
 -- ---- all tasks
 
 module _ (store : Store) (input peer : List ℕ) (order : List Lane) where
-  abbrev pub status_of_task : Task → List Entry → Limits → ℕ
+  abbrev pub status_of_task : Task → List Entry → TwoLimits → ℕ
   status_of_task (report detail origin) statics limits =
       status_of_report detail (settings_for origin statics limits) input
   status_of_task (build opening) statics limits =
-      status_of_input (input_offence opening statics limits input)
+      status_of_input (input_offence opening statics limits.forward input)
   status_of_task (replay serving) statics limits = with_actions store serving.actions
-      (status_of_stream (settings_to_answer serving statics limits) input)
+      (status_of_stream (settings_to_answer serving statics limits.forward) input)
   status_of_task (serve listen connections serving) statics limits =
       with_actions store serving.actions 0
   status_of_task (call connect opening second) statics limits =
-      with_second store second (λ behind. with_lines (documents_within limits.session input)
+      with_second store second (λ behind. with_lines (documents_within limits.forward.session input)
       (λ first. status_of_call (sending_with opening statics limits first behind order) peer))
+  status_of_task (relay relaying) statics limits = with_back store relaying.back_statics 0
+  status_of_task (pool listen connections sessions serving) statics limits =
+      with_actions store serving.actions 0
   status_of_task (generate seed count) statics limits =
-      status_of_made (any_initiators statics limits)
-      (session_of limits statics (documents seed count))
+      status_of_made (any_initiators statics limits.forward)
+      (session_of limits.forward statics (documents seed count))
 
   -- the status of a run that is asked for this on sessions
   abbrev pub status_for : AskedOfSessions → ℕ
@@ -172,11 +183,13 @@ WherePeer task reader n n' peer = ⊤
 -- a task that reads the input is given this
 abbrev pub WhereRead : Task → (given : Type 0) → Type 0
 WhereRead (serve listen connections serving) given = ⊤
+WhereRead (relay relaying) given = ⊤
+WhereRead (pool listen connections sessions serving) given = ⊤
 WhereRead (generate seed count) given = ⊤
 WhereRead task given = given
 
 -- The shelf holds these files, the input that is read gives these bytes, and no count of I/O errors
--- rose. The ends of a server's connections may have failed.
+-- rose. The ends of connections that were accepted may have failed.
 pub record GoesWell {R K : Type 0} (reader : R → Input) (old new : Outside R K) (task : Task)
     (store : Store) (input peer : List ℕ) : Type 0 where
   pub files : old.shelf.files ≡ Some store

@@ -14,7 +14,7 @@ use Rattle.line_notation.specs.Lines.{AreLinesOf, cut}
 use Rattle.document_lines.specs.declared.InputFault.{InputFault, TheVariants.Unfit}
 use Rattle.document_lines.specs.Input.{envelopes_and_end, lines_of_documents}
 use Rattle.command_words.specs.{declared.task.Detail.Detail, Tasks.Opening}
-use Rattle.dump_replay.specs.Building.{Builds, preamble_of, settings_for_building}
+use Rattle.dump_replay.specs.Building.{Builds, kind_of, preamble_of, settings_for_building}
 use Rattle.dump_replay.specs.Building.{status_of_building, status_of_input_fault}
 use Rattle.io_edges.specs.Views.{SinkView}
 use Rattle.nbfx_encoder.specs.declared.faults.EncodeFault.TheVariants as encode
@@ -48,9 +48,10 @@ module _ (opening : Opening) (statics : List Entry) (limits : Limits) where
       : Type 0 where
     pub carried : List Carried
     pub documents_are : map (λ (one : Carried). one.items) carried ≡ documents
-    pub is_session : IsSession x (conversation opening.mode opening.kind opening.via carried) bytes
+    pub is_session : IsSession x (conversation opening.mode (kind_of opening) opening.via carried)
+        bytes
     pub reported : (d : Detail) → report d x bytes ≡ flat_map (told_of d)
-        (session_events (conversation opening.mode opening.kind opening.via carried)
+        (session_events (conversation opening.mode (kind_of opening) opening.via carried)
         (length bytes))
 
   -- the input is lines of documents, and what is written of it is such a session of them

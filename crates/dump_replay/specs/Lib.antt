@@ -7,6 +7,8 @@ pub mod Reporting
 pub mod Building
 pub mod Answering
 pub mod Serving
+pub mod Relaying
+pub mod Pooling
 pub mod Calling
 pub mod Generating
 pub mod Noting

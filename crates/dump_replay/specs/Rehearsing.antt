@@ -1,5 +1,5 @@
 -- What the command that plays a history leaves, by how that ended.
-use Rattle.std.specs.Prelude.{◌≡◌, ℕ, ◌↔◌, ◌⊎◌, List, [], ◌++◌, map, Some, None, Ok, codes, Option}
+use Rattle.std.specs.Prelude.{◌≡◌, ℕ, ◌↔◌, List, [], ◌++◌, map, Some, None, Ok, codes, Option}
 use Rattle.{unit_streams.specs.Judging.offence, line_notation.specs.Lines.cut}
 use Rattle.stream_loop.specs.{declared.reporting.ReportEnding.ReportEnding, Edges.Input}
 use Rattle.io_edges.specs.Views.{SinkView}

@@ -6,7 +6,8 @@ use Rattle.nbfx_values.specs.declared.refusals.Offence.{Offence}
 use Rattle.nbfx_values.specs.declared.refusals.Reason.{Reason, TheVariants.SessionTooLong}
 use Rattle.session_report.specs.declared.reporter.Outcome.{Outcome, TheVariants.Faulted}
 use Rattle.command_words.specs.Requests.{Asked, AskedOfSessions, IsRequest, of_sessions}
-use Rattle.command_words.specs.Tasks.{build, call, generate, replay, report, serve, Task}
+use Rattle.command_words.specs.Tasks.{build, call, generate, pool, relay, replay, report, serve}
+use Rattle.command_words.specs.Tasks.{Task}
 use Rattle.io_edges.specs.declared.fault.FileFault.TheVariants as faults
 
 -- this holds of what the words ask for, if they are a request
@@ -78,6 +79,8 @@ files_of (build opening) = []
 files_of (replay serving) = if_named serving.actions
 files_of (serve listen connections serving) = if_named serving.actions
 files_of (call connect opening second) = if_named second
+files_of (relay relaying) = if_named relaying.back_statics
+files_of (pool listen connections sessions serving) = if_named serving.actions
 files_of (generate seed count) = []
 
 -- no more files were fetched than these are

@@ -6,7 +6,7 @@ use Rattle.{string_tables.specs.StaticStrings.Entry, nbfx_values.specs.Limits.Li
 use Rattle.static_dictionary.specs.declared.fault.{TableFault.TableFault, TableKind.TableKind}
 use Rattle.static_dictionary.specs.Rows.{Fault, fault_of, rows_of, table_of}
 use Rattle.stream_reader.specs.Stream.{initiators, receivers, Settings, Side}
-use Rattle.command_words.specs.{declared.task.Origin.Origin, Requests.AskedOfSessions}
+use Rattle.command_words.specs.{declared.task.Origin.Origin, Requests.AskedOfSessions, Requests.TwoLimits}
 use Rattle.command_words.specs.declared.task.Origin.TheVariants.{Initiator, Receiver}
 use Rattle.io_edges.specs.declared.fault.FileFault.TheVariants as faults
 use Rattle.static_dictionary.specs.declared.fault.TableFault.TheVariants as tables
@@ -40,10 +40,15 @@ abbrev pub side_for : Origin → Side
 side_for Initiator = initiators None
 side_for (Receiver mode kind) = receivers mode kind
 
+-- the limits of what that end sends
+abbrev pub limits_for : Origin → TwoLimits → Limits
+limits_for Initiator limits = limits.forward
+limits_for (Receiver mode kind) limits = limits.back
+
 -- how it is read, with these static strings
-abbrev pub settings_for : Origin → List Entry → Limits → Settings
+abbrev pub settings_for : Origin → List Entry → TwoLimits → Settings
 settings_for origin statics limits =
-    record { side = side_for origin; statics = statics; limits = limits }
+    record { side = side_for origin; statics = statics; limits = limits_for origin limits }
 
 -- this holds with the static strings of the file that is asked for
 pub record UnderFile (files : Option Store) (asked : AskedOfSessions) (Holds : List Entry → Type 0)

@@ -55,7 +55,7 @@ fn preamble(alloc: Global, wanted: Opening<'_>) -> Result<Vec<u8>, Memory>
     ensures short { IfOk result (λ bytes. length bytes.items ≤ 65536) }
 {
     let mut bytes = Vec::new(alloc);
-    opening(wanted.mode, wanted.kind, wanted.via, &mut bytes)?;
+    opening(wanted.mode, wanted.encoding, wanted.via, &mut bytes)?;
     Ok(bytes)
 }
 
@@ -92,7 +92,13 @@ pub fn build_input<I: Source, O: Sink>(
     let Ok(room) = gathering_room(alloc) else {
         return (ReportEnding::Memory, output);
     };
-    let mut reader = DocumentReader::new(alloc, statics, quotas, wanted.kind, wanted.mode);
+    let mut reader = DocumentReader::new(
+        alloc,
+        statics,
+        quotas,
+        wanted.encoding.kind(),
+        wanted.mode,
+    );
     let mut gathered = holding(&bytes, room, output);
     let ending = report_stream(
         alloc,

@@ -2,11 +2,10 @@
 
 ghost use Rattle.std.specs.Prelude.{◌≡◌, ◌≤◌, ◌<◌, ◌⊎◌, ◌^◌, [], length, IfErr, IfOk, IsErrOf, Err, Some};
 ghost use Rattle.io_edges.specs.Faults.{CountsFaults, Rose};
-ghost use Rattle.nbfx_values.specs.QuotasOf.{limits_of};
 ghost use Rattle.stream_loop.specs.Edges.{input_at};
 ghost use Rattle.document_lines.specs.Files.{Answers};
 ghost use Rattle.io_edges.specs.Wires.{network_at};
-ghost use Rattle.command_words.specs.Asking.{opening_of};
+ghost use Rattle.command_words.specs.Asking.{opening_of, two_of};
 ghost use Rattle.command_words.specs.Values.{text_behind};
 ghost use Rattle.dump_replay.specs.Calling.{CalledFor, CalledOrNot, HasFailedSecond, HasNoSecond, IsSecond, ending_of_list};
 ghost use Rattle.dump_replay.specs.Noting.{Notes};
@@ -19,7 +18,7 @@ use client::{CallSettings, call_place};
 use command_words::Opening;
 use document_lines::{DocumentsFault, InputFault, ListFault, fetch_documents, take_documents};
 use io_edges::{Shelf, Sink, Source, Wire};
-use nbfx_values::{Docs, Quotas};
+use nbfx_values::{Docs, Two};
 use static_dictionary::StaticTable;
 use std::alloc::Global;
 use std::sync::Wait;
@@ -78,7 +77,7 @@ fn call_with<R: Threads + Wait + Sync, I: Source, O: Sink + Drop, N: Sink, W: Wi
     opening: Opening<'_>,
     second: &Docs,
     statics: &StaticTable,
-    quotas: Quotas,
+    quotas: &Two,
     input: &mut I,
     output: O,
     notes: &mut N,
@@ -87,7 +86,7 @@ fn call_with<R: Threads + Wait + Sync, I: Source, O: Sink + Drop, N: Sink, W: Wi
     requires room { W.out wire.old < 2 ^ 63 }
     requires via { length opening.via.now ≤ 2048 }
     ensures calls { CalledOrNot (λ text. Notes (N.view notes.old) (N.view notes.new) text
-        × (text ≡ [] → notes.new ≡ notes.old)) (limits_of quotas)
+        × (text ≡ [] → notes.new ≡ notes.old)) (two_of quotas.now)
         (input_at I.left I.taken I.faults I.empty_takes input.old)
         (input_at I.left I.taken I.faults I.empty_takes input.new) (O.view output) (O.view result.1)
         result.0 (input_at W.Reader.left W.Reader.taken W.Reader.faults W.Reader.empty_takes)
@@ -99,7 +98,7 @@ fn call_with<R: Threads + Wait + Sync, I: Source, O: Sink + Drop, N: Sink, W: Wi
     ensures out { W.out wire.new ≡ W.out wire.old }
     ensures notes_faults { (N.view notes.old).faults ≤ (N.view notes.new).faults }
 {
-    let first = match take_documents(alloc, &quotas, Docs::new(alloc), input) {
+    let first = match take_documents(alloc, &quotas.forward, Docs::new(alloc), input) {
         Ok(first) => first,
         Err(fault) => {
             let ending = list_ending(fault);
@@ -109,9 +108,9 @@ fn call_with<R: Threads + Wait + Sync, I: Source, O: Sink + Drop, N: Sink, W: Wi
     };
     let settings = CallSettings {
         statics,
-        quotas,
+        quotas: *quotas,
         mode: opening.mode,
-        kind: opening.kind,
+        encoding: opening.encoding,
     };
     let (called, output) = call_place(
         rt,
@@ -140,7 +139,7 @@ pub fn call_peer<R: Threads + Wait + Sync, F: Shelf, I: Source, O: Sink + Drop, 
     opening: Opening<'_>,
     named: Option<&str>,
     statics: &StaticTable,
-    quotas: Quotas,
+    quotas: &Two,
     shelf: &mut F,
     input: &mut I,
     output: O,
@@ -151,7 +150,7 @@ pub fn call_peer<R: Threads + Wait + Sync, F: Shelf, I: Source, O: Sink + Drop, 
     requires via { length opening.via.now ≤ 2048 }
     ensures calls { CalledFor (λ text. Notes (N.view notes.old) (N.view notes.new) text
         × (text ≡ [] → notes.new ≡ notes.old)) (F.files shelf.old) (text_behind named.entry)
-        (limits_of quotas) (input_at I.left I.taken I.faults I.empty_takes input.old)
+        (two_of quotas.now) (input_at I.left I.taken I.faults I.empty_takes input.old)
         (input_at I.left I.taken I.faults I.empty_takes input.new) (O.view output) (O.view result.1)
         result.0 (input_at W.Reader.left W.Reader.taken W.Reader.faults W.Reader.empty_takes)
         W.Writer.view (opening_of opening.entry) statics.now

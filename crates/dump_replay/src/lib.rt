@@ -5,9 +5,10 @@
 //! `build` reads documents in such lines, and writes an initiator's session of them. `replay` reads
 //! an initiator's stream, and writes what a server would answer. `serve` answers the connections
 //! that peers make in that way, one after the other. `call` connects to a server, sends documents
-//! to it, and prints what it answers as `dump` would. `gen` makes a session of a seed's documents,
-//! and prints a line of it. `rehearse` plays the history of a reliable sequence, and prints what it
-//! delivers.
+//! to it, and prints what it answers as `dump` would. `relay` joins the sessions of peers with
+//! sessions of a server, and `pool` answers many connections at once. `gen` makes a session of a
+//! seed's documents, and prints a line of it. `rehearse` plays the history of a reliable sequence,
+//! and prints what it delivers.
 //!
 //! The one idea: a command is a loop of `stream_loop` over a reading end, which finds the events of
 //! a stream, and what writes about them, so that what is written is a function of the bytes.
@@ -22,10 +23,10 @@
 //!
 //! The definitions are in `specs/`: `Outside` has what is seen of the outside at one moment,
 //! `Statics` what a file of static strings gives, `Running` the statuses, `Noting` the notes,
-//! `Reporting`, `Building`, `Answering`, `Serving`, `Calling`, `Generating` and `Rehearsing` what the
-//! commands leave, by how they ended, `Working` what a run leaves by its words, `Complete` the status where
-//! nothing of the outside fails, `Order` what has to be in order for 0, `Laws` what holds of
-//! sessions that are written.
+//! `Reporting`, `Building`, `Answering`, `Serving`, `Calling`, `Relaying`, `Pooling`, `Generating`
+//! and `Rehearsing` what the commands leave, by how they ended, `Working` what a run leaves by its
+//! words, `Complete` the status where nothing of the outside fails, `Order` what has to be in order
+//! for 0, `Laws` what holds of sessions that are written.
 #![tactic(auto)]
 
 mod building;
@@ -34,7 +35,9 @@ mod files;
 mod generating;
 pub mod laws;
 mod notes;
+mod pooling;
 mod rehearsing;
+mod relaying;
 mod replaying;
 mod reporting;
 mod responding;

@@ -2,9 +2,8 @@
 
 ghost use Rattle.std.specs.Prelude.{◌≡◌, ◌≤◌, ◌⊎◌, [], Option};
 ghost use Rattle.io_edges.specs.Store.{Store};
-ghost use Rattle.nbfx_values.specs.QuotasOf.{limits_of};
 ghost use Rattle.stream_loop.specs.Edges.{input_at};
-ghost use Rattle.command_words.specs.Asking.{serving_of};
+ghost use Rattle.command_words.specs.Asking.{serving_of, two_of};
 ghost use Rattle.dump_replay.specs.Answering.{Answered, IsAskedFor, status_of_inbound, status_of_replay, status_of_write_fault};
 ghost use Rattle.dump_replay.specs.Noting.{Notes};
 ghost use Rattle.dump_replay.specs.Outside.{shelf_at};
@@ -17,7 +16,7 @@ use crate::responding::{endpoint_in, responder_in};
 use command_words::Serving;
 use duplex_server::{Inbound, Outbound, Replayed, Responder, replay_stream};
 use io_edges::{Shelf, Sink, Source};
-use nbfx_values::Quotas;
+use nbfx_values::Two;
 use static_dictionary::StaticTable;
 use std::alloc::Global;
 use std::sync::Wait;
@@ -62,7 +61,7 @@ fn answer_input<R: Threads + Wait + Sync, I: Source + Drop, O: Sink + Send + Dro
     serving: Serving<'_>,
     responder: &Responder,
     statics: &StaticTable,
-    quotas: Quotas,
+    quotas: &Two,
     input: I,
     output: O,
     notes: &mut N,
@@ -71,16 +70,16 @@ fn answer_input<R: Threads + Wait + Sync, I: Source + Drop, O: Sink + Send + Dro
         → IsAskedFor files (serving_of serving.entry).actions responder.now
         → Answered (λ text. Notes (N.view notes.old) (N.view notes.new) text
         × (text ≡ [] → notes.new ≡ notes.old)) files (serving_of serving.entry) statics.now
-        (limits_of quotas) (input_at I.left I.taken I.faults I.empty_takes input)
+        (two_of quotas.now) (input_at I.left I.taken I.faults I.empty_takes input)
         (input_at I.left I.taken I.faults I.empty_takes result.1) (O.view output) (O.view result.2)
         result.0 }
 {
-    let Ok(endpoint) = endpoint_in(alloc, serving) else {
+    let Ok(endpoint) = endpoint_in(alloc, serving.endpoint) else {
         note_status(5, notes);
         return (5, input, output);
     };
     let (replayed, input, output) = replay_stream(
-        rt, alloc, &endpoint, responder, statics, &quotas, input, output,
+        rt, alloc, &endpoint, responder, statics, quotas, input, output,
     );
     note_replay(replayed, notes);
     (replay_status(replayed), input, output)
@@ -100,7 +99,7 @@ pub fn replay_input<
     alloc: Global,
     serving: Serving<'_>,
     statics: &StaticTable,
-    quotas: Quotas,
+    quotas: &Two,
     shelf: &mut F,
     input: I,
     output: O,
@@ -108,7 +107,7 @@ pub fn replay_input<
 ) -> (u8, I, O)
     ensures answers { Answered (λ text. Notes (N.view notes.old) (N.view notes.new) text
         × (text ≡ [] → notes.new ≡ notes.old)) (F.files shelf.old) (serving_of serving.entry)
-        statics.now (limits_of quotas) (input_at I.left I.taken I.faults I.empty_takes input)
+        statics.now (two_of quotas.now) (input_at I.left I.taken I.faults I.empty_takes input)
         (input_at I.left I.taken I.faults I.empty_takes result.1) (O.view output) (O.view result.2)
         result.0
         ⊎ HasNoActions (λ text. Notes (N.view notes.old) (N.view notes.new) text

@@ -2,16 +2,17 @@
 
 ghost use Rattle.std.specs.Prelude.{◌≡◌};
 ghost use Rattle.nbfx_values.specs.QuotasOf.{limits_of};
+ghost use Rattle.command_words.specs.Asking.{two_of};
 ghost use Rattle.stream_loop.specs.Edges.{input_at};
 ghost use Rattle.stream_reader.specs.Sides.{side_of};
 ghost use Rattle.dump_replay.specs.Statuses.{status_at};
 ghost use Rattle.dump_replay.specs.Reporting.{Reports};
 ghost use Rattle.dump_replay.specs.Running.{offence_status};
-ghost use Rattle.dump_replay.specs.Statics.{settings_for, side_for};
+ghost use Rattle.dump_replay.specs.Statics.{limits_for, settings_for, side_for};
 
 use command_words::{Detail, Origin};
 use io_edges::{GatheringSink, Sink, Source, gathering_room};
-use nbfx_values::{Offence, Quotas, Reason};
+use nbfx_values::{Offence, Quotas, Reason, Two};
 use session_report::{LineReporter, Outcome, StreamEnd};
 use static_dictionary::StaticTable;
 use std::alloc::Global;
@@ -25,6 +26,16 @@ fn side_of(origin: Origin) -> Side
     match origin {
         Origin::Initiator => Side::Initiator(Endpoint::Any),
         Origin::Receiver { mode, kind } => Side::Receiver { mode, kind },
+    }
+}
+
+// The quotas of what that end sends.
+fn quotas_of(origin: Origin, quotas: &Two) -> Quotas
+    ensures { limits_of result ≡ limits_for origin (two_of quotas.now) }
+{
+    match origin {
+        Origin::Initiator => quotas.forward,
+        Origin::Receiver { .. } => quotas.back,
     }
 }
 
@@ -60,16 +71,17 @@ pub fn report_input<I: Source, O: Sink>(
     detail: Detail,
     origin: Origin,
     statics: &StaticTable,
-    quotas: Quotas,
+    quotas: &Two,
     input: &mut I,
     output: O,
 ) -> (u8, O)
-    ensures { Reports detail (settings_for origin statics.now (limits_of quotas))
+    ensures { Reports detail (settings_for origin statics.now (two_of quotas.now))
         (input_at I.left I.taken I.faults I.empty_takes input.old)
         (input_at I.left I.taken I.faults I.empty_takes input.new) (O.view output) (O.view result.1)
         result.0 }
 {
-    let Ok(mut end) = StreamEnd::new(alloc, statics, quotas, side_of(origin)) else {
+    let Ok(mut end) = StreamEnd::new(alloc, statics, quotas_of(origin, quotas), side_of(origin))
+    else {
         return (5, output);
     };
     let Ok(room) = gathering_room(alloc) else {

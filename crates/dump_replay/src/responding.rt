@@ -6,6 +6,7 @@ ghost use Rattle.io_edges.specs.Files.{Tells};
 ghost use Rattle.stream_reader.specs.Sides.{endpoint_of};
 ghost use Rattle.duplex_server.specs.Responding.{reading_actions};
 ghost use Rattle.command_words.specs.Asking.{serving_of};
+ghost use Rattle.command_words.specs.Values.{text_behind};
 ghost use Rattle.dump_replay.specs.Answering.{IsAskedFor};
 ghost use Rattle.dump_replay.specs.Responding.{HasFailed};
 ghost use Rattle.dump_replay.specs.Running.{HasFetched, if_named};
@@ -29,11 +30,10 @@ pub struct UnreadActions<'w> {
 }
 
 /// The only Via that is served, or any. It fails without memory for it.
-pub fn endpoint_in(alloc: Global, serving: Serving<'_>) -> Result<Endpoint, Memory>
-    ensures { IfOk result
-        (λ endpoint. endpoint_of endpoint ≡ (serving_of serving.entry).endpoint) }
+pub fn endpoint_in(alloc: Global, served: Option<&str>) -> Result<Endpoint, Memory>
+    ensures { IfOk result (λ endpoint. endpoint_of endpoint ≡ text_behind served.entry) }
 {
-    match serving.endpoint {
+    match served {
         Some(via) => Ok(Endpoint::Only(Txt::of(alloc, via)?)),
         None => Ok(Endpoint::Any),
     }

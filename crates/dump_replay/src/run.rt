@@ -73,6 +73,23 @@ pub struct Ran<I, O> {
 /// note, and then no connection is asked for. Of several the first of 5, 8, 7, 4, 9, 10 and 1
 /// counts. A connection that was made is closed.
 ///
+/// `relay` accepts the connections that the wire gives for the place that `--listen` names, one
+/// after the other. For each it connects to the place that `--connect` names and, once the peer's
+/// preamble was read, opens a session there by the Via that `--via` says, in the peer's mode and
+/// encoding. It then carries the documents of each side to the other, each read and written anew
+/// with the strings of its own session: of the static ones the server's session has those of the
+/// shelf's file that `--back-static` names, or those of the peers. A line of each is written to the
+/// output when both directions are over. The input isn't read. The status is 0 where as many were
+/// joined as `--connections` says, or no other is to come, and 8 where the wire failed to give the
+/// next one or to make the connection beside it, with a note. Every connection is closed.
+///
+/// `pool` answers the connections that the wire gives for the place that `--listen` names as they
+/// come, each on a thread of its own, and of each as many sessions as `--sessions` says, one after the
+/// other. A line of each connection is written to the output, in the order in which they were
+/// accepted, when all are over. The input isn't read. The status is 0 where as many were served as
+/// `--connections` says, or no other is to come, and 8 where the wire failed to give the next one, with
+/// a note. Every connection that was given is closed.
+///
 /// `gen` makes as many documents as `--count` says, which follow the number that `--seed` says,
 /// sends them to a reader within the program, and writes a line of what the session measures. The
 /// input isn't read. The status is 0, or 10 where the session has more bytes than the session
@@ -192,7 +209,7 @@ pub fn run<
         alloc,
         request.task,
         &table,
-        request.quotas,
+        &request.quotas,
         shelf,
         input,
         output,

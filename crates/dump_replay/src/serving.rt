@@ -2,10 +2,9 @@
 
 ghost use Rattle.std.specs.Prelude.{◌≡◌, ◌≤◌, ◌<◌, ◌⊎◌, ◌^◌, []};
 ghost use Rattle.io_edges.specs.Faults.{CountsFaults, Rose};
-ghost use Rattle.nbfx_values.specs.QuotasOf.{limits_of};
 ghost use Rattle.stream_loop.specs.Edges.{Input, input_at};
 ghost use Rattle.io_edges.specs.Wires.{network_at};
-ghost use Rattle.command_words.specs.Asking.{serving_of};
+ghost use Rattle.command_words.specs.Asking.{serving_of, two_of};
 ghost use Rattle.dump_replay.specs.Noting.{Notes};
 ghost use Rattle.dump_replay.specs.Outside.{seen, shelf_at};
 ghost use Rattle.dump_replay.specs.Running.{HasFetched, if_named};
@@ -17,14 +16,14 @@ use crate::responding::{endpoint_in, responder_in};
 use command_words::Serving;
 use duplex_server::{ServeFault, Server, serve_connections};
 use io_edges::{Shelf, Sink, Wire};
-use nbfx_values::Quotas;
+use nbfx_values::Two;
 use static_dictionary::StaticTable;
 use std::alloc::Global;
 use std::sync::Wait;
 use std::thread::Threads;
 
-// The status of a server that stopped so.
-fn stop_status(stop: Result<(), ServeFault>) -> u8
+/// The status of a server that stopped so.
+pub fn stop_status(stop: Result<(), ServeFault>) -> u8
     ensures { result ≡ status_of_stop stop }
 {
     match stop {
@@ -46,7 +45,7 @@ pub fn serve_wire<R: Threads + Wait + Sync, F: Shelf, O: Sink, N: Sink, W: Wire>
     connections: u32,
     serving: Serving<'_>,
     statics: &StaticTable,
-    quotas: Quotas,
+    quotas: &Two,
     shelf: &mut F,
     output: O,
     notes: &mut N,
@@ -57,7 +56,7 @@ pub fn serve_wire<R: Threads + Wait + Sync, F: Shelf, O: Sink, N: Sink, W: Wire>
         (λ text. Notes (N.view notes.old) (N.view notes.new) text
         × (text ≡ [] → notes.new ≡ notes.old)) (input_at W.Reader.left W.Reader.taken
         W.Reader.faults W.Reader.empty_takes) W.Writer.view connections (serving_of serving.entry)
-        statics.now (limits_of quotas) (seen (shelf_at F.files F.faults shelf.old) i (O.view output)
+        statics.now (two_of quotas.now) (seen (shelf_at F.files F.faults shelf.old) i (O.view output)
         (network_at W.waiting W.closed W.out W.faults W.end_faults wire.old)) (seen
         (shelf_at F.files F.faults shelf.new) i (O.view result.1)
         (network_at W.waiting W.closed W.out W.faults W.end_faults wire.new)) result.0
@@ -77,13 +76,13 @@ pub fn serve_wire<R: Threads + Wait + Sync, F: Shelf, O: Sink, N: Sink, W: Wire>
         Ok(responder) => responder,
         Err(unread) => return (note_file(unread.name, unread.fault, notes), output),
     };
-    let Ok(endpoint) = endpoint_in(alloc, serving) else {
+    let Ok(endpoint) = endpoint_in(alloc, serving.endpoint) else {
         note_status(5, notes);
         return (5, output);
     };
     let server = Server {
         statics,
-        quotas: &quotas,
+        quotas,
         endpoint: &endpoint,
         service: &responder,
     };

@@ -1,10 +1,9 @@
 //! What each command does once the static strings are read.
 
 ghost use Rattle.std.specs.Prelude.{◌≡◌, ◌≤◌, ◌<◌, ◌^◌, []};
-ghost use Rattle.nbfx_values.specs.QuotasOf.{limits_of};
 ghost use Rattle.stream_loop.specs.Edges.{input_at};
 ghost use Rattle.io_edges.specs.Wires.{network_at};
-ghost use Rattle.command_words.specs.Asking.{task_of};
+ghost use Rattle.command_words.specs.Asking.{task_of, two_of};
 ghost use Rattle.dump_replay.specs.Noting.{Notes};
 ghost use Rattle.dump_replay.specs.Outside.{Across, shelf_at};
 ghost use Rattle.dump_replay.specs.Running.{CountsWire, HasFetched, files_of};
@@ -14,12 +13,14 @@ use crate::building::{build_input, build_status};
 use crate::calling::call_peer;
 use crate::generating::generate_session;
 use crate::notes::{note_building, note_status};
+use crate::pooling::pool_wire;
+use crate::relaying::relay_wire;
 use crate::replaying::replay_input;
 use crate::reporting::report_input;
 use crate::serving::serve_wire;
 use command_words::Task;
 use io_edges::{Shelf, Sink, Source, Wire};
-use nbfx_values::Quotas;
+use nbfx_values::Two;
 use static_dictionary::StaticTable;
 use std::alloc::Global;
 use std::sync::Wait;
@@ -39,7 +40,7 @@ pub fn work<
     alloc: Global,
     task: Task<'_>,
     statics: &StaticTable,
-    quotas: Quotas,
+    quotas: &Two,
     shelf: &mut F,
     mut input: I,
     output: O,
@@ -47,7 +48,7 @@ pub fn work<
     wire: &mut W,
 ) -> (u8, I, O)
     requires possible { IsPossible (task_of task) }
-    requires room { W.out wire.old < 2 ^ 63 }
+    requires out { W.out wire.old ≡ 0 }
     ensures leaves { Across (shelf_at F.files F.faults)
         (input_at I.left I.taken I.faults I.empty_takes) O.view
         (network_at W.waiting W.closed W.out W.faults W.end_faults) shelf.old input output
@@ -61,7 +62,7 @@ pub fn work<
         × (text ≡ [] → notes.new ≡ notes.old))
         ((result.1 ≡ input) × (result.2 ≡ output) × (wire.new ≡ wire.old)) (input_at
         W.Reader.left W.Reader.taken W.Reader.faults W.Reader.empty_takes) W.Writer.view
-        (task_of task.entry) statics.now (limits_of quotas) before after result.0) }
+        (task_of task.entry) statics.now (two_of quotas.now) before after result.0) }
     ensures offline { WhereOffline (task_of task.entry) (wire.new ≡ wire.old) }
     ensures wire_fault { CountsWire (W.faults wire.old) (W.faults wire.new)
         (W.end_faults wire.old) (W.end_faults wire.new) result.0 }
@@ -82,7 +83,14 @@ pub fn work<
             (status, input, output)
         }
         Task::Build(opening) => {
-            let (ending, output) = build_input(alloc, opening, statics, quotas, &mut input, output);
+            let (ending, output) = build_input(
+                alloc,
+                opening,
+                statics,
+                quotas.forward,
+                &mut input,
+                output,
+            );
             note_building(ending, notes);
             (build_status(ending), input, output)
         }
@@ -120,9 +128,43 @@ pub fn work<
             );
             (status, input, output)
         }
+        Task::Relay(relaying) => {
+            let (status, output) = relay_wire(
+                rt, alloc, relaying, statics, quotas, shelf, output, notes, wire,
+            );
+            (status, input, output)
+        }
+        Task::Pool {
+            listen,
+            connections,
+            sessions,
+            serving,
+        } => {
+            let (status, output) = pool_wire(
+                rt,
+                alloc,
+                listen,
+                connections,
+                sessions,
+                serving,
+                statics,
+                quotas,
+                shelf,
+                output,
+                notes,
+                wire,
+            );
+            (status, input, output)
+        }
         Task::Generate { seed, count } => {
             let (status, output) = generate_session(
-                alloc, seed, count, statics, quotas, output, notes,
+                alloc,
+                seed,
+                count,
+                statics,
+                quotas.forward,
+                output,
+                notes,
             );
             (status, input, output)
         }

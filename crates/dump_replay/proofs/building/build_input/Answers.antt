@@ -1,5 +1,6 @@
 use Rattle.std.proofs.Common.{sym, ap, ◌∙◌, subst}
 use Rattle.{nbfx_values.specs.QuotasOf.limits_of, stream_loop.specs.Reported.EndsAs}
+use Rattle.nbfx_values.specs.declared.session.Kind.{Kind}
 use Rattle.document_lines.specs.DocumentReaderState.{has_good_quotas, settings_of}
 use Rattle.document_lines.specs.Input.{envelopes_and_end, lines_of_documents, Settings}
 use Rattle.command_words.specs.{Asking.opening_of, Tasks.Opening}
@@ -30,6 +31,12 @@ report_stream-ending-requires-clause-ends g c =
 pub returns : goal.returns
 returns g c =
     let opening : Opening = opening_of c.args.wanted in
+    let set : Kind → Settings = λ kind. record {
+      limits = limits_of c.args.quotas;
+      kind = kind;
+      mode = c.args.wanted.mode;
+      statics = c.args.statics.now;
+    } in
     let i = input_by g.I.Source c.args.input.now in
     let i' = input_by g.I.Source c.report_stream-ending.new.input in
     let o = output_by g.O.Sink c.args.output in
@@ -49,4 +56,5 @@ returns g c =
     let began = subst (λ (k : SinkView). EndsAs lines envelopes_and_end i i'
     (with_preamble opening k) o' tt ending) (ap view c.holding-gathered.ensures.sink) given in
     subst (λ (s : Settings). EndsAs (lines_of_documents s) envelopes_and_end i i'
-    (with_preamble opening o) o' tt ending) c.new-reader.ensures.settings began
+    (with_preamble opening o) o' tt ending) (c.new-reader.ensures.settings ∙ ap set c.kind.ensures)
+    began

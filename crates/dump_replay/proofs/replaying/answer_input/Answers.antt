@@ -1,7 +1,8 @@
 use Rattle.std.proofs.Common.{ℕ, List, Option, refl, subst}
-use Rattle.{nbfx_values.specs.QuotasOf.limits_of, command_words.specs.Asking.serving_of}
+use Rattle.command_words.specs.Asking.{serving_of, two_of}
 use Rattle.duplex_server.proofs.Outcomes.{unbegun_so}
-use Rattle.duplex_server.specs.{ServerStream.answering, Replaying.Replays, Responding.served_by}
+use Rattle.duplex_server.specs.Replaying.{Replays}
+use Rattle.dump_replay.specs.Answering.{answering_by}
 use Rattle.dump_replay.proofs.Seen.{input_by, output_by}
 use Rattle.stream_loop.specs.declared.outbound.Outbound.TheVariants as outbounds
 use Rattle.duplex_server.specs.declared.outcome.Inbound.TheVariants as inbounds
@@ -15,11 +16,11 @@ returns-in_default g c = λ files asked. record {
   inbound = inbounds.Memory;
   outbound = outbounds.Memory;
   status_is = refl;
-  replays = unbegun_so (answering (served_by c.args.responder.now) c.args.statics.now
-      (limits_of c.args.quotas)) (serving_of c.args.serving).endpoint
+  replays = unbegun_so (answering_by c.args.responder.now c.args.statics.now
+      (two_of c.args.quotas.now)) (serving_of c.args.serving).endpoint
       (input_by g.I.Source c.args.input)
       (output_by g.O.Sink c.args.output)
-      c.args.quotas.good;
+      c.args.quotas.now.forward.good;
   says = (c.note_status.ensures.notes, c.note_status.ensures.none);
 }
 
@@ -30,8 +31,8 @@ returns g c = λ files asked. record {
   inbound = c.replay_stream-input.result.0.inbound;
   outbound = c.replay_stream-input.result.0.outbound;
   status_is = c.replay_status.ensures;
-  replays = subst (λ (via : Option (List ℕ)). Replays (answering
-      (served_by c.args.responder.now) c.args.statics.now (limits_of c.args.quotas)) via
+  replays = subst (λ (via : Option (List ℕ)). Replays (answering_by
+      c.args.responder.now c.args.statics.now (two_of c.args.quotas.now)) via
       (input_by g.I.Source c.args.input)
       (input_by g.I.Source c.replay_stream-input.result.1)
       (output_by g.O.Sink c.args.output)

@@ -1,14 +1,15 @@
-use Rattle.std.proofs.Common.{sym, ap, ◌∙◌, subst}
+use Rattle.std.proofs.Common.{sym, ap, ap₂, ◌∙◌, subst}
 use Rattle.{unit_streams.specs.Tellers.Teller, stream_reader.specs.StreamReaderState.settings_of}
-use Rattle.nbfx_values.specs.{declared.refusals.Offence.Offence, QuotasOf.limits_of}
+use Rattle.{nbfx_values.specs.declared.refusals.Offence.Offence, command_words.specs.Asking.two_of}
 use Rattle.stream_reader.specs.Stream.{ends, Settings, Side, stream, StreamEvent}
+use Rattle.{nbfx_values.specs.Limits.Limits}
 use Rattle.stream_loop.specs.{Answers.written_by, Reported.EndsAs}
 use Rattle.session_report.proofs.{Saying.lines_are, Streams.ends_within}
 use Rattle.session_report.specs.{declared.reporter.LineReporter.LineReporter, Report.lines_of}
 use Rattle.session_report.specs.declared.reporter.Outcome.{Outcome, TheVariants.Open}
 use Rattle.session_report.specs.Saying.{event_for, said_by}
 use Rattle.dump_replay.specs.Statics.{settings_for}
-use Rattle.dump_replay.proofs.Beginnings.{ends_under, not_begun}
+use Rattle.dump_replay.proofs.{Beginnings.ends_under, Beginnings.not_begun, Directions.good_for}
 use Rattle.dump_replay.proofs.{Seen.input_by, Seen.output_by, Statuses.reports_by}
 use Rattle.stream_loop.specs.declared.reporting.ReportEnding.TheVariants as endings
 use Rattle.io_edges.specs.Views.{SinkView}
@@ -16,21 +17,21 @@ use Rattle.dump_replay.proofs.reporting.report_input.Goals as goal
 
 pub returns-in_default : goal.returns-in_default
 returns-in_default g c =
-    let x = settings_for c.args.origin c.args.statics.now (limits_of c.args.quotas) in
+    let x = settings_for c.args.origin c.args.statics.now (two_of c.args.quotas.now) in
     let i = input_by g.I.Source c.args.input.now in
     let o = output_by g.O.Sink c.args.output in
-    reports_by c.args.detail x c.args.quotas.good i i o o Open endings.Memory
+    reports_by c.args.detail x (good_for c.args.origin c.args.quotas.now) i i o o Open endings.Memory
     (not_begun (stream x) (lines_of c.args.detail) i o o.held ends x.limits.session
-    (ends_within x c.args.quotas.good) Open)
+    (ends_within x (good_for c.args.origin c.args.quotas.now)) Open)
 
 pub returns-in_default-gathering_room : goal.returns-in_default-gathering_room
 returns-in_default-gathering_room g c =
-    let x = settings_for c.args.origin c.args.statics.now (limits_of c.args.quotas) in
+    let x = settings_for c.args.origin c.args.statics.now (two_of c.args.quotas.now) in
     let i = input_by g.I.Source c.args.input.now in
     let o = output_by g.O.Sink c.args.output in
-    reports_by c.args.detail x c.args.quotas.good i i o o Open endings.Memory
+    reports_by c.args.detail x (good_for c.args.origin c.args.quotas.now) i i o o Open endings.Memory
     (not_begun (stream x) (lines_of c.args.detail) i o o.held ends x.limits.session
-    (ends_within x c.args.quotas.good) Open)
+    (ends_within x (good_for c.args.origin c.args.quotas.now)) Open)
 
 pub report_stream-ending-requires-clause-ends : goal.report_stream-ending-requires-clause-ends
 report_stream-ending-requires-clause-ends g c =
@@ -38,7 +39,7 @@ report_stream-ending-requires-clause-ends g c =
 
 pub returns : goal.returns
 returns g c =
-    let x = settings_for c.args.origin c.args.statics.now (limits_of c.args.quotas) in
+    let x = settings_for c.args.origin c.args.statics.now (two_of c.args.quotas.now) in
     let i = input_by g.I.Source c.args.input.now in
     let i' = input_by g.I.Source c.report_stream-ending.new.input in
     let o = output_by g.O.Sink c.args.output in
@@ -46,12 +47,11 @@ returns g c =
     let ending = c.report_stream-ending.result in
     let end = c.report_stream-ending.new.reporter.outcome in
     let set = c.in-Ok.ensures.settings
-    ∙ ap (λ (s : Side). record {
+    ∙ ap₂ (λ (s : Side) (l : Limits). record {
       side = s;
       statics = c.args.statics.now;
-      limits = limits_of
-          c.args.quotas;
-    }) c.side_of.ensures in
+      limits = l;
+    }) c.side_of.ensures c.quotas_of.ensures in
     let written = ap (λ (r : LineReporter). written_by event_for
     (said_by r.detail)) c.new-reporter.ensures
     ∙ lines_are c.args.detail in
@@ -71,4 +71,4 @@ returns g c =
     let by_lines = subst (λ (t : Teller Outcome StreamEvent Offence). EndsAs
     (stream x) t i i' o o' end ending) written by_settings in
     rw c.status.ensures
-    (reports_by c.args.detail x c.args.quotas.good i i' o o' end ending by_lines)
+    (reports_by c.args.detail x (good_for c.args.origin c.args.quotas.now) i i' o o' end ending by_lines)

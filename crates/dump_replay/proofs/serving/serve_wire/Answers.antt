@@ -1,9 +1,8 @@
 use Rattle.std.proofs.Common.{◌≡◌, ℕ, List, Err, Option, refl, ap, subst, inl}
-use Rattle.{nbfx_values.specs.QuotasOf.limits_of}
 use Rattle.{stream_reader.specs.Sides.endpoint_of, dump_replay.specs.Outside.ends_seen}
-use Rattle.{command_words.specs.Asking.serving_of, duplex_server.proofs.Stops.none_served}
-use Rattle.duplex_server.specs.{ServerStream.answering, Responding.served_by, Served.Ends}
-use Rattle.duplex_server.specs.{Served.ServesAll}
+use Rattle.command_words.specs.Asking.{serving_of, two_of}
+use Rattle.duplex_server.{proofs.Stops.none_served, specs.Served.Ends, specs.Served.ServesAll}
+use Rattle.dump_replay.specs.Answering.{answering_by}
 use Rattle.dump_replay.proofs.Seen.{input_by, network_by, output_by}
 use Rattle.dump_replay.proofs.{ServeEnds.served_less, serving.serve_wire.Given.Over}
 use Rattle.io_edges.specs.Views.{SinkView}
@@ -20,7 +19,7 @@ module _ (g : Over) where
 -- there was no memory for the Via
 pub returns-in_default-clause-answers : goal.returns-in_default-clause-answers
 returns-in_default-clause-answers g c = λ i.
-    let x = answering (served_by c.in-Ok.responder) c.args.statics.now (limits_of c.args.quotas) in
+    let x = answering_by c.in-Ok.responder c.args.statics.now (two_of c.args.quotas.now) in
     let via = (serving_of c.args.serving).endpoint in
     let o = c.args.output in
     inl (record {
@@ -39,7 +38,7 @@ returns-in_default-clause-answers g c = λ i.
 
 pub returns-clause-answers : goal.returns-clause-answers
 returns-clause-answers g c = λ i.
-    let x = answering (served_by c.in-Ok.responder) c.args.statics.now (limits_of c.args.quotas) in
+    let x = answering_by c.in-Ok.responder c.args.statics.now (two_of c.args.quotas.now) in
     let served = c.serve_connections-stop in
     let o = c.args.output in
     let last = served.result.1 in
