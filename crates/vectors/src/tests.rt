@@ -9,24 +9,30 @@ use std::sync::Wait;
 use std::test::Fail;
 use std::thread::Threads;
 
+mod addressing;
 mod building;
 mod calls;
 mod captures;
+mod chains;
+mod content_types;
 mod failures;
 mod failures_in_turn;
 mod generating;
 mod modes;
 mod other_words;
 mod peers;
+mod pools;
 mod read_back;
 mod records;
 mod rehearsing;
+mod relays;
 mod replays;
 mod replies;
 mod rows;
 mod serves;
 mod streams;
 mod turns;
+mod two_ways;
 mod values;
 mod words;
 mod worked_builds;
@@ -56,14 +62,14 @@ fn listed(alloc: Global, words: &str, options: &str) -> Result<Vec<String>, Allo
     Ok(list)
 }
 
-// The part `LONG` is one byte so many times.
-fn joined(alloc: Global, parts: &[&[u8]], long: (usize, u8)) -> Result<Vec<u8>, AllocError> {
-    let (times, byte) = long;
+// The part `LONG` is these bytes so many times.
+fn joined(alloc: Global, parts: &[&[u8]], long: (usize, &[u8])) -> Result<Vec<u8>, AllocError> {
+    let (times, text) = long;
     let mut bytes = Vec::new(alloc);
     for &part in parts {
         if part == LONG {
             for _ in 0..times {
-                bytes.push(byte)?;
+                bytes.extend_from_slice(text)?;
             }
         } else {
             bytes.extend_from_slice(part)?;
@@ -247,8 +253,14 @@ fn assert_sessions(
 ) -> Result<(), AllocError> {
     replays::assert_all(rt)?;
     worked_replays::assert_all(rt)?;
+    addressing::assert_all(rt)?;
     serves::assert_all(rt)?;
     calls::assert_all(rt)?;
+    content_types::assert_all(rt)?;
+    two_ways::assert_all(rt)?;
+    chains::assert_all(rt)?;
+    relays::assert_all(rt)?;
+    pools::assert_all(rt)?;
     writes_in_turn::assert_all(rt)
 }
 

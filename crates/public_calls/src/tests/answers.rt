@@ -4,6 +4,7 @@ use document_lines::read_documents;
 use duplex_server::Responder;
 use nbfx_values::{Docs, Items, Quotas};
 use std::alloc::Global;
+use std::process::Abort;
 use std::test::Fail;
 use unit_streams::Memory;
 
@@ -33,8 +34,7 @@ fn answered(alloc: Global, docs: &Docs) -> Result<Measured, Fail> {
 }
 
 // Behind the header's 13 items there are those of Body, and two that close.
-#[test]
-fn a_request_that_is_kept_is_answered(rt: HostRuntime) -> Result<(), Fail> {
+pub fn a_request_that_is_kept_is_answered(rt: &(impl Abort + AllocGlobal)) -> Result<(), Fail> {
     let docs = requests(rt.alloc())?;
     match answered(rt.alloc(), &docs)? {
         Measured::Made(Answer::Reply { doc, .. }) => assert_eq!(rt; doc.items().len(), 20),
@@ -48,8 +48,7 @@ fn replies<V: Service>(alloc: Global, service: &V) -> Result<bool, Memory> {
     Ok(matches!(service.serve(alloc, "urn:echo", &body)?, Served::Reply(_)))
 }
 
-#[test]
-fn services_that_echo_reply(rt: HostRuntime) -> Result<(), Fail> {
+pub fn services_that_echo_reply(rt: &(impl Abort + AllocGlobal)) -> Result<(), Fail> {
     assert!(rt; replies(rt.alloc(), &EchoService)?);
     assert!(rt; replies(rt.alloc(), &Responder::Echo)?);
     Ok(())

@@ -2,9 +2,10 @@
 use client::{CallOutcome, ClientIn, ClientOut, Reported, call_one};
 use document_lines::read_documents;
 use io_edges::{MemorySink, MemorySource};
-use nbfx_values::{Docs, Kind, Mode, Quotas};
+use nbfx_values::{Docs, Encoding, Kind, Mode, Quotas, Two};
 use static_dictionary::StaticTable;
 use std::alloc::Global;
+use std::process::Abort;
 use std::test::Fail;
 
 const STATICS: &[u8] = b"id,string\n0,mustUnderstand\n";
@@ -29,23 +30,28 @@ fn called(alloc: Global) -> Result<(CallOutcome, MemorySink), Fail> {
     let mut source = MemorySource::new(b"\x0B\x07".to_vec(alloc)?, 1, Vec::new(alloc));
     let mut sink = MemorySink::new(alloc, Vec::new(alloc), 0);
     let mut report = MemorySink::new(alloc, Vec::new(alloc), 0);
+    let quotas = Two {
+        forward: Quotas::usual(),
+        back: Quotas::usual(),
+    };
     let outcome = call_one(
         alloc,
         &mut source,
         &mut sink,
         &mut report,
         &statics,
-        &Quotas::usual(),
+        &quotas,
         Mode::Duplex,
-        Kind::Session,
+        Encoding::Known(Kind::Session),
         "net.tcp://h/e",
         &docs,
     );
     Ok((outcome, sink))
 }
 
-#[test]
-fn documents_are_sent_to_a_peer_that_accepts(rt: HostRuntime) -> Result<(), Fail> {
+pub fn documents_are_sent_to_a_peer_that_accepts(
+    rt: &(impl Abort + AllocGlobal),
+) -> Result<(), Fail> {
     let (outcome, sink) = called(rt.alloc())?;
     let sent = CallOutcome {
         sent: 2,

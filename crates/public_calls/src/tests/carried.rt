@@ -4,6 +4,7 @@ use nbfx_values::{Doc, Kind, Quotas};
 use session_ends::{carry, new_ends, tables};
 use static_dictionary::StaticTable;
 use std::alloc::Global;
+use std::process::Abort;
 use std::test::Fail;
 
 // The document as it is read, and how many strings both ends have then.
@@ -19,8 +20,7 @@ fn carried(alloc: Global, statics: &StaticTable, doc: &Doc) -> Result<(Doc, [u32
 }
 
 // Two of its names and namespaces are static, and nine are not.
-#[test]
-fn a_document_is_carried(rt: HostRuntime) -> Result<(), Fail> {
+pub fn a_document_is_carried(rt: &(impl Abort + AllocGlobal)) -> Result<(), Fail> {
     let statics = StaticTable::read(rt.alloc(), b"id,string\n2,Envelope\n8,Header\n")?;
     let docs = requests(rt.alloc())?;
     let doc = docs.get(0).ok_or("no document")?;

@@ -6,7 +6,8 @@ use io_edges::{
 };
 use std::fs::{self, OpenOptions};
 use std::io::{self, ErrorKind, Read, Write};
-use std::process;
+use std::process::Abort;
+use std::rt::Files;
 use std::test::Fail;
 
 fn put_in<W: Write + Drop>(writer: W, bytes: &[u8]) -> Result<(), SinkFault> {
@@ -26,38 +27,41 @@ fn is_file(fetched: &Result<Option<Vec<u8>>, ShelfFault>, bytes: &[u8]) -> bool 
     matches!(fetched, Ok(Some(file)) if file.as_slice() == bytes)
 }
 
-// Its name ends with a space.
-#[test]
-fn a_real_file_is_written_and_read(rt: HostRuntime) -> Result<(), Fail> {
-    let path = format!(in rt.alloc(); "/tmp/nettcp-{} ", process::id(rt.process()))?;
+// Its name has this number, and ends with a space.
+pub fn a_real_file_is_written_and_read<R>(rt: R, number: u32) -> Result<(), Fail>
+where
+    R: Abort + AllocGlobal + Copy + Files,
+{
+    let path = format!(in rt.alloc(); "/tmp/nettcp-{number} ")?;
     let file = OpenOptions::new()
         .write(true)
         .create_new(true)
         .open(&rt, path.as_str())?;
     let put = put_in(file, b"bytes");
     let taken = front_of(fs::open(&rt, path.as_str())?);
-    let mut shelf = FileShelf::new(rt.clone()?);
+    let mut shelf = FileShelf::new(rt);
     let fetched = shelf.fetch(path.as_str());
     fs::remove_file(&rt, path.as_str())?;
-    assert_eq!(rt; put, Ok(()));
-    assert_eq!(rt; taken, Ok(*b"bytes\0"));
-    assert!(rt; is_file(&fetched, b"bytes"));
-    assert!(rt; matches!(shelf.fetch(path.as_str()), Ok(None)));
+    assert_eq!(&rt; put, Ok(()));
+    assert_eq!(&rt; taken, Ok(*b"bytes\0"));
+    assert!(&rt; is_file(&fetched, b"bytes"));
+    assert!(&rt; matches!(shelf.fetch(path.as_str()), Ok(None)));
     Ok(())
 }
 
-#[test]
-fn a_folder_and_a_full_device_fail(rt: HostRuntime) -> Result<(), Fail> {
-    assert_eq!(rt; front_of(fs::open(&rt, ".")?), Err(Failed));
-    let mut shelf = FileShelf::new(rt.clone()?);
-    assert!(rt; matches!(shelf.fetch("."), Err(ShelfFault::Failed)));
+pub fn a_folder_and_a_full_device_fail<R>(rt: R) -> Result<(), Fail>
+where
+    R: Abort + AllocGlobal + Copy + Files,
+{
+    assert_eq!(&rt; front_of(fs::open(&rt, ".")?), Err(Failed));
+    let mut shelf = FileShelf::new(rt);
+    assert!(&rt; matches!(shelf.fetch("."), Err(ShelfFault::Failed)));
     let full = OpenOptions::new().write(true).open(&rt, "/dev/full")?;
-    assert_eq!(rt; put_in(full, b"ab"), Err(SinkFault::Failed));
+    assert_eq!(&rt; put_in(full, b"ab"), Err(SinkFault::Failed));
     Ok(())
 }
 
-#[test]
-fn a_write_that_takes_nothing_fails_the_put(rt: HostRuntime) {
+pub fn a_write_that_takes_nothing_fails_the_put(rt: &impl Abort) {
     let mut place = [0; 3];
     assert_eq!(rt;
         put_in(place.as_mut_slice(), b"abcd"),
@@ -102,8 +106,7 @@ impl Write for Interrupted {
     }
 }
 
-#[test]
-fn a_read_that_fails_is_one_take(rt: HostRuntime) {
+pub fn a_read_that_fails_is_one_take(rt: &impl Abort) {
     let mut source = ReadSource::new(Interrupted { calls: 0 });
     let mut room = [0; 4];
     assert_eq!(rt; source.take(&mut room), Ok(4));
@@ -111,8 +114,7 @@ fn a_read_that_fails_is_one_take(rt: HostRuntime) {
     assert_eq!(rt; source.take(&mut room), Ok(4));
 }
 
-#[test]
-fn a_write_that_fails_ends_the_put(rt: HostRuntime) {
+pub fn a_write_that_fails_ends_the_put(rt: &impl Abort) {
     let mut writer = Interrupted { calls: 0 };
     let mut sink = WriteSink::new(&mut writer);
     assert_eq!(rt; sink.put(b"abcde"), Err(SinkFault::Failed));
@@ -120,16 +122,14 @@ fn a_write_that_fails_ends_the_put(rt: HostRuntime) {
     assert_eq!(rt; writer.calls, 3);
 }
 
-#[test]
-fn a_flush_reaches_the_writer(rt: HostRuntime) {
+pub fn a_flush_reaches_the_writer(rt: &impl Abort) {
     let mut sink = WriteSink::new(Interrupted { calls: 0 });
     assert_eq!(rt; sink.put(b"ab"), Ok(()));
     assert_eq!(rt; sink.flush(), Err(SinkFault::Failed));
     assert_eq!(rt; sink.flush(), Ok(()));
 }
 
-#[test]
-fn puts_behind_the_end_fail(rt: HostRuntime) {
+pub fn puts_behind_the_end_fail(rt: &(impl Abort + AllocGlobal)) {
     let mut sink = MemorySink::new(rt.alloc(), Vec::new(rt.alloc()), 9);
     assert_eq!(rt; sink.put(b"ab"), Ok(()));
     sink.end();
@@ -139,8 +139,7 @@ fn puts_behind_the_end_fail(rt: HostRuntime) {
     assert_eq!(rt; sink.bytes(), b"ab".as_slice());
 }
 
-#[test]
-fn sure_ends_move_all(rt: HostRuntime) -> Result<(), Fail> {
+pub fn sure_ends_move_all(rt: &(impl Abort + AllocGlobal)) -> Result<(), Fail> {
     let mut source = SureSource::new(b"abc".to_vec(rt.alloc())?);
     let mut sink = SureSink::new(rt.alloc());
     let mut room = [0; 2];

@@ -2,9 +2,10 @@
 use client::{ClientIn, ClientOut, Lane, LanesOutcome, Reported, call_lanes};
 use document_lines::read_documents;
 use io_edges::{MemorySink, MemorySource};
-use nbfx_values::{Docs, Kind, Mode, Quotas};
+use nbfx_values::{Docs, Encoding, Kind, Mode, Quotas, Two};
 use static_dictionary::StaticTable;
 use std::alloc::Global;
+use std::process::Abort;
 use std::sync::Wait;
 use std::test::Fail;
 use std::thread::Threads;
@@ -41,6 +42,10 @@ fn called<R: Threads + Wait + Sync>(
     let source = MemorySource::new(b"\x0B\x07".to_vec(alloc)?, 1, Vec::new(alloc));
     let sink = MemorySink::new(alloc, failing.to_vec(alloc)?, 0);
     let report = MemorySink::new(alloc, Vec::new(alloc), 0);
+    let quotas = Two {
+        forward: Quotas::usual(),
+        back: Quotas::usual(),
+    };
     let (outcome, _source, sink, _report) = call_lanes(
         rt,
         alloc,
@@ -48,9 +53,9 @@ fn called<R: Threads + Wait + Sync>(
         sink,
         report,
         &statics,
-        &Quotas::usual(),
+        &quotas,
         Mode::Duplex,
-        Kind::Session,
+        Encoding::Known(Kind::Session),
         "net.tcp://h/e",
         &a,
         &b,
@@ -72,9 +77,10 @@ fn count_of(lane: Lane, tags: &[Lane]) -> usize {
     tags.iter().filter(|tag| **tag == lane).count()
 }
 
-#[test]
-fn documents_of_both_lists_are_sent(rt: HostRuntime) -> Result<(), Fail> {
-    let (outcome, sink) = called(&rt, rt.alloc(), THREE, THREE, &[])?;
+pub fn documents_of_both_lists_are_sent(
+    rt: &(impl Abort + AllocGlobal + Threads + Wait + Sync),
+) -> Result<(), Fail> {
+    let (outcome, sink) = called(rt, rt.alloc(), THREE, THREE, &[])?;
     assert_eq!(rt; outcome.inbound, ClientIn::Ended);
     assert_eq!(rt; outcome.outbound, ClientOut::Done);
     assert_eq!(rt; outcome.report, Reported::Done);
@@ -86,9 +92,10 @@ fn documents_of_both_lists_are_sent(rt: HostRuntime) -> Result<(), Fail> {
     Ok(())
 }
 
-#[test]
-fn the_first_list_may_be_empty(rt: HostRuntime) -> Result<(), Fail> {
-    let (outcome, sink) = called(&rt, rt.alloc(), b"", THREE, &[])?;
+pub fn the_first_list_may_be_empty(
+    rt: &(impl Abort + AllocGlobal + Threads + Wait + Sync),
+) -> Result<(), Fail> {
+    let (outcome, sink) = called(rt, rt.alloc(), b"", THREE, &[])?;
     assert_eq!(rt; outcome.sent, 3);
     assert!(rt; outcome.tags.as_slice() == [Lane::B, Lane::B, Lane::B].as_slice());
     let whole = session(rt.alloc(), 3)?;
@@ -96,9 +103,10 @@ fn the_first_list_may_be_empty(rt: HostRuntime) -> Result<(), Fail> {
     Ok(())
 }
 
-#[test]
-fn a_failed_write_ends_the_writing_alone(rt: HostRuntime) -> Result<(), Fail> {
-    let (outcome, sink) = called(&rt, rt.alloc(), THREE, THREE, &[1])?;
+pub fn a_failed_write_ends_the_writing_alone(
+    rt: &(impl Abort + AllocGlobal + Threads + Wait + Sync),
+) -> Result<(), Fail> {
+    let (outcome, sink) = called(rt, rt.alloc(), THREE, THREE, &[1])?;
     assert_eq!(rt; outcome.inbound, ClientIn::Ended);
     assert_eq!(rt; outcome.outbound, ClientOut::WriteFault);
     assert_eq!(rt; outcome.sent, outcome.tags.len() as u64);

@@ -3,6 +3,7 @@ use document_lines::take_documents;
 use io_edges::MemorySource;
 use nbfx_values::{Docs, Quotas};
 use std::alloc::{AllocError, Global};
+use std::process::Abort;
 use std::test::Fail;
 
 // A document with a text of a million letters.
@@ -16,8 +17,7 @@ fn long_document(alloc: Global) -> Result<Vec<u8>, AllocError> {
 }
 
 // If each piece began the line anew, this would take hours.
-#[test]
-fn a_line_of_a_megabyte_is_read_in_pieces(rt: HostRuntime) -> Result<(), Fail> {
+pub fn a_line_of_a_megabyte_is_read_in_pieces(rt: &(impl Abort + AllocGlobal)) -> Result<(), Fail> {
     let lines = long_document(rt.alloc())?;
     let mut source = MemorySource::new(lines, 7, Vec::new(rt.alloc()));
     let docs = Docs::new(rt.alloc());

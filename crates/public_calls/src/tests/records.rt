@@ -3,6 +3,7 @@ use nbfx_records::laws::record_fronts;
 use nbfx_records::{NameRef, Node, NodePlace, NodeReader, NodeStep, put_node};
 use nbfx_values::{Copied, Txt};
 use std::alloc::Global;
+use std::process::Abort;
 use std::test::Fail;
 use unit_streams::Memory;
 
@@ -13,8 +14,7 @@ fn put_start(alloc: Global, out: &mut Vec<u8>) -> Result<(), Memory> {
     put_node(&Node::Element { prefix, name }, out)
 }
 
-#[test]
-fn nodes_are_written(rt: HostRuntime) -> Result<(), Fail> {
+pub fn nodes_are_written(rt: &(impl Abort + AllocGlobal)) -> Result<(), Fail> {
     let mut out = Vec::new(rt.alloc());
     put_start(rt.alloc(), &mut out)?;
     put_node(&Node::EndElement, &mut out)?;
@@ -41,8 +41,7 @@ fn read_in_two(alloc: Global, front: &[u8], rest: &[u8]) -> Option<Node> {
 }
 
 // An array of two numbers, with a declaration and an attribute: a list of a number and a string.
-#[test]
-fn an_array_is_read_and_copied(rt: HostRuntime) -> Result<(), Fail> {
+pub fn an_array_is_read_and_copied(rt: &(impl Abort + AllocGlobal)) -> Result<(), Fail> {
     let front = b"\x03\x42\x02\x0B\x01p\x04\x04\x01k\xA4\x82";
     let rest = b"\xAA\x03\xA6\x01\x8B\x02\xFE\xFF\x00\x01";
     let Some(Node::Array(array)) = read_in_two(rt.alloc(), front, rest) else {

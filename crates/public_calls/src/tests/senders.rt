@@ -3,11 +3,12 @@ use super::answers::requests;
 use nbfx_encoder::{SendFault, SendState, Sender, Side};
 use nbfx_values::{Kind, Mode, Quotas};
 use static_dictionary::StaticTable;
+use std::alloc::Global;
+use std::process::Abort;
 use std::test::Fail;
 
 // An initiator in singleton mode sends one message, and then End once.
-#[test]
-fn one_message_and_its_end(rt: HostRuntime) -> Result<(), Fail> {
+pub fn one_message_and_its_end(rt: &(impl Abort + AllocGlobal)) -> Result<(), Fail> {
     let alloc = rt.alloc();
     let statics = StaticTable::read(alloc, b"id,string\n2,Envelope\n")?;
     let docs = requests(alloc)?;
@@ -31,5 +32,25 @@ fn one_message_and_its_end(rt: HostRuntime) -> Result<(), Fail> {
     );
     assert_eq!(rt; sender.end(), Ok(7));
     assert_eq!(rt; sender.end(), Err(SendState::Closed));
+    Ok(())
+}
+
+fn ended_at_once(alloc: Global, mode: Mode, side: Side) -> Result<Result<u8, SendState>, Fail> {
+    let statics = StaticTable::read(alloc, b"id,string\n2,Envelope\n")?;
+    let mut sender = Sender::new(alloc, &statics, Quotas::usual(), Kind::Plain, mode, side);
+    Ok(sender.end())
+}
+
+// Only an initiator in singleton mode has to send a message before End.
+pub fn end_without_a_message(rt: &(impl Abort + AllocGlobal)) -> Result<(), Fail> {
+    let rows = [
+        (Mode::Singleton, Side::Initiator, Err(SendState::Ready)),
+        (Mode::Singleton, Side::Receiver, Ok(7)),
+        (Mode::Duplex, Side::Initiator, Ok(7)),
+        (Mode::Simplex, Side::Receiver, Ok(7)),
+    ];
+    for (mode, side, answer) in rows {
+        assert_eq!(rt; ended_at_once(rt.alloc(), mode, side)?, answer);
+    }
     Ok(())
 }

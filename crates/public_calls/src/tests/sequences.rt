@@ -4,6 +4,7 @@ use nbfx_values::{Docs, Items};
 use reliable_sequence::{Counts, Event, Receiving, RmFault, Sending, SubmitFault, Taken, World};
 use soap_envelope::SoapFault;
 use std::alloc::Global;
+use std::process::Abort;
 use std::test::Fail;
 
 // Up to the first block of Header, whose Start is the item at 4, and from the end of Header on.
@@ -77,8 +78,7 @@ fn delivered(receiving: &mut Receiving) -> Option<usize> {
     Some(body.len())
 }
 
-#[test]
-fn what_comes_is_taken_or_refused(rt: HostRuntime) -> Result<(), Fail> {
+pub fn what_comes_is_taken_or_refused(rt: &(impl Abort + AllocGlobal)) -> Result<(), Fail> {
     let rows: [(&[u8], Result<Taken, RmFault>); 10] = [
         (
             IN_NO_NAMESPACE,
@@ -124,8 +124,7 @@ fn acknowledged(
     Ok(sending.take_ack(alloc, doc))
 }
 
-#[test]
-fn bodies_are_submitted_or_refused(rt: HostRuntime) -> Result<(), Fail> {
+pub fn bodies_are_submitted_or_refused(rt: &(impl Abort + AllocGlobal)) -> Result<(), Fail> {
     let mut sending = Sending::new(rt.alloc(), "u", 2)?;
     assert_eq!(rt; submitted(rt.alloc(), &mut sending, false), Ok(1));
     assert_eq!(rt; submitted(rt.alloc(), &mut sending, false), Ok(2));
@@ -161,8 +160,7 @@ fn with_body(alloc: Global, world: World) -> Result<World, Fail> {
     Ok(world)
 }
 
-#[test]
-fn a_body_goes_through_a_world(rt: HostRuntime) -> Result<(), Fail> {
+pub fn a_body_goes_through_a_world(rt: &(impl Abort + AllocGlobal)) -> Result<(), Fail> {
     let world = World::new(rt.alloc(), "u", 1)?;
     let world = with_body(rt.alloc(), world)?;
     let (world, _) = world.step(rt.alloc(), Event::Send(1))?;

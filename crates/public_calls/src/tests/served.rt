@@ -4,10 +4,11 @@ ghost use Rattle.std.specs.Prelude.{◌≤◌};
 use action_dispatch::EchoService;
 use duplex_server::{Inbound, Outbound, Outcome, serve_one, serve_two};
 use io_edges::{MemorySink, MemorySource};
-use nbfx_values::Quotas;
+use nbfx_values::{Quotas, Two};
 use receiver_machine::Endpoint;
 use static_dictionary::StaticTable;
 use std::alloc::{AllocError, Global};
+use std::process::Abort;
 use std::sync::Wait;
 use std::test::Fail;
 use std::thread::Threads;
@@ -31,7 +32,16 @@ fn session(alloc: Global) -> Result<Vec<u8>, AllocError> {
     Ok(bytes)
 }
 
-fn echoed(alloc: Global, quotas: &Quotas) -> Result<(Outcome, MemorySink), Fail> {
+// Quotas of both directions, which differ from the usual ones in that on payloads.
+fn with_payload(most: u32) -> Result<Two, Fail> {
+    let quotas = Quotas::of(most, 5, 2_048, 262_144, 2_048, 1 << 48).ok_or("good quotas")?;
+    Ok(Two {
+        forward: quotas,
+        back: quotas,
+    })
+}
+
+fn echoed(alloc: Global, quotas: &Two) -> Result<(Outcome, MemorySink), Fail> {
     let statics = StaticTable::read(alloc, STATICS)?;
     let mut source = MemorySource::new(session(alloc)?, 65_536, Vec::new(alloc));
     let mut sink = MemorySink::new(alloc, Vec::new(alloc), 0);
@@ -48,9 +58,10 @@ fn echoed(alloc: Global, quotas: &Quotas) -> Result<(Outcome, MemorySink), Fail>
 }
 
 // Its echo would have more than 4,096 bytes.
-#[test]
-fn a_fault_goes_in_place_of_an_answer_that_does_not_fit(rt: HostRuntime) -> Result<(), Fail> {
-    let quotas = Quotas::of(4_096, 5, 2_048, 262_144, 2_048, 1 << 48).ok_or("good quotas")?;
+pub fn a_fault_goes_in_place_of_an_answer_that_does_not_fit(
+    rt: &(impl Abort + AllocGlobal + Threads + Wait + Sync),
+) -> Result<(), Fail> {
+    let quotas = with_payload(4_096)?;
     let (outcome, sink) = echoed(rt.alloc(), &quotas)?;
     let served = Outcome {
         messages: 1,
@@ -70,7 +81,7 @@ fn a_fault_goes_in_place_of_an_answer_that_does_not_fit(rt: HostRuntime) -> Resu
 fn echoed_by_two(
     rt: &(impl Threads + Wait + Sync),
     alloc: Global,
-    quotas: &Quotas,
+    quotas: &Two,
     most: usize,
     failing: &[u64],
 ) -> Result<(Outcome, MemorySink), Fail>
@@ -94,21 +105,22 @@ fn echoed_by_two(
 
 // Two threads write what one does, also where they read a byte at a time; where a write fails, first
 // bytes of that, and the session is read to its end all the same.
-#[test]
-fn two_threads_write_what_one_does(rt: HostRuntime) -> Result<(), Fail> {
+pub fn two_threads_write_what_one_does(
+    rt: &(impl Abort + AllocGlobal + Threads + Wait + Sync),
+) -> Result<(), Fail> {
     let alloc = rt.alloc();
-    let quotas = Quotas::of(8_192, 5, 2_048, 262_144, 2_048, 1 << 48).ok_or("good quotas")?;
+    let quotas = with_payload(8_192)?;
     let (outcome, alone) = echoed(alloc, &quotas)?;
     for most in [1, 65_536] {
-        let (beside, sink) = echoed_by_two(&rt, alloc, &quotas, most, &[])?;
-        assert_eq!(&rt; beside, outcome);
-        assert_eq!(&rt; sink.bytes(), alone.bytes());
+        let (beside, sink) = echoed_by_two(rt, alloc, &quotas, most, &[])?;
+        assert_eq!(rt; beside, outcome);
+        assert_eq!(rt; sink.bytes(), alone.bytes());
     }
     for failed in [0, 1] {
-        let (beside, sink) = echoed_by_two(&rt, alloc, &quotas, 65_536, &[failed])?;
-        assert_eq!(&rt; beside.outbound, Outbound::WriteFault);
-        assert_eq!(&rt; (beside.messages, beside.inbound), (1, Inbound::Ended));
-        assert!(&rt; alone.bytes().starts_with(sink.bytes()) && sink.bytes().starts_with(b"\x0B"));
+        let (beside, sink) = echoed_by_two(rt, alloc, &quotas, 65_536, &[failed])?;
+        assert_eq!(rt; beside.outbound, Outbound::WriteFault);
+        assert_eq!(rt; (beside.messages, beside.inbound), (1, Inbound::Ended));
+        assert!(rt; alone.bytes().starts_with(sink.bytes()) && sink.bytes().starts_with(b"\x0B"));
     }
     Ok(())
 }

@@ -1,10 +1,9 @@
 // Session tables: a great one, and one that is cut back.
 use session_dictionary::SessionTable;
+use std::process::Abort;
 use std::test::Fail;
 
-// Finding each of them by a search through all would take minutes.
-#[test]
-fn many_strings(rt: HostRuntime) -> Result<(), Fail> {
+pub fn many_strings(rt: &(impl Abort + AllocGlobal)) -> Result<(), Fail> {
     let mut table = SessionTable::new(rt.alloc(), 1_073_741_824);
     for number in 0..300_000u32 {
         let text = format!(in rt.alloc(); "{number:07}")?;
@@ -17,8 +16,7 @@ fn many_strings(rt: HostRuntime) -> Result<(), Fail> {
     Ok(())
 }
 
-#[test]
-fn a_string_that_comes_twice_has_its_first_identifier(rt: HostRuntime) {
+pub fn a_string_that_comes_twice_has_its_first_identifier(rt: &(impl Abort + AllocGlobal)) {
     let mut table = SessionTable::new(rt.alloc(), 16);
     let none = table.mark();
     assert_eq!(rt; table.add("a"), Ok(1));

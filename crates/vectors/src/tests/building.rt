@@ -246,7 +246,7 @@ const UNFITTING: &[Row] = &[
         name: "a line of a megabyte is read: its content does not fit",
         words: BUILD_TWO,
         input: &[b"start \"\" \"x\"\ntext string \"", LONG, b"\"\nclose\n"],
-        long: (1_048_576, b'y'),
+        long: (1_048_576, b"y"),
         note: "document 0 does not fit: content 1048577\n",
         ..UNFIT
     },
@@ -254,7 +254,7 @@ const UNFITTING: &[Row] = &[
         name: "a line of a megabyte is read: its payload does not fit",
         options: "--payload=1048576",
         input: &[b"start \"\" \"x\"\ntext string \"", LONG, b"\"\nclose\n"],
-        long: (1_048_576, b'y'),
+        long: (1_048_576, b"y"),
         note: "document 0 does not fit: payload 1048586\n",
         ..UNFIT
     },

@@ -17,7 +17,7 @@ const UNASKED: Peer = Peer {
 };
 
 // A put that fails keeps three bytes.
-const CALL_ONE: Row = Row {
+pub const CALL_ONE: Row = Row {
     words: "nettcp call --static=S --connect=h:808 --via=net.tcp://h/e",
     options: "--depth=4",
     files: &[("T", X)],

@@ -188,11 +188,16 @@ const OTHER_VALUES: &[Asked] = &[
             "nettcp dump BOTH --static=S",
         ],
         settings: &[
-            ("--payload", "4095|1048577|4294967296"),
-            ("--depth", "3|129|4294967304"),
+            ("--payload", "4095|16777217|4294967296"),
+            ("--depth", "3|1025|4294967304"),
             ("--dictionary", "65537"),
-            ("--content", "65535|16777217"),
+            ("--content", "65535|67108865"),
             ("--session", "0|281474976710657"),
+            ("--reply-payload", "4095|16777217|4294967296"),
+            ("--reply-depth", "3|1025|4294967304"),
+            ("--reply-dictionary", "65537"),
+            ("--reply-content", "65535|67108865"),
+            ("--reply-session", "24"),
         ],
         row: Row {
             name: "quotas that may not be",
@@ -206,7 +211,10 @@ const OTHER_VALUES_2: &[Asked] = &[
         forms: &[
             "nettcp check --content=8192 --static=S --dictionary=8193 --payload=8192",
             "nettcp check --content=8191 --static=S --dictionary=8192 --payload=8192",
-            "nettcp check --content=1048575 --static=S --dictionary=1048576 --payload=1048576",
+            "nettcp check --content=1048576 --static=S --dictionary=1048576 --payload=1048577",
+            "nettcp check --static=S --payload=2097152 --dictionary=1048577",
+            "nettcp check --static=S --dictionary=8192 --reply-payload=4096",
+            "nettcp check --static=S --reply-content=65536 --reply-payload=65537",
         ],
         settings: NO_SETTING,
         row: Row {
@@ -227,7 +235,10 @@ const OTHER_VALUES_2: &[Asked] = &[
             "nettcp dump --static=S --encoding VALUE",
             "nettcp dump --static=S --replies=duplex --encoding VALUE",
         ],
-        settings: &[("", "6|9|08|binary||+8")],
+        settings: &[(
+            "",
+            "6|9|08|binary||+8|MSBIN1|msbin|msbin1+gzip|application/soap+msbin1",
+        )],
         row: Row {
             name: "encodings of other names",
             ..REFUSED_WORDS

@@ -75,7 +75,7 @@ const PREAMBLES_2: &[Row] = &[
     },
     Row {
         name: "preambles are refused by name: a custom encoding",
-        input: &[b"\x00\x01\x00\x01\x02\x02\x01a\x04", BEHIND],
+        input: &[b"\x00\x01\x00\x01\x02\x02\x01a\x04\x08text/xml", BEHIND],
         output: &[b"offence frame 8 9 BadEncoding\n"],
         ..SHOWN
     },

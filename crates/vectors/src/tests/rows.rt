@@ -7,7 +7,7 @@ pub type Parts = &'static [&'static [u8]];
 // The part that stands for a row's long text.
 pub const LONG: &[u8] = b"LONG";
 
-pub const NO_TEXT: (usize, u8) = (0, b' ');
+pub const NO_TEXT: (usize, &[u8]) = (0, b"");
 
 // A run of the program: what it is asked, what comes in and what fails, and what it leaves.
 #[derive(Clone, Copy)]
@@ -19,8 +19,8 @@ pub struct Row {
     // The files of the shelf beside S, which has the static strings, or in its place.
     pub files: &'static [(&'static str, &'static [u8])],
     pub input: Parts,
-    // How many times the long text of the row has which byte.
-    pub long: (usize, u8),
+    // How many times the long text of the row has which bytes.
+    pub long: (usize, &'static [u8]),
     // At most how many bytes come at a take, and how many are left of the input then: a run each.
     pub pieces: &'static [(usize, usize)],
     // The fetch, the take, and the put of the output that fail, by their numbers.

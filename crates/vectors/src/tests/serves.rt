@@ -24,7 +24,7 @@ const UNMET: Peer = Peer {
 const NEITHER: &[Peer] = &[UNMET, UNMET];
 
 // The input isn't read.
-const SERVE: Row = Row {
+pub const SERVE: Row = Row {
     words: "nettcp serve --static=S --listen=h:808",
     options: "--connections=2",
     files: &[("T", ACTIONS)],

@@ -4,7 +4,7 @@ use super::*;
 use action_dispatch::EchoService;
 use duplex_server::{Inbound, Outbound, Outcome, serve_one, serve_two};
 use io_edges::{ReadSource, WriteSink};
-use nbfx_values::Quotas;
+use nbfx_values::{Quotas, Two};
 use receiver_machine::Endpoint;
 use static_dictionary::StaticTable;
 use std::io::{self, Read, Write};
@@ -144,7 +144,11 @@ fn served(
     let statics = StaticTable::read(alloc, STATICS)?;
     let mut source = calls_of(alloc, meeting)?;
     let mut sink = answers_of(alloc, meeting)?;
-    let (quotas, endpoint) = (Quotas::usual(), Endpoint::Any);
+    let endpoint = Endpoint::Any;
+    let quotas = Two {
+        forward: Quotas::usual(),
+        back: Quotas::usual(),
+    };
     if is_beside {
         let (outcome, _, _) = serve_two(
             rt,

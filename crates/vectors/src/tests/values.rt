@@ -138,7 +138,7 @@ const VALUES_3: &[Row] = &[
             LONG,
             b"\"\nclose\nstart \"\" \"b\"\nclose\n",
         ],
-        long: (2_048, b'a'),
+        long: (2_048, b"a"),
         output: &[
             PREAMBLE,
             b"\x06\x87\x10\x82\x10\x80\x10",

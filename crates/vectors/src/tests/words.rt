@@ -100,11 +100,15 @@ const UNDERSTOOD: &[Asked] = &[
             "nettcp check BOTH --static=S",
         ],
         settings: &[
-            ("--payload", "4096|1048576"),
-            ("--depth", "4|128"),
+            ("--payload", "4096|16777216"),
+            ("--depth", "4|1024"),
             ("--dictionary", "0|65536"),
-            ("--content", "65536|16777216"),
+            ("--content", "65536|67108864"),
             ("--session", "24|281474976710656"),
+            ("--reply-payload", "4096|16777216"),
+            ("--reply-depth", "4|1024"),
+            ("--reply-dictionary", "0|65536"),
+            ("--reply-content", "65536|67108864"),
         ],
         row: Row {
             name: "a quota is one word or two",
@@ -202,7 +206,9 @@ const UNDERSTOOD_2: &[Asked] = &[
     Asked {
         forms: &[
             "nettcp check --content=8192 --static=S --dictionary=8192 --payload=8192",
-            "nettcp check --content=1048576 --static=S --dictionary=1048576 --payload=1048576",
+            "nettcp check --content=1048577 --static=S --dictionary=1048576 --payload=1048577",
+            "nettcp check --reply-dictionary=8192 --static=S --reply-payload=8192",
+            "nettcp check --reply-payload=4096 --static=S --payload=16777216",
         ],
         settings: NO_SETTING,
         row: Row {
@@ -215,7 +221,12 @@ const UNDERSTOOD_2: &[Asked] = &[
             "nettcp check OPTION --static=S",
             "nettcp dump --static S OPTION",
         ],
-        settings: &[("--encoding=7", ""), ("--encoding=8", "")],
+        settings: &[
+            ("--encoding=7", ""),
+            ("--encoding=8", ""),
+            ("--encoding=msbin1", ""),
+            ("--encoding=msbinsession1", ""),
+        ],
         row: Row {
             name: "an encoding has no effect on an initiator's stream",
             ..TAKEN

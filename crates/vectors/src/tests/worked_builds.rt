@@ -30,7 +30,7 @@ const BUILDS: &[Row] = &[
         name: "texts on each side of a wider length: 255 letters",
         options: "--payload=131072",
         input: LONG_TEXT,
-        long: (255, b'z'),
+        long: (255, b"z"),
         output: &[PREAMBLE, b"\x06\x86\x02\x02\x01xB\x01\x99\xFF", LONG, END],
         ..ONE
     },
@@ -38,7 +38,7 @@ const BUILDS: &[Row] = &[
         name: "texts on each side of a wider length: 256 letters",
         options: "--payload=131072",
         input: LONG_TEXT,
-        long: (256, b'z'),
+        long: (256, b"z"),
         output: &[
             PREAMBLE,
             b"\x06\x88\x02\x02\x01xB\x01\x9B\x00\x01",
@@ -51,7 +51,7 @@ const BUILDS: &[Row] = &[
         name: "texts on each side of a wider length: 65,536 letters",
         options: "--payload=131072",
         input: LONG_TEXT,
-        long: (65_536, b'z'),
+        long: (65_536, b"z"),
         output: &[
             PREAMBLE,
             b"\x06\x8A\x80\x04\x02\x01xB\x01\x9D\x00\x00\x01\x00",
@@ -64,7 +64,7 @@ const BUILDS: &[Row] = &[
         name: "documents beyond a quota: a payload",
         options: "--payload=4096",
         input: &[b"start \"\" \"big\"\ntext string \"", LONG, b"\"\nclose\n"],
-        long: (5_000, b'y'),
+        long: (5_000, b"y"),
         note: "document 0 does not fit: payload 5010\n",
         ..UNFIT
     },

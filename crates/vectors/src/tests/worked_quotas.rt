@@ -128,7 +128,7 @@ const QUOTAS_2: &[Row] = &[
             b"\x06\x07\x02\x01",
             b"b\x40\x01x\x01",
         ],
-        long: (2_048, b'a'),
+        long: (2_048, b"a"),
         pieces: &[(65_536, 0), (1, 5)],
         output: &[
             OPEN,
@@ -147,7 +147,7 @@ const QUOTAS_2: &[Row] = &[
             b"\x40\x01x\x01",
             b"\x06\x07\x02\x01b\x40\x01x\x01\x07",
         ],
-        long: (2_048, b'a'),
+        long: (2_048, b"a"),
         output: &[
             OPEN,
             b"message 0 payload 2056 items 2 depth 1 content 1 strings 1 used 2048\n",
@@ -176,7 +176,7 @@ const QUOTAS_3: &[Row] = &[
             b"\x42\x01\x42\x01\x42\x01",
             b"\x01\x01\x01\x07",
         ],
-        long: (2_000, b'a'),
+        long: (2_000, b"a"),
         output: &[
             OPEN,
             b"message 0 payload 2013 items 6 depth 3 content 6000 strings 1 used 2000\n",
@@ -195,7 +195,7 @@ const QUOTAS_3: &[Row] = &[
             b"\x42\x01\x42\x01\x42\x01",
             b"\x01\x01\x01\x07",
         ],
-        long: (2_000, b'a'),
+        long: (2_000, b"a"),
         output: &[
             OPEN,
             b"message 0 payload 2013 items 6 depth 3 content 6000 strings 1 used 2000\n",
@@ -214,7 +214,7 @@ const QUOTAS_3: &[Row] = &[
             b"\x42\x01\x42\x01\x42\x01",
             b"\x01\x01\x01\x07",
         ],
-        long: (2_000, b'a'),
+        long: (2_000, b"a"),
         output: &[
             OPEN,
             b"message 0 payload 2013 items 6 depth 3 content 6000 strings 1 used 2000\n",
@@ -233,7 +233,7 @@ const QUOTAS_3: &[Row] = &[
             b"\x42\x01\x42\x01\x42\x01",
             b"\x01\x01\x01\x07",
         ],
-        long: (2_000, b'a'),
+        long: (2_000, b"a"),
         pieces: &[(65_536, 0), (1, 4)],
         output: &[OPEN, b"offence payload 0 2008 21 TooMuchContent\n"],
         ..REFUSED

@@ -11,11 +11,11 @@ const WORKED: Row = Row {
 const ANSWERED: &[u8] = b"\x06\x44\x02\x01x";
 
 // A document up to the text of its Action, its MessageID, and the RelatesTo of an answer to it.
-const HEADER: &[u8] = b"V\x02\x0B\x01s\x04\x0B\x01a\x06V\x08D\x0A\x1E\x00\x82";
+pub const HEADER: &[u8] = b"V\x02\x0B\x01s\x04\x0B\x01a\x06V\x08D\x0A\x1E\x00\x82";
 
 const MESSAGE: &[u8] = b"D\x1A\xAD3\x22\x11\x00UDwf\x88\x99\xAA\xBB\xCC\xDD\xEE\xFF";
 
-const RELATED: &[u8] = b"D\x12\xAD3\x22\x11\x00UDwf\x88\x99\xAA\xBB\xCC\xDD\xEE\xFF";
+pub const RELATED: &[u8] = b"D\x12\xAD3\x22\x11\x00UDwf\x88\x99\xAA\xBB\xCC\xDD\xEE\xFF";
 
 // The actions of a call and of a fault.
 const ECHO: &[u8] = b"\x99\x08urn:echo";
