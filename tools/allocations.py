@@ -6,6 +6,7 @@ for, and what wasn't given back.
 
 import os
 import subprocess
+from typing import NamedTuple
 
 from sockets import PROGRAM, SAMPLES, SECONDS
 
@@ -14,25 +15,26 @@ AMPLE = 1_000_000
 OUT_OF_MEMORY = (5, b"out of memory\n")
 ALL_STRINGS = os.path.join(SAMPLES, "mc-nbfs.csv")
 # Fails the call with a number, from 1, of all that ask for memory, and writes at the end how many
-# did, and how many more gave memory than gave it back. Fails the write of the output, and the send
-# over a socket, with a number, if there is one, and writes how many of each there were; reads at
-# most so many bytes at a time, or random numbers up to that by a seed, if there is one. A program that
-# has threads ends by _exit, at which no destructor runs.
+# did, and how many more gave memory than gave it back. Fails the write of the output, the send over a
+# socket, and the start of a thread, with a number, if there is one, and writes how many of each there
+# were; reads at most so many bytes at a time, or random numbers up to that by a seed, if there is one.
+# A program that has threads ends by _exit, at which no destructor runs.
 SHIM = r"""
 #define _GNU_SOURCE
 #include <dlfcn.h>
 #include <fcntl.h>
 #include <stdio.h>
 #include <errno.h>
+#include <pthread.h>
 #include <stdlib.h>
 #include <sys/socket.h>
 #include <sys/syscall.h>
 #include <unistd.h>
-static _Atomic long calls, wanted, live, writes, sends;
+static _Atomic long calls, wanted, live, writes, sends, threads, alone;
 __attribute__((destructor)) static void tell(void) {
-    long told = calls, kept = live, put = writes, sent = sends;
+    long told = calls, kept = live, put = writes, sent = sends, begun = threads, first = alone;
     int file = open(getenv("ALLOCATIONS"), O_WRONLY | O_CREAT | O_TRUNC, 0600);
-    dprintf(file, "%ld %ld %ld %ld", told, kept, put, sent);
+    dprintf(file, "%ld %ld %ld %ld %ld %ld", told, kept, put, sent, begun, first);
 }
 void _exit(int status) {
     tell();
@@ -60,6 +62,12 @@ ssize_t send(int socket, const void *bytes, size_t n, int flags) {
         return -1;
     }
     return next(socket, bytes, n, flags);
+}
+int pthread_create(pthread_t *thread, const pthread_attr_t *how, void *(*work)(void *), void *with) {
+    static int (*next)(pthread_t *, const pthread_attr_t *, void *(*)(void *), void *);
+    if (!next) next = dlsym(RTLD_NEXT, "pthread_create");
+    if (++threads == 1) alone = calls;
+    return threads == told_by("FAIL_THREAD") ? EAGAIN : next(thread, how, work, with);
 }
 static size_t most_read(void) {
     static unsigned state;
@@ -124,6 +132,35 @@ def few_strings(folder):
     return few
 
 
+class Counts(NamedTuple):
+    """What the library counted in a run."""
+
+    asked: int = 0
+    live: int = 0
+    writes: int = 0
+    sends: int = 0
+    threads: int = 0
+    alone: int = 0
+
+    def shared(self, went_on):
+        """Of the allocations before the first thread starts, how many in a row up to the last one are
+        among these; None where no thread starts."""
+        if not self.threads:
+            return None
+        return next(count for count in range(self.asked + 1) if self.alone - count not in went_on)
+
+
+class Failing(NamedTuple):
+    """How many runs there were in which something failed, how many of them ended otherwise than with
+    nothing failing, and how many wrongly; and of the allocations before a thread starts, without how
+    many the runs went on, or None where no thread starts."""
+
+    runs: int
+    ended: int
+    wrong: int
+    shared: int = None
+
+
 class Shim:
     """The library, built in a folder, and what it counted in the last run."""
 
@@ -157,10 +194,11 @@ class Shim:
         return ran.returncode, ran.stdout, ran.stderr
 
     def counts(self):
-        """How many allocations the last run asked for, how many were still there at its end, and
-        how many writes and sends there were. A run that was killed counts nothing."""
+        """How many allocations the last run asked for, how many were still there at its end, how many
+        writes, sends and starts of threads there were, and how many allocations before the first of
+        these. A run that was killed counts nothing."""
         try:
             with open(self.library + ".calls") as file:
-                return [int(number) for number in file.read().split()]
+                return Counts(*(int(number) for number in file.read().split()))
         except FileNotFoundError:
-            return [0, 0, 0, 0]
+            return Counts()

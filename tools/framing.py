@@ -1,14 +1,15 @@
 """Where the framing records of a session end, of bytes that the program has taken (MC-NMF), and the
 records of sessions that are made up."""
 
-VERSION, MODE, VIA, KNOWN_ENCODING, UNSIZED, SIZED, END, FAULT = 0, 1, 2, 3, 5, 6, 7, 8
-PREAMBLE_ACK, PREAMBLE_END = 11, 12
+VERSION, MODE, VIA, KNOWN_ENCODING, EXTENSIBLE_ENCODING = 0, 1, 2, 3, 4
+UNSIZED, SIZED, END, FAULT, PREAMBLE_ACK, PREAMBLE_END = 5, 6, 7, 8, 11, 12
 # How many bytes a record has that has neither a size nor a text.
 LENGTHS = {VERSION: 3, MODE: 2, KNOWN_ENCODING: 2, END: 1, PREAMBLE_ACK: 1, PREAMBLE_END: 1}
 MESSAGES = (UNSIZED, SIZED)
 SINGLETON, DUPLEX, SIMPLEX = 1, 2, 3
 MODES = {"singleton": SINGLETON, "duplex": DUPLEX, "simplex": SIMPLEX}
 PLAIN, SESSION = 7, 8
+CONTENT_TYPES = {PLAIN: b"application/soap+msbin1", SESSION: b"application/soap+msbinsession1"}
 USUAL_VIA = b"net.tcp://h/e"
 
 
@@ -61,10 +62,13 @@ def string(text, least=1):
     return integer(len(text), least) + text
 
 
-def preamble(mode=DUPLEX, encoding=SESSION, via=USUAL_VIA):
+def preamble(mode=DUPLEX, encoding=SESSION, via=USUAL_VIA, by_content_type=False):
     """What an initiator sends first."""
     version = bytes([VERSION, 1, 0, MODE, mode, VIA]) + string(via)
-    return version + bytes([KNOWN_ENCODING, encoding, PREAMBLE_END])
+    named = bytes([KNOWN_ENCODING, encoding])
+    if by_content_type:
+        named = bytes([EXTENSIBLE_ENCODING]) + string(CONTENT_TYPES[encoding])
+    return version + named + bytes([PREAMBLE_END])
 
 
 def sized(payload):

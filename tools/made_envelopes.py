@@ -9,6 +9,8 @@ SOAP = "http://www.w3.org/2003/05/soap-envelope"
 SOAP_1_1 = "http://schemas.xmlsoap.org/soap/envelope/"
 ADDRESSING = "http://www.w3.org/2005/08/addressing"
 ANONYMOUS, NO_ADDRESS = ADDRESSING + "/anonymous", ADDRESSING + "/none"
+ADDRESSING_2004 = "http://schemas.xmlsoap.org/ws/2004/08/addressing"
+ANONYMOUS_2004 = ADDRESSING_2004 + "/role/anonymous"
 ROLES = [SOAP + "/role/" + it for it in ("next", "ultimateReceiver")]
 # Actions for which the file of actions has a text, one that is too large, and none.
 ECHO, LARGE, UNKNOWN = "urn:echo", "urn:large", "urn:unknown"
@@ -215,11 +217,11 @@ BY_ACTIONS = ("no such action", "the answer is larger than may be sent")
 # What makes requests for each case of the table of answers, where these aren't faults.
 ANSWERS = {
     "the document is no envelope": None,
-    "ReplyTo's Address is WS-Addressing's `none`": to_nobody,
-    "a targeted header block with mustUnderstand isn't addressing's Action, To, MessageID, "
+    "ReplyTo's Address is the version's none address, which only 1.0 has": to_nobody,
+    "a targeted header block with mustUnderstand isn't the version's Action, To, MessageID, "
     "RelatesTo or ReplyTo": None,
     "there is no Action": None,
-    "there is a ReplyTo, and its Address isn't the anonymous one": None,
+    "there is a ReplyTo, and its Address isn't the version's anonymous one": None,
     "the service replies": served,
     "the service says nothing": None,
     "the service has no such action, or refuses with a reason": None,
@@ -235,6 +237,12 @@ RULES = (
 )
 
 
+def in_both_versions(made):
+    """A request, and the same in the addressing of August 2004."""
+    yield made
+    yield made.replace(ANONYMOUS, ANONYMOUS_2004).replace(ADDRESSING, ADDRESSING_2004)
+
+
 def all_requests():
     """Requests, each with words for it, what its answer has to say, or None where there is none,
     and whether that comes of a file of actions."""
@@ -243,11 +251,13 @@ def all_requests():
     known("a fault", [it[0] for it in faults], FAULTS)
     known("an envelope", [it[0] for it in tables("What an envelope is")[0]], RULES)
     for case, _, _, reason in faults:
-        for made in FAULTS[case]() if FAULTS[case] else []:
-            yield case, made, reason, case in BY_ACTIONS
+        for one in FAULTS[case]() if FAULTS[case] else []:
+            for made in in_both_versions(one):
+                yield case, made, reason, case in BY_ACTIONS
     for case, answer in answers:
-        for made in ANSWERS[case]() if ANSWERS[case] else []:
-            yield case, made, None if answer == "none" else "Response", False
+        for one in ANSWERS[case]() if ANSWERS[case] else []:
+            for made in [one] if ANSWERS[case] is to_nobody else in_both_versions(one):
+                yield case, made, None if answer == "none" else "Response", False
 
 
 def values_in_headers():

@@ -140,7 +140,9 @@ class Maker:
         mode, encoding = chosen.choice(list(MODES)), chosen.choice((PLAIN, SESSION))
         if chosen.random() < 0.75:
             via = b"net.tcp://h/" + b"v" * chosen.choice((0, 1, 100, 116, 300, 2_036))
-            opening, last = framing.preamble(MODES[mode], encoding, via), bytes([framing.END])
+            spelled_out = chosen.random() < 0.3
+            opening = framing.preamble(MODES[mode], encoding, via, spelled_out)
+            last = bytes([framing.END])
             return opening + self.messages(chosen, MODES[mode], encoding) + last, ()
         messages = b"" if mode == "simplex" else self.messages(chosen, MODES[mode], encoding)
         last = chosen.choice((bytes([framing.END]), bytes([framing.FAULT]) + framing.string(b"a")))

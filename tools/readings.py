@@ -16,7 +16,7 @@ READ = (0, 1, 9, 10)
 TRUNCATED, OUT_OF_ORDER = 24, 3
 # What greater quotas may prevent, of the payload, the dictionary, the depth and the content.
 BY_A_QUOTA = (11, 14, 20, 21)
-GREATEST = "--payload 1048576 --dictionary 1048576 --depth 128 --content 16777216".split()
+GREATEST = "--payload 16777216 --dictionary 1048576 --depth 1024 --content 67108864".split()
 # A row of the tables of refusals.
 ROW = re.compile(r"^\| (\d+) `\w+` \| .* \| (.*) \|$", re.M)
 

@@ -9,7 +9,7 @@ import socket
 import subprocess
 import tempfile
 
-from allocations import AMPLE, OUT_OF_MEMORY
+from allocations import AMPLE, OUT_OF_MEMORY, Failing
 from sockets import HOST, PROGRAM, SECONDS, VIA
 from sockets import connected, documents, free_port, place, read_all, run
 
@@ -133,10 +133,10 @@ def may_serve(whole, ended):
     )
 
 
-def call_into_full_device(shim, words, lines, replies, number):
+def call_into_full_device(shim, words, lines, replies, number, more={}):
     """The same where the standard output is full."""
     with open("/dev/full", "wb") as full:
-        return call(shim, words, lines, replies, number, full)
+        return call(shim, words, lines, replies, number, full, more)
 
 
 def may_call(fronts):
@@ -202,8 +202,8 @@ def in_one_order(run_failing, fronts, others):
     """A run of a call of two lists of one document, which are sent in either order: what is sent in
     the second order, whose session has the other fronts, is told as what stands there in the first.
     """
-    def told(number):
-        status, output, note, received = run_failing(number)
+    def told(number, **how):
+        status, output, note, received = run_failing(number, **how)
         line = SENT.search(output)
         letters = line[2] if line else b""
         if letters.startswith(b"b"):
@@ -337,43 +337,58 @@ def many(shim, statics, stream):
     """The name of a run of many connections, and of one of many documents, how it ends, and how
     many allocations it leaves."""
     ended = serve(shim, statics, [stream] * 40, AMPLE)
-    yield "serve of 40 connections", ended, shim.counts()[1]
+    yield "serve of 40 connections", ended, shim.counts().live
     lines, words = document_of(statics, stream) * 60, ["--via=" + VIA]
     replies = run(["replay"] + statics, run(["build"] + statics + words, lines)[1])[1]
     ended = call(shim, statics + words, lines, replies, AMPLE)
-    yield "call of 60 documents", ended, shim.counts()[1]
+    yield "call of 60 documents", ended, shim.counts().live
 
 
 def tried(shim, name, run_failing, may_end):
-    """How many runs there were, how many ended for want of memory, and how many wrongly.
-
-    The allocation that fails is each in turn, until a run asks for fewer: that ends as with ample
-    memory, whose run may ask for some more or fewer, by the pieces in which bytes come.
+    """The runs in which an allocation fails: each in turn, until a run asks for fewer. That ends as
+    with ample memory, whose run may ask for some more or fewer, by the pieces in which bytes come.
     """
-    return each_failing(shim, name, run_failing, may_end, "allocation", 0)
+    return each_failing(shim, name, run_failing, may_end, "allocation", "asked")
 
 
 def tried_sending(shim, name, run_failing, may_end):
     """The same of sends."""
-    return each_failing(shim, name, run_failing, may_end, "send", 3)
+    return each_failing(shim, name, run_failing, may_end, "send", "sends")
+
+
+def tried_starting(shim, name, run_failing):
+    """The runs in which a thread can't be started: each ends as with nothing failing."""
+    whole = run_failing(AMPLE)
+    threads, wrong = shim.counts().threads, 0
+    for number in range(1, threads + 1):
+        ended = run_failing(AMPLE, more={"FAIL_THREAD": str(number)})
+        live = shim.counts().live
+        if ended != whole or live:
+            wrong += 1
+            print("%s, thread %d of %d: %r, %d live" % (name, number, threads, ended, live))
+    return Failing(threads, threads, wrong)
 
 
 def each_failing(shim, name, run_failing, may_end, kind, counted):
-    """The same of what stands at that place of the counts."""
+    """The runs in which one of what is counted so fails."""
     whole = run_failing(AMPLE)
+    with_ample = shim.counts()
     received = whole[3] if isinstance(whole[3], list) else [whole[3]]
     if LATE in received or whole[0] and whole[:3] != INTO_FULL_DEVICE:
         raise SystemExit("%s: with none failing %r" % (name, whole))
-    runs = failing = wrong = 0
-    failed = True
+    runs = ended_otherwise = wrong = 0
+    went_on, failed = set(), True
     while failed:
         runs += 1
         ended = run_failing(runs)
         counts = shim.counts()
-        failed = runs <= counts[counted]
-        failing += ended != whole
-        if not (ended == whole or failed and may_end(whole, ended)) or counts[1]:
+        failed = runs <= getattr(counts, counted)
+        ended_otherwise += ended != whole
+        if failed and ended == whole:
+            went_on.add(runs)
+        if not (ended == whole or failed and may_end(whole, ended)) or counts.live:
             wrong += 1
-            told = (name, kind, runs, counts[counted], ended, counts[1])
+            told = (name, kind, runs, getattr(counts, counted), ended, counts.live)
             print("%s, %s %d of %d: %r, %d live" % told)
-    return runs, failing, wrong
+    shared = with_ample.shared(went_on) if counted == "asked" else None
+    return Failing(runs, ended_otherwise, wrong, shared)
