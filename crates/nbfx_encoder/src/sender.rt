@@ -21,6 +21,10 @@ use static_dictionary::StaticTable;
 use std::alloc::Global;
 use unit_streams::Memory;
 
+// The most bytes of records about a payload (MC-NMF): the type and the size of an Unsized Envelope
+// Record's chunk, and the size of the chunk that ends it.
+const AROUND_PAYLOAD: usize = 7;
+
 /// Which end of the session sends.
 #[derive(Clone, Copy, Debug, PartialEq, Eq)]
 pub enum Side {
@@ -230,6 +234,7 @@ fn put_envelope(
     ensures { Puts result out.old.items out.new.items
         (envelope_head mode size ++ (payload_in encoder.now ++ envelope_end mode)) }
 {
+    out.reserve(size as usize + AROUND_PAYLOAD)?;
     put_envelope_head(mode, size, out)?;
     encoder.put_payload(out)?;
     put_envelope_end(mode, out)
