@@ -1,21 +1,19 @@
 -- A decoder takes the bytes of a piece, one unit after the other.
-use Rattle.std.proofs.Common.{◌≡◌, ℕ, ◌+◌, ◌-◌, ◌<◌, List, ◌++◌, length, take, drop, IsErrAnd, None}
-use Rattle.std.proofs.Common.{Ok, Err, Result, sym, refl, ap, ◌∙◌, subst, append_assoc, arith}
+use Rattle.std.proofs.Common.{◌≡◌, ℕ, ◌+◌, ◌-◌, ◌<◌, List, [], ◌++◌, length, take, drop, IsErrAnd}
+use Rattle.std.proofs.Common.{None, Ok, Err, Result, sym, refl, ap, ◌∙◌, subst, append_assoc, arith}
 use Rattle.std.proofs.Common.{length-append, length-drop, length-take-le, take_all}
 use Rattle.std.proofs.{Math.Seq.take-add, lemmas.Result.err_from_is_err_and}
 use Rattle.unit_streams.proofs.{Passing.going_refusal, Passing.refusal_from, Quiet.quiet_joined}
 use Rattle.unit_streams.specs.{Going.IsGoing, Going.IsQuiet, Grammar.standing, Judging.refusal_at}
 use Rattle.nbfx_decoder.specs.declared.{decoder.Decoder.Decoder, faults.UnitFault.UnitFault}
 use Rattle.nbfx_decoder.specs.declared.faults.UnitFault.TheVariants.{Memory, Refused}
-use Rattle.nbfx_decoder.specs.DecoderState.{from_of, Reached, situation_of}
+use Rattle.nbfx_decoder.specs.declared.units.UnitRead.TheVariants.{Done}
+use Rattle.nbfx_decoder.specs.DecoderState.{begun_of, from_of, Reached, situation_of}
 use Rattle.nbfx_decoder.specs.Payload.{payload, Settings}
-use Rattle.nbfx_decoder.specs.{Taking.AllAnswers, Taking.TakeAnswers, Units.HasStrings}
-
--- so many bytes of y are taken behind p
-pub record HasTaken (d : Decoder) (x : Settings) (strings : List (List ℕ)) (p y : List ℕ)
-    (used : ℕ) : Type 0 where
-  pub quiet : IsQuiet (payload x strings) p y used
-  pub reached : Reached d x strings (p ++ take used y)
+use Rattle.nbfx_decoder.specs.Taking.{AllAnswers, HasTaken, TakeAnswers, TakesRecords}
+use Rattle.nbfx_decoder.specs.Units.{HasStrings, Reads, UnitAnswers}
+use Rattle.nbfx_decoder.proofs.Keeping.{settings_through}
+use Rattle.nbfx_decoder.proofs.TakeSteps.{takes_unit_of}
 
 -- what goes on isn't refused
 pub going_unrefused : (x : Settings) (strings : List (List ℕ)) (p : List ℕ)
@@ -71,3 +69,48 @@ module _ (x : Settings) (strings : List (List ℕ)) (p y : List ℕ) (used : ℕ
       )
       by_fault Memory set =
           (used, quiet, more, going_unrefused x strings (p ++ take used y) reached.going, set)
+
+-- a whole record that is read by its fast path behind p, where none has begun
+pub answers_quickly : (old new : Decoder) (x : Settings) (strings : List (List ℕ)) (p c : List ℕ)
+    (used : ℕ) → old.begun ≡ [] → new.begun ≡ [] → new.failure ≡ old.failure
+    → Reads old.units new.units c (Ok (Done used)) → Reached old x strings p
+    → TakeAnswers x strings p c new (Ok used)
+answers_quickly old new x strings p c used begun none failure reads h =
+    let empty : [] ≡ begun_of x strings p = sym begun ∙ h.begun in
+    let read : UnitAnswers x (situation_of x strings p) (from_of x strings p)
+    (begun_of x strings p ++ c) new.units (Ok (Done used)) =
+    subst (λ (b : List ℕ). UnitAnswers x (situation_of x strings p) (from_of x strings p)
+    (b ++ c) new.units (Ok (Done used))) empty
+    (reads.answers x (situation_of x strings p) (from_of x strings p) h.at) in
+    let size = ap length empty in
+    takes_unit_of x strings p c h.going read.0 used read.1 used (omega (arith, size)) read.2 new
+    read.3 none (failure ∙ h.unfailed)
+
+-- one more is read by its fast path
+pub takes_one_more : (old mid new : Decoder) (y : List ℕ) (used : ℕ) → TakesRecords old mid y used
+    → new.begun ≡ mid.begun → new.failure ≡ mid.failure
+    → (n : ℕ) → Reads mid.units new.units (take (length y - used) (drop used y)) (Ok (Done n))
+    → TakesRecords old new y (used + n)
+takes_one_more old mid new y used before begun failure n reads =
+    let size = length-drop used y in
+    let same = ap length (rest_of y used) in
+    let counts = reads.counts.1 in
+    let on = reads.goes_on in
+    let far = before.taken in
+    let le = before.within in
+    record {
+      within = omega (arith, counts, same, size, le);
+      taken = omega (arith, on, far);
+      none = begun ∙ before.none;
+      keeps = record {
+        failure = failure ∙ before.keeps.failure;
+        settings = settings_through before.keeps.settings reads.kept;
+      };
+      far = λ x strings p h.
+          let far = before.far x strings p h in
+          taken_more x strings p y used far.quiet new n
+          (answers_quickly mid new x strings (p ++ take used y) (drop used y) n before.none
+          (begun ∙ before.none) failure
+          (subst (λ (b : List ℕ). Reads mid.units new.units b (Ok (Done n))) (rest_of y used)
+          reads) far.reached);
+    }

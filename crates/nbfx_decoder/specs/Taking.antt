@@ -1,5 +1,5 @@
 -- What the steps of a decoder answer. Public contracts cite none of this.
-use Rattle.std.specs.Prelude.{◌≡◌, ℕ, ◌+◌, ◌<◌, ◌≤◌, List, ◌++◌, length, take, Some, None, Ok, Err}
+use Rattle.std.specs.Prelude.{◌≡◌, ℕ, ◌+◌, ◌<◌, ◌≤◌, List, [], ◌++◌, length, take, Some, None, Ok, Err}
 use Rattle.std.specs.Prelude.{Result}
 use Rattle.unit_streams.specs.{Going.IsQuiet, Judging.refusal_at}
 use Rattle.nbfx_decoder.specs.declared.{decoder.Decoder.Decoder, faults.UnitFault.UnitFault}
@@ -31,6 +31,21 @@ TakeAnswers x strings p c new (Err (Refused reason shown_by)) =
     × HasStrings new.units x (situation_of x strings (p ++ take k c)).strings (from_of x strings p)
 TakeAnswers x strings p c new (Err Memory) =
     HasStrings new.units x (situation_of x strings p).strings (from_of x strings p)
+
+-- so many bytes of y are taken behind p
+pub record HasTaken (d : Decoder) (x : Settings) (strings : List (List ℕ)) (p y : List ℕ)
+    (used : ℕ) : Type 0 where
+  pub quiet : IsQuiet (payload x strings) p y used
+  pub reached : Reached d x strings (p ++ take used y)
+
+-- so many bytes of y are taken, which are whole records, and no other has begun
+pub record TakesRecords (old new : Decoder) (y : List ℕ) (used : ℕ) : Type 0 where
+  pub within : used ≤ length y
+  pub taken : new.units.from ≤ old.units.from + used
+  pub none : new.begun ≡ []
+  pub keeps : KeepsRest old new
+  pub far : (x : Settings) (strings : List (List ℕ)) (p : List ℕ) → Reached old x strings p
+      → HasTaken new x strings p y used
 
 -- all bytes of c behind p
 abbrev pub AllAnswers : Settings → List (List ℕ) → List ℕ → List ℕ → Decoder

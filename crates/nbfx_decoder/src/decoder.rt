@@ -35,7 +35,7 @@ impl<'s> Decoder<'s> {
     ghost use Rattle.nbfx_decoder.specs.Payload.{Settings};
     ghost use Rattle.nbfx_decoder.specs.DecoderState.{settings_of, failure_of, taken_of, held_of, content_held_of, situation_of, from_of, begun_of, table_at, Reached, StandsFor, FailedBehind, FailedWithin, WhereItStands, WhereItFailed, IsPlacedAt, FeedAnswers, FinishAnswers};
     ghost use Rattle.nbfx_decoder.specs.Values.{values_of};
-    ghost use Rattle.nbfx_decoder.specs.Taking.{AllAnswers, KeepsRest, TakeAnswers, TakesSome};
+    ghost use Rattle.nbfx_decoder.specs.Taking.{AllAnswers, KeepsRest, TakeAnswers, TakesRecords, TakesSome};
     ghost use Rattle.nbfx_decoder.specs.Units.{KeepsTable, KeepsSettings};
 
     /// A reader before the first payload, without session strings.
@@ -208,7 +208,24 @@ impl<'s> Decoder<'s> {
         Ok(())
     }
 
-    // Takes some of the bytes: at most one unit, or what is wanted of one.
+    // Takes the whole records at the front, as far as each is read by its fast path.
+    fn take_quickly(&mut self, bytes: &[u8]) -> usize
+        requires none { self.old.begun ≡ [] }
+        requires few { self.old.units.from + length bytes.now < 2 ^ 32 }
+        ensures { TakesRecords self.old self.new bytes.now result }
+    {
+        let mut used = 0;
+        while used < bytes.len() {
+            match self.units.read_quickly(&bytes[used..]) {
+                Some(more) => used += more,
+                None => return used,
+            }
+        }
+        used
+    }
+
+    // Takes some of the bytes: records that are read by fast paths, or else at most one unit, or what
+    // is wanted of one.
     fn take(&mut self, bytes: &[u8]) -> Result<usize, UnitFault>
         requires some { 0 < length bytes.now }
         requires few { self.old.units.from + length self.old.begun + length bytes.now < 2 ^ 32 }
@@ -221,9 +238,9 @@ impl<'s> Decoder<'s> {
         if self.begun.len() != 0 {
             return self.take_on(bytes);
         }
-        match self.units.read_quickly(bytes) {
-            Some(used) => Ok(used),
-            None => self.take_whole(bytes),
+        match self.take_quickly(bytes) {
+            0 => self.take_whole(bytes),
+            used => Ok(used),
         }
     }
 

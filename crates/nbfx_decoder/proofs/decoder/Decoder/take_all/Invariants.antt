@@ -1,6 +1,6 @@
 use Rattle.std.proofs.Common.{◌≡◌, ℕ, ◌+◌, ◌-◌, ◌≤◌, List, length}
-use Rattle.nbfx_decoder.specs.{DecoderState.Reached, Payload.Settings, Units.KeepsSettings}
-use Rattle.nbfx_decoder.proofs.AllSteps.{HasTaken}
+use Rattle.nbfx_decoder.specs.{DecoderState.Reached, Payload.Settings, Taking.HasTaken}
+use Rattle.nbfx_decoder.specs.{Units.KeepsSettings}
 use Rattle.nbfx_decoder.proofs.decoder.Decoder.take_all.Given as goal
 
 abbrev pub invariant-loop-used : goal.invariant-loop-used
