@@ -1,421 +1,268 @@
--- A stream whose units lead to where the input may end begins with a session: unit by unit, from
+-- A stream whose units lead to where the input may end is what a script leaves: unit by unit, from
 -- the last to the first.
-use Rattle.std.proofs.Common.{◌≡◌, ℕ, ◌+◌, ◌-◌, ◌<◌, ◌≤◌, Bool, true, false, List, [], ◌∷◌, ◌++◌}
-use Rattle.std.proofs.Common.{length, take, if◌then◌else◌, ◌==◌, Some, None, sym, refl, ap, ◌∙◌}
-use Rattle.std.proofs.Common.{subst, inl, inr, append_assoc, append-nil, arith, length-append}
-use Rattle.{std.proofs.Common.eqb-true, string_tables.specs.SessionStrings.used_cost}
-use Rattle.std.proofs.lemmas.{Bool.cases_lt, Bool.eqb-false, List.nil_from_length}
-use Rattle.unit_streams.specs.{Front.whole, Grammar.standing, Judging.ending_at, Judging.refusal_at}
-use Rattle.nbfx_values.specs.{declared.session.Mode.Mode, Limits.IsGood}
-use Rattle.nbfx_values.specs.declared.session.Mode.TheVariants.{Duplex, Simplex, Singleton}
-use Rattle.nbfx_values.specs.Session.{content_type, kind_number, mode_number}
+use Rattle.std.proofs.Common.{ne_eqb}
+use Rattle.std.proofs.Common.{◌≡◌, ℕ, zero, suc, ◌+◌, ◌≤◌, Bool, false, List, [], ◌∷◌}
+use Rattle.std.proofs.Common.{◌++◌, length, take, if◌then◌else◌, ◌==◌, Some, None, Option, sym, refl}
+use Rattle.std.proofs.Common.{option_map, ap, ◌∙◌, subst, append_assoc, append-nil, arith}
+use Rattle.std.proofs.lemmas.{List.nil_from_length}
+use Rattle.unit_streams.specs.{Front.whole, Grammar.standing, Judging.ending_at}
+use Rattle.string_tables.specs.SessionStrings.{used_cost}
+use Rattle.nbfx_values.specs.{declared.session.Mode.Mode, Limits.IsGood, Session.mode_number}
 use Rattle.nmf_records.specs.{declared.frame.Frame.Frame, Records.IsRecordOf}
 use Rattle.nmf_records.specs.RecordFronts.{MayCome, text_limit}
 use Rattle.nmf_records.specs.declared.script.{Direction.Direction, Due.Due}
 use Rattle.nmf_records.specs.declared.script.Direction.TheVariants.{FromInitiator, FromReceiver}
-use Rattle.nmf_records.specs.Script.{behind_preamble, may_come}
-use Rattle.stream_reader.specs.Sessions.{AreChunks, Carried, CarriesAll, IsBare, IsEnvelopeIn}
-use Rattle.stream_reader.specs.Sessions.{IsFault, IsUnsized, joined}
+use Rattle.nmf_records.specs.Script.{leads, may_come, NamesMode}
+use Rattle.stream_reader.specs.Scripts.{Context, IsFollowedBy, refused_there}
 use Rattle.stream_reader.specs.Stream.{after, after_bare, after_record, behind_payload, chunk_due}
-use Rattle.stream_reader.specs.Stream.{chunked, direction_of, kind_of, kind_of_type, last_chunk}
-use Rattle.stream_reader.specs.Stream.{mode_of, text_limits}
-use Rattle.stream_reader.specs.Stream.{offence_in, on_payload, OpenPayload, payload_begun}
+use Rattle.stream_reader.specs.Stream.{chunked, direction_of, last_chunk, offence_at}
+use Rattle.stream_reader.specs.Stream.{offence_in, on_open, on_payload, OpenPayload, payload_begun}
 use Rattle.stream_reader.specs.Stream.{payload_by, payload_in, payload_open, reason_in, record_due}
-use Rattle.stream_reader.specs.Stream.{refusal_in, refused_payload, serves, Settings, Situation}
-use Rattle.stream_reader.specs.Stream.{sized, Stage, StreamUnit, unit_in, with_byte, with_chunk}
+use Rattle.stream_reader.specs.Stream.{refusal_in, refused, refused_payload, refused_record}
+use Rattle.stream_reader.specs.Stream.{Settings, Situation, sized, Stage, StreamUnit, text_limits}
+use Rattle.stream_reader.specs.Stream.{too_large, unit_in, with_byte, with_chunk}
 use Rattle.stream_reader.proofs.Coming.{unit_of_chunk, unit_of_payload, unit_of_record}
-use Rattle.stream_reader.proofs.DueRecords.{chunk_due as size_due, encoding_due, envelope_due}
-use Rattle.stream_reader.proofs.DueRecords.{mode_due, version_due, via_due}
-use Rattle.stream_reader.proofs.{Envelopes.fronts, RightRecords.right_via, Situations.begun_behind}
-use Rattle.stream_reader.proofs.Outcomes.{goes_on, is_refused, is_whole, outcome, wants_chunk}
-use Rattle.stream_reader.proofs.ProperStages.{ack_due, chunk_form, chunked_in, end_due, fault_side}
-use Rattle.stream_reader.proofs.ProperStages.{form_proper, FormIn, in_parts, InParts}
-use Rattle.stream_reader.proofs.ProperStages.{preamble_end_due, preamble_proper, ProperAt}
-use Rattle.stream_reader.proofs.ProperStages.{ProperDue, unsized_due}
-use Rattle.stream_reader.proofs.RightRecords.{right_encoding, right_mode, right_size, right_type}
-use Rattle.stream_reader.proofs.RightRecords.{right_version}
-use Rattle.stream_reader.proofs.ToSession.{Chunked, Closes, Closing, ends, faults, IsFrom}
-use Rattle.stream_reader.proofs.ToSession.{IsFromDue, may_carry, none_mapped, OpenRest, Rest}
-use Rattle.stream_reader.proofs.ToSession.{rest_behind, whole_payload}
+use Rattle.stream_reader.proofs.DueRecords.{chunk_due as size_due, envelope_due}
+use Rattle.stream_reader.proofs.{FromScript.context_of, LoneAck.IsBehindMode}
+use Rattle.stream_reader.proofs.Left.{as_due, byte_first, clean_joined, from_preamble, IsCleanFrom}
+use Rattle.stream_reader.proofs.Left.{Left, left_behind, LeftAt, LeftDue, none_both, none_mapped}
+use Rattle.stream_reader.proofs.Left.{OpenLeft, rest_behind, whole_payload}
+use Rattle.stream_reader.proofs.RightRecords.{right_mode, right_size}
+use Rattle.stream_reader.proofs.Situations.{begun_behind, byte_behind, chunk_behind}
+use Rattle.stream_reader.proofs.Situations.{IsOpenAt}
 use Rattle.nmf_records.specs.declared.frame.Frame.TheVariants as frames
 use Rattle.nmf_records.specs.declared.script.Due.TheVariants as dues
 
--- each stage that comes is one of these
-module _ (x : Settings) where
-  abbrev pub IsProper : Situation → Type 0
-  IsProper z = ProperAt (direction_of x.side) z.mode z.stage
+-- behind the Mode record the preamble's end, and an Ack, come
+end_behind : (direction : Direction) (due : Due)
+    → MayCome (may_come direction due) frames.PreambleEnd → IsBehindMode (record_due due)
+end_behind direction dues.PreambleEnd may = tt
+end_behind FromInitiator _ may = cc
+end_behind FromReceiver _ may = cc
 
-  behind_proper : (z : Situation) (p : OpenPayload) → FormIn p.form z.mode
-      → IsProper (behind_payload x z p)
-  behind_proper z p h =
-      elim (outcome x z p) [
-        | goes_on more b c ↦ rw b h
-        | wants_chunk none is b c ↦ rw b (chunked_in p.form z.mode h is)
-        | is_whole all none b c ↦ rw b (form_proper (direction_of x.side) z.mode p.form h all.last)
-        | is_refused all r is b c ↦
-            rw b (form_proper (direction_of x.side) z.mode p.form h all.last)
-      ]
+ack_behind : (direction : Direction) (due : Due)
+    → MayCome (may_come direction due) frames.PreambleAck → IsBehindMode (record_due due)
+ack_behind direction dues.Ack may = tt
+ack_behind FromInitiator _ may = cc
+ack_behind FromReceiver _ may = cc
 
-  record_proper : (z : Situation) (from : ℕ) (due : Due) (read : Frame) (text : List ℕ)
-      → ProperDue (direction_of x.side) z.mode due
-      → MayCome (may_come (direction_of x.side) due) read
-      → IsProper (after_record x z from read text)
-  record_proper z from due (frames.Version major minor) text h may =
-      subst (ProperDue (direction_of x.side) z.mode)
-      (version_due (direction_of x.side) due major minor may) h
-  record_proper z from due (frames.Mode byte) text h may =
-      subst (ProperDue (direction_of x.side) z.mode) (mode_due (direction_of x.side) due byte may) h
-  record_proper z from due frames.Via text h may =
-      subst (ProperDue (direction_of x.side) z.mode) (via_due (direction_of x.side) due may) h
-  record_proper z from due (frames.KnownEncoding encoding) text h may =
-      subst (ProperDue (direction_of x.side) z.mode)
-      (encoding_due (direction_of x.side) due (frames.KnownEncoding encoding) tt may) h
-  record_proper z from due frames.ExtensibleEncoding text h may =
-      subst (ProperDue (direction_of x.side) z.mode)
-      (encoding_due (direction_of x.side) due frames.ExtensibleEncoding tt may) h
-  record_proper z from due frames.PreambleEnd text h may =
-      preamble_proper (direction_of x.side) z.mode
-  record_proper z from due frames.PreambleAck text h may =
-      preamble_proper (direction_of x.side) z.mode
-  record_proper z from due (frames.SizedEnvelope size) text h may =
-      behind_proper z (payload_begun x z from size sized)
-      (subst (ProperDue (direction_of x.side) z.mode)
-      (envelope_due (direction_of x.side) due size may) h)
-  record_proper z from due frames.UnsizedEnvelope text h may =
-      behind_proper z (payload_begun x z from 0 chunked)
-      (elim (unsized_due (direction_of x.side) due may) [
-        | inl is ↦ (subst (ProperDue (direction_of x.side) z.mode) is h).1
-        | inr is ↦ (subst (ProperDue (direction_of x.side) z.mode) is h).1
-      ])
-  record_proper z from due (frames.Chunk size) text h may =
-      absurd (subst (ProperDue (direction_of x.side) z.mode)
-      (size_due (direction_of x.side) due size may) h)
-  record_proper z from due frames.End text h may = tt
-  record_proper z from due frames.Fault text h may = tt
+-- where the stream is behind its Mode record its mode is this one
+abbrev pub HasMode : Mode → Situation → Type 0
+HasMode mode z = IsBehindMode z.stage → z.mode ≡ mode
 
-  -- where a chunk's size is due it resumes the payload
-  pub resumes : (z : Situation) (from size : ℕ) (o : OpenPayload) → z.stage ≡ chunk_due o
-      → payload_by x z from (frames.Chunk size) ≡ Some (with_chunk o size)
-  resumes z from size o at =
-      ap (λ (s : Stage). payload_by x (record z { stage = s }) from (frames.Chunk size)) at
+module _ (x : Settings) (good : IsGood x.limits) (Stop : Type 0) (mode : Mode) (z : Situation)
+    (cheap : used_cost z.strings ≤ x.limits.dictionary) where
+  abbrev here : List ℕ → Context
+  here q = context_of z.kind z.strings q
 
-  chunk_proper : (z : Situation) (from : ℕ) (o : OpenPayload) (read : Frame) (text : List ℕ)
-      → z.stage ≡ chunk_due o → z.mode ≡ Singleton
-      → MayCome (may_come (direction_of x.side) dues.Chunk) read
-      → IsProper (after_record x z from read text)
-  chunk_proper z from o (frames.Chunk size) text at h may =
-      rw (resumes z from size o at)
-      (behind_proper z (with_chunk o size) (chunk_form z.mode (size == 0) h))
-  chunk_proper z from o read text at h may = cc
+  module _ (from : ℕ) (due : Due) (at : z.stage ≡ record_due due) (has_mode : HasMode mode z)
+      (t c : List ℕ) where
+    abbrev d : Direction
+    d = direction_of x.side
 
-  pub unit_proper : (stage : Stage) (z : Situation) (from : ℕ) (b : List ℕ) (u : StreamUnit) (n : ℕ)
-      → z.stage ≡ stage → ProperAt (direction_of x.side) z.mode stage
-      → unit_in x stage from b ≡ whole u n → IsProper (after x z from u)
-  unfolding after
-  unit_proper (record_due due) z from b u n at h e =
-      let c = unit_of_record x from b u n due e in
-      rw c.1 (record_proper z from due c.0.frame c.0.text h c.2.may)
-  unit_proper (chunk_due o) z from b u n at h e =
-      let c = unit_of_chunk x from b u n o e in
-      rw c.1 (chunk_proper z from o c.0.frame c.0.text at h c.2.may)
-  unit_proper (payload_open o) z from b u n at h e =
-      let c = unit_of_payload x from b u n o e in
-      rw (c.3, at) (behind_proper z (with_byte x z o c.0) h)
-
-module _ (x : Settings) (good : IsGood x.limits) (Stop : Type 0) where
-  -- behind the preamble
-  as_rest : (direction : Direction) (mode : Mode) (z : Situation) (c : List ℕ)
-      → IsFromDue x Stop z (behind_preamble direction mode) c
-      → Rest x Stop z.mode z.kind z.strings (behind_preamble direction mode) c
-  as_rest FromInitiator Singleton z c h = h
-  as_rest FromInitiator Duplex z c h = h
-  as_rest FromInitiator Simplex z c h = h
-  as_rest FromReceiver Singleton z c h = h
-  as_rest FromReceiver Duplex z c h = h
-  as_rest FromReceiver Simplex z c h = h
-
-  -- nothing more is carried
-  closed_at : (z : Situation) (due : Due) (closing : Closing) (t c : List ℕ) → may_carry due []
-      → Closes x Stop z.mode closing t → c ≡ []
-      → Rest x Stop z.mode z.kind z.strings due (t ++ c)
-  closed_at z due closing t c may closes none = record {
-    carried = [];
-    may = may;
-    envelopes = [];
-    last = t;
-    closing = closing;
-    all = refl;
-    closes = closes;
-    bytes_are = ap (λ r. t ++ r) none ∙ append-nil t;
-  }
-
-  module _ (z : Situation) (from : ℕ) (cheap : used_cost z.strings ≤ x.limits.dictionary)
-      (due : Due) (proper : ProperDue (direction_of x.side) z.mode due) (t c : List ℕ) where
-    abbrev FromDue : Due → Type 0
-    FromDue d = IsFromDue x Stop z d (t ++ c)
+    -- a record that nothing stands behind
+    bare : (read : Frame) (text : List ℕ) (then_context : Context)
+        → MayCome (may_come (direction_of x.side) due) read → IsRecordOf read text t
+        → length text ≤ text_limit (text_limits x) read
+        → refused_there x (context_of z.kind z.strings []) read text ≡ None → NamesMode mode read
+        → IsFollowedBy x (context_of z.kind z.strings []) read text [] then_context
+        → Left x Stop mode (leads (direction_of x.side) mode due read) then_context c
+        → LeftDue x Stop mode due (context_of z.kind z.strings []) (t ++ c)
+    bare read text then_context may is low none names followed w =
+        as_due x Stop mode due (here []) (t ++ c)
+        (subst (λ b. Left x Stop mode due (here []) (b ++ c)) (append-nil t)
+        (left_behind x Stop mode due (here []) then_context read text t [] c may names is low none
+        followed w))
 
     -- an envelope of one part
-    sized_first : (size : ℕ) → IsBare (frames.SizedEnvelope size) t → size ≤ x.limits.payload
-        → InParts z.mode
-        → OpenRest x Stop (payload_in x z) z.mode z.kind sized size [] c
-        → Rest x Stop z.mode z.kind z.strings dues.Messages (t ++ c)
-    sized_first size is low parts r =
-        let d = whole_payload x good z r.part cheap (let n = r.size in omega (arith, n, low))
-        r.clean
-        r.next.0 in
-        let next : Rest x Stop z.mode z.kind (z.strings ++ d.own) dues.Messages r.more =
-        subst (λ (s : List (List ℕ)). Rest x Stop z.mode z.kind s dues.Messages r.more)
-        d.strings_are
-        r.next.1 in
-        let is' : IsBare (frames.SizedEnvelope (length r.part)) t =
-        subst (λ (n : ℕ). IsBare (frames.SizedEnvelope n) t) (sym r.size) is in
-        record {
-          carried = record { payload = r.part; items = d.items; own = d.own } ∷ next.carried;
-          may = tt;
-          envelopes = (t ++ r.part) ++ next.envelopes;
-          last = next.last;
-          closing = next.closing;
-          all = (
-            t ++ r.part,
-            next.envelopes,
-            in_parts z.mode r.part (t ++ r.part) parts (t, is', refl),
-            d.is_whole,
-            refl,
-            next.all,
-          );
-          closes = next.closes;
-          bytes_are =
-              ap (λ b. t ++ b) r.bytes_are ∙ sym (append_assoc t r.part r.more)
-              ∙ ap (λ b. (t ++ r.part) ++ b) next.bytes_are
-              ∙ sym (append_assoc (t ++ r.part) next.envelopes next.last);
-        }
-
-    -- an envelope of chunks
-    unsized_first : (carries : (one : Carried) → may_carry due (one ∷ [])) → z.mode ≡ Singleton
-        → IsBare frames.UnsizedEnvelope t
-        → OpenRest x Stop (payload_in x z) z.mode z.kind chunked 0 [] c
-        → Rest x Stop z.mode z.kind z.strings due (t ++ c)
-    unsized_first carries single is r =
-        let none : r.part ≡ [] = nil_from_length r.part r.size in
-        let k : Chunked x Stop (payload_in x z) z.mode [] r.more =
-        subst (λ (q : List ℕ). Chunked x Stop (payload_in x z) z.mode q r.more) none r.next in
-        let d = whole_payload x good z (joined k.chunks) cheap k.low k.clean k.fine in
-        let one : Carried = record { payload = joined k.chunks; items = d.items; own = d.own } in
-        let envelope : IsUnsized (joined k.chunks) (t ++ k.parts) =
-        (t, k.chunks, k.parts, is, k.are, refl, refl) in
-        record {
-          carried = one ∷ [];
-          may = carries one;
-          envelopes = t ++ k.parts;
-          last = k.last;
-          closing = k.closing;
-          all = (
-            t ++ k.parts,
-            [],
-            subst (λ (m : Mode). IsEnvelopeIn m (joined k.chunks) (t ++ k.parts)) (sym single)
-                envelope,
-            d.is_whole,
-            sym (append-nil (t ++ k.parts)),
-            refl,
-          );
-          closes = k.closes;
-          bytes_are =
-              ap (λ b. t ++ b) (r.bytes_are ∙ ap (λ p. p ++ r.more) none ∙ k.bytes_are)
-              ∙ sym (append_assoc t k.parts k.last);
-        }
-
-    fault_first : (d : Due) (text : List ℕ) → ProperDue (direction_of x.side) z.mode d
-        → MayCome (may_come (direction_of x.side) d) frames.Fault
-        → direction_of x.side ≡ FromReceiver → IsFault x text t → c ≡ [] → FromDue d
-    fault_first dues.Ack text h may side is none =
-        inr (text, side, subst (IsFault x text) (sym (ap (λ r. t ++ r) none ∙ append-nil t)) is)
-    fault_first dues.Messages text h may side is none =
-        closed_at z dues.Messages (faults text) t c tt (side, is) none
-    fault_first dues.Reply text h may side is none =
-        closed_at z dues.Reply (faults text) t c (omega arith) (side, is) none
-    fault_first dues.End text h may side is none =
-        closed_at z dues.End (faults text) t c refl (side, is) none
-    fault_first dues.Version text h may side is none = let bad = sym h ∙ side in cc
-    fault_first dues.Mode text h may side is none = let bad = sym h ∙ side in cc
-    fault_first dues.Via text h may side is none = let bad = sym h ∙ side in cc
-    fault_first dues.Encoding text h may side is none = let bad = sym h ∙ side in cc
-    fault_first dues.PreambleEnd text h may side is none = let bad = sym h ∙ side in cc
-    fault_first dues.Envelope text h may side is none = let bad = sym h.0 ∙ side in cc
-    fault_first dues.Chunk text h may side is none = absurd h
-    fault_first dues.Over text h may side is none = cc
+    sized_first : (size : ℕ) (text : List ℕ)
+        → MayCome (may_come (direction_of x.side) due) (frames.SizedEnvelope size)
+        → IsRecordOf (frames.SizedEnvelope size) text t
+        → length text ≤ text_limit (text_limits x) (frames.SizedEnvelope size)
+        → reason_in x z.stage (frames.SizedEnvelope size) text ≡ None
+        → OpenLeft x Stop mode z.kind z.strings sized size [] c
+        → LeftDue x Stop mode due (context_of z.kind z.strings []) (t ++ c)
+    sized_first size text may is low none r =
+        let n = r.size in
+        let doc = whole_payload x good z.kind z.strings r.part cheap
+        (let le = right_size x size none in omega (arith, n, le)) r.clean r.next.0 in
+        let then_context : Context = context_of z.kind (z.strings ++ doc.own) [] in
+        let w : Left x Stop mode due then_context r.more =
+        subst (λ (s : List (List ℕ)). Left x Stop mode due (context_of z.kind s []) r.more)
+        doc.strings_are
+        (subst (λ (m : Due). Left x Stop mode m (context_of z.kind
+        (standing (payload_in x z) r.part).situation.strings []) r.more)
+        (sym (envelope_due d due size may)) r.next.1) in
+        as_due x Stop mode due (here []) (t ++ c)
+        (subst (λ b. Left x Stop mode due (here []) b)
+        (append_assoc t r.part r.more ∙ ap (λ b. t ++ b) (sym r.bytes_are))
+        (left_behind x Stop mode due (here []) then_context (frames.SizedEnvelope size) text t
+        r.part r.more may tt is low none (n, (doc.own, doc.items, doc.is_whole, refl)) w))
 
     pub record_first : (read : Frame) (text : List ℕ)
         → MayCome (may_come (direction_of x.side) due) read → IsRecordOf read text t
         → length text ≤ text_limit (text_limits x) read → reason_in x z.stage read text ≡ None
         → on_payload (payload_by x z from read) (refused_payload x z) None ≡ None
-        → IsFrom x Stop (after_record x z from read text) (after_record x z from read text).stage c
-        → IsFromDue x Stop z due (t ++ c)
-    record_first (frames.Version major minor) text may is low none fine h =
-        let w = right_version major minor _ refl none in
-        let b : IsBare (frames.Version 1 0) t = (
-          refl,
-          is.1 ∙ ap (λ n. 0 ∷ n ∷ minor ∷ []) w.0 ∙ ap (λ n. 0 ∷ 1 ∷ n ∷ []) w.1,
-        ) in
-        subst FromDue (sym (version_due (direction_of x.side) due major minor may))
-        (t, c, b, refl, h)
-    record_first (frames.Mode byte) text may is low none fine h =
-        let b : IsBare (frames.Mode (mode_number (mode_of byte))) t =
-        (refl, is.1 ∙ ap (λ n. 1 ∷ n ∷ []) (right_mode byte _ refl none)) in
-        subst FromDue (sym (mode_due (direction_of x.side) due byte may))
-        (mode_of byte, (t, c, b, refl, h))
-    record_first frames.Via text may is low none fine h =
-        subst FromDue (sym (via_due (direction_of x.side) due may))
-        (text, low, right_via (serves x.side text) none, (t, c, is, refl, h))
-    record_first (frames.KnownEncoding encoding) text may is low none fine h =
-        let b : IsBare (frames.KnownEncoding (kind_number (kind_of encoding))) t =
-        (refl, is.1 ∙ ap (λ n. 3 ∷ n ∷ []) (right_encoding encoding _ refl none)) in
-        subst FromDue
-        (sym (encoding_due (direction_of x.side) due (frames.KnownEncoding encoding) tt may))
-        (kind_of encoding, (t, c, inl b, refl, h))
-    record_first frames.ExtensibleEncoding text may is low none fine h =
-        let named : IsRecordOf frames.ExtensibleEncoding (content_type (kind_of_type text)) t =
-        subst (λ s. IsRecordOf frames.ExtensibleEncoding s t) (right_type text _ refl none) is in
-        subst FromDue
-        (sym (encoding_due (direction_of x.side) due frames.ExtensibleEncoding tt may))
-        (kind_of_type text, (t, c, inr named, refl, h))
-    record_first frames.PreambleEnd text may is low none fine h =
-        subst FromDue (sym (preamble_end_due (direction_of x.side) due may)) (
-          t,
-          c,
-          (refl, is.1),
-          refl,
-          as_rest (direction_of x.side) z.mode
-              (after_bare x z frames.PreambleEnd text) c h,
-        )
-    record_first frames.PreambleAck text may is low none fine h =
-        subst FromDue (sym (ack_due (direction_of x.side) due may))
-        (inl (
-          t,
-          c,
-          (refl, is.1),
-          refl,
-          as_rest (direction_of x.side) z.mode
-              (after_bare x z frames.PreambleAck text) c h,
-        ))
-    record_first (frames.SizedEnvelope size) text may is low none fine h =
-        let messages = envelope_due (direction_of x.side) due size may in
+        → HasMode mode (after_record x z from read text)
+        → LeftAt x Stop mode (after_record x z from read text)
+        (after_record x z from read text).stage c
+        → LeftDue x Stop mode due (context_of z.kind z.strings []) (t ++ c)
+    record_first (frames.SizedEnvelope size) text may is low none fine then_mode h =
         let o : OpenPayload = payload_begun x z from size sized in
-        subst FromDue (sym messages)
-        (sized_first size (refl, is.1, is.2, is.3) (right_size x size none)
-        (subst (ProperDue (direction_of x.side) z.mode) messages proper)
-        (rest_behind x Stop z o [] c (begun_behind x z from size sized)
-        (none_mapped (offence_in z.messages) (refusal_in x z o) fine) h))
-    record_first frames.UnsizedEnvelope text may is low none fine h =
+        sized_first size text may is low none
+        (rest_behind x Stop mode z o [] c (begun_behind x z from size sized)
+        (none_mapped (offence_in z.messages) (refusal_in x z o) fine) h)
+    record_first frames.UnsizedEnvelope text may is low none fine then_mode h =
         let o : OpenPayload = payload_begun x z from 0 chunked in
-        let r = rest_behind x Stop z o [] c (begun_behind x z from 0 chunked)
+        let r = rest_behind x Stop mode z o [] c (begun_behind x z from 0 chunked)
         (none_mapped (offence_in z.messages) (refusal_in x z o) fine) h in
-        elim (unsized_due (direction_of x.side) due may) [
-          | inl envelope ↦ subst FromDue (sym envelope) (as_envelope
-              (unsized_first (λ one. rw envelope refl)
-              (subst (ProperDue (direction_of x.side) z.mode) envelope proper).1 (refl, is.1) r)
-              envelope)
-          | inr reply ↦ subst FromDue (sym reply) (as_reply
-              (unsized_first (λ one. rw reply (omega arith))
-              (subst (ProperDue (direction_of x.side) z.mode) reply proper).1 (refl, is.1) r) reply)
-        ]
-      where
-        as_envelope : Rest x Stop z.mode z.kind z.strings due (t ++ c) → due ≡ dues.Envelope
-            → FromDue dues.Envelope
-        as_envelope r is = subst (λ (d : Due). Rest x Stop z.mode z.kind z.strings d (t ++ c)) is r
+        let nothing : r.part ≡ [] = nil_from_length r.part r.size in
+        let w : IsCleanFrom (payload_in x z) 0 [] → Left x Stop mode dues.Chunk (here []) r.more =
+        subst (λ (q : List ℕ). IsCleanFrom (payload_in x z) 0 q
+        → Left x Stop mode dues.Chunk (here q) r.more) nothing r.next in
+        bare frames.UnsizedEnvelope text (here []) may is low refl tt (refl, refl)
+        (subst (Left x Stop mode dues.Chunk (here []))
+        (sym (r.bytes_are ∙ ap (λ b. b ++ r.more) nothing))
+        (w (λ i some le. absurd (omega (arith, some, le)))))
+    record_first (frames.Chunk size) text may is low none fine then_mode h =
+        subst (λ (n : Due). LeftDue x Stop mode n (here []) (t ++ c)) (sym (size_due d due size may))
+        tt
+    record_first (frames.Mode byte) text may is low none fine then_mode h =
+        bare (frames.Mode byte) text (here []) may is low none
+        (right_mode byte _ refl none ∙ ap mode_number (then_mode tt)) (refl, refl) h
+    record_first frames.PreambleEnd text may is low none fine then_mode h =
+        bare frames.PreambleEnd text (here []) may is low refl tt (refl, refl)
+        (subst (λ (m : Mode). Left x Stop mode (leads d m due frames.PreambleEnd) (here []) c)
+        (has_mode (subst IsBehindMode (sym at) (end_behind d due may)))
+        (from_preamble x Stop mode d z.mode (here []) c h))
+    record_first frames.PreambleAck text may is low none fine then_mode h =
+        bare frames.PreambleAck text (here []) may is low refl tt (refl, refl)
+        (subst (λ (m : Mode). Left x Stop mode (leads d m due frames.PreambleAck) (here []) c)
+        (has_mode (subst IsBehindMode (sym at) (ack_behind d due may)))
+        (from_preamble x Stop mode d z.mode (here []) c h))
+    record_first read text may is low none fine then_mode h =
+        bare read text
+        (context_of (after_bare x z read text).kind (after_bare x z read text).strings []) may is low
+        none tt (refl, refl) h
 
-        as_reply : Rest x Stop z.mode z.kind z.strings due (t ++ c) → due ≡ dues.Reply
-            → FromDue dues.Reply
-        as_reply r is = subst (λ (d : Due). Rest x Stop z.mode z.kind z.strings d (t ++ c)) is r
-    record_first (frames.Chunk size) text may is low none fine h =
-        absurd (subst (ProperDue (direction_of x.side) z.mode)
-        (size_due (direction_of x.side) due size may) proper)
-    record_first frames.End text may is low none fine h =
-        elim (end_due (direction_of x.side) due may) [
-          | inl messages ↦ subst FromDue (sym messages)
-              (closed_at z dues.Messages ends t c tt (refl, is.1) h)
-          | inr (inl reply) ↦ subst FromDue (sym reply)
-              (closed_at z dues.Reply ends t c (omega arith) (refl, is.1) h)
-          | inr (inr end) ↦ subst FromDue (sym end)
-              (closed_at z dues.End ends t c refl (refl, is.1) h)
-        ]
-    record_first frames.Fault text may is low none fine h =
-        fault_first due text proper may (fault_side (direction_of x.side) due may) (is, low) h
+  -- the size of a chunk, behind these bytes of the payload
+  chunk_first : (size : ℕ) (text q t c : List ℕ) → IsRecordOf (frames.Chunk size) text t
+      → length text ≤ text_limit (text_limits x) (frames.Chunk size)
+      → length q + size ≤ x.limits.payload
+      → refused_there x (context_of z.kind z.strings q) (frames.Chunk size) text ≡ None
+      → OpenLeft x Stop mode z.kind z.strings (if size == 0 then last_chunk else chunked) size q c
+      → IsCleanFrom (payload_in x z) 0 q
+      → Left x Stop mode dues.Chunk (context_of z.kind z.strings q) (t ++ c)
+  chunk_first zero text q t c is text_low low none r clean =
+      let nothing : r.part ≡ [] = nil_from_length r.part r.size in
+      let same : q ++ r.part ≡ q = ap (λ b. q ++ b) nothing ∙ append-nil q in
+      let next : (ending_at (payload_in x z) q ≡ None) × Left x Stop mode dues.End
+      (context_of z.kind (standing (payload_in x z) q).situation.strings []) r.more =
+      subst (λ (b : List ℕ). (ending_at (payload_in x z) b ≡ None) × Left x Stop mode dues.End
+      (context_of z.kind (standing (payload_in x z) b).situation.strings []) r.more) same r.next in
+      let doc = whole_payload x good z.kind z.strings q cheap (omega (arith, low)) clean next.0 in
+      let then_context : Context = context_of z.kind (z.strings ++ doc.own) [] in
+      subst (Left x Stop mode dues.Chunk (here q))
+      (ap (λ b. b ++ r.more) (append-nil t)
+      ∙ ap (λ b. t ++ b) (sym (r.bytes_are ∙ ap (λ b. b ++ r.more) nothing)))
+      (left_behind x Stop mode dues.Chunk (here q) then_context (frames.Chunk 0) text t [] r.more
+      refl tt is text_low none (refl, (doc.own, doc.items, doc.is_whole, refl))
+      (subst (λ (s : List (List ℕ)). Left x Stop mode dues.End (context_of z.kind s []) r.more)
+      doc.strings_are next.1))
+  chunk_first (suc size) text q t c is text_low low none r clean =
+      let some : (suc size == 0) ≡ false = ne_eqb (suc size) 0 (λ e. omega (arith, e)) in
+      let r' : OpenLeft x Stop mode z.kind z.strings chunked (suc size) q c =
+      subst (λ (b : Bool). OpenLeft x Stop mode z.kind z.strings
+      (if b then last_chunk else chunked) (suc size) q c) some r in
+      let w = r'.next (clean_joined (payload_in x z) 0 q r'.part clean r'.clean) in
+      subst (Left x Stop mode dues.Chunk (here q))
+      (append_assoc t r'.part r'.more ∙ ap (λ b. t ++ b) (sym r'.bytes_are))
+      (left_behind x Stop mode dues.Chunk (here q) (here (q ++ r'.part)) (frames.Chunk (suc size))
+      text t r'.part r'.more refl tt is text_low none (r'.size, refl)
+      (subst (λ (b : Bool). Left x Stop mode (if b then dues.End else dues.Chunk)
+      (here (q ++ r'.part)) r'.more) (sym some) w))
 
-    -- the size of a chunk
-    pub chunk_first : (size : ℕ) (o : OpenPayload) (q : List ℕ) → IsBare (frames.Chunk size) t
-        → o.size + size ≤ x.limits.payload → length q ≡ o.size → (b : Bool) → (size == 0) ≡ b
-        → OpenRest x Stop (payload_in x z) z.mode z.kind (if b then last_chunk else chunked) size q
-        c
-        → Chunked x Stop (payload_in x z) z.mode q (t ++ c)
-    unfolding AreChunks joined
-    chunk_first size o q is low all true e r =
-        let zero_is : size ≡ 0 = eqb-true size 0 e in
-        let none : r.part ≡ [] = nil_from_length r.part (r.size ∙ zero_is) in
-        let same : q ++ r.part ≡ q ++ [] = ap (λ b. q ++ b) none in
-        let no_more : r.next.1.envelopes ≡ [] =
-        subst (λ (carried : List Carried).
-        CarriesAll x z.mode z.kind (standing (payload_in x z) (q ++ r.part)).situation.strings
-        carried
-        r.next.1.envelopes) r.next.1.may r.next.1.all in
-        record {
-          chunks = [];
-          parts = t;
-          last = r.next.1.last;
-          closing = r.next.1.closing;
-          are = subst (λ (n : ℕ). IsBare (frames.Chunk n) t) zero_is is;
-          low = (let n = length-append q [] in omega (arith, n, low, all));
-          clean = λ i more le. absurd (let n = length-append q [] in omega (arith, n, more, le));
-          fine = ap (ending_at (payload_in x z)) (sym same) ∙ r.next.0;
-          closes = r.next.1.closes;
-          bytes_are = ap (λ b. t ++ b)
-              (r.bytes_are ∙ ap (λ p. p ++ r.more) none ∙ r.next.1.bytes_are
-              ∙ ap (λ p. p ++ r.next.1.last) no_more);
-        }
-    chunk_first size o q is low all false e r =
-        let some : 0 < size = let ne = eqb-false size 0 e in omega (arith, ne) in
-        let k = r.next in
-        let joins : (q ++ r.part) ++ joined k.chunks ≡ q ++ (r.part ++ joined k.chunks) =
-        append_assoc q r.part (joined k.chunks) in
-        let longer = length-append q r.part in
-        record {
-          chunks = r.part ∷ k.chunks;
-          parts = (t ++ r.part) ++ k.parts;
-          last = k.last;
-          closing = k.closing;
-          are = (
-            t,
-            k.parts,
-            (let n = r.size in omega (arith, n, some)),
-            subst (λ (n : ℕ). IsBare (frames.Chunk n) t) (sym r.size) is,
-            refl,
-            k.are,
-          );
-          low = subst (λ (b : List ℕ). length b ≤ x.limits.payload) joins k.low;
-          clean = clean;
-          fine = ap (ending_at (payload_in x z)) (sym joins) ∙ k.fine;
-          closes = k.closes;
-          bytes_are =
-              ap (λ b. t ++ b) r.bytes_are ∙ sym (append_assoc t r.part r.more)
-              ∙ ap (λ b. (t ++ r.part) ++ b) k.bytes_are
-              ∙ sym (append_assoc (t ++ r.part) k.parts k.last);
-        }
-      where
-        clean : (i : ℕ) → length q < i → i ≤ length (q ++ (r.part ++ joined r.next.chunks))
-            → refusal_at (payload_in x z) (take i (q ++ (r.part ++ joined r.next.chunks))) ≡ None
-        clean i more le =
-            elim (cases_lt (length (q ++ r.part)) i) [
-              | inl behind ↦
-                  let joins = append_assoc q r.part (joined r.next.chunks) in
-                  ap (λ b. refusal_at (payload_in x z) (take i b)) (sym joins)
-                  ∙ r.next.clean i behind (let n = ap length joins in omega (arith, n, le))
-              | inr within ↦
-                  let longer = length-append q r.part in
-                  let place : i ≡ length q + (i - length q) = omega (arith, more) in
-                  let few : i - length q ≤ length r.part = omega (arith, within, longer, more) in
-                  ap (λ n. refusal_at (payload_in x z)
-                  (take n (q ++ (r.part ++ joined r.next.chunks))))
-                  place
-                  ∙ ap (refusal_at (payload_in x z))
-                  (sym (fronts q r.part (joined r.next.chunks) (i - length q) few))
-                  ∙ r.clean (i - length q) (omega (arith, more)) few
-            ]
+module _ (x : Settings) (good : IsGood x.limits) (Stop : Type 0) (mode : Mode) where
+  -- of a record that isn't refused
+  both : (z : Situation) (from : ℕ) (read : Frame) (text : List ℕ)
+      → refused_record x z from read text ≡ None
+      → (reason_in x z.stage read text ≡ None)
+      × (on_payload (payload_by x z from read) (refused_payload x z) None ≡ None)
+  both z from read text e =
+      let b = none_both (option_map (offence_at from) (reason_in x z.stage read text))
+      (on_payload (payload_by x z from read) (refused_payload x z) None) e in
+      (none_mapped (offence_at from) (reason_in x z.stage read text) b.0, b.1)
+
+  -- a chunk's size, with the payload that it resumes
+  size_first : (z : Situation) (from : ℕ) (o : OpenPayload) (t c : List ℕ) (read : Frame)
+      (text : List ℕ) → z.stage ≡ chunk_due o → used_cost z.strings ≤ x.limits.dictionary
+      → IsOpenAt x z (chunk_due o)
+      → MayCome (may_come (direction_of x.side) dues.Chunk) read → IsRecordOf read text t
+      → length text ≤ text_limit (text_limits x) read
+      → refused_record x z from read text ≡ None
+      → LeftAt x Stop mode (after_record x z from read text)
+      (after_record x z from read text).stage c
+      → LeftAt x Stop mode z (chunk_due o) (t ++ c)
+  size_first z from o t c (frames.Chunk size) text at cheap open_at may is low ok h q behind =
+      let w = both z from (frames.Chunk size) text ok in
+      let p : OpenPayload = with_chunk o size in
+      let made : payload_by x z from (frames.Chunk size) ≡ Some p =
+      ap (λ (s : Stage). payload_by x (record z { stage = s }) from (frames.Chunk size)) at in
+      let none : refusal_in x z p ≡ None =
+      none_mapped (offence_in z.messages) (refusal_in x z p)
+      (ap (λ (v : Option OpenPayload). on_payload v (refused_payload x z) None) (sym made) ∙ w.1) in
+      let h' : LeftAt x Stop mode (behind_payload x z p) (behind_payload x z p).stage c =
+      subst (λ (v : Option OpenPayload).
+      LeftAt x Stop mode
+      (on_payload v (behind_payload x z) (after_bare x z (frames.Chunk size) text))
+      (on_payload v (behind_payload x z) (after_bare x z (frames.Chunk size) text)).stage c) made h
+      in
+      let left = open_at.none_left in
+      let size_is : o.size ≡ length q = let n = behind.counted in omega (arith, n, left) in
+      let fits = ap (λ (s : Stage). reason_in x s (frames.Chunk size) text) (sym at) ∙ w.0 in
+      let most = right_size x (o.size + size) fits in
+      chunk_first x good Stop mode z cheap size text q t c is low (omega (arith, most, size_is))
+      (ap (λ n. too_large x (n + size)) (sym size_is) ∙ fits)
+      (rest_behind x Stop mode z p q c (chunk_behind x z o q size left behind) none h')
+  size_first z from o t c read text at cheap open_at may is low ok h q behind = cc
+
+  pub unit_first : (stage : Stage) (z : Situation) (from : ℕ) (bytes : List ℕ) (u : StreamUnit)
+      (n : ℕ) (c : List ℕ) → z.stage ≡ stage → used_cost z.strings ≤ x.limits.dictionary
+      → IsOpenAt x z stage → HasMode mode z → unit_in x stage from bytes ≡ whole u n
+      → refused x z from u ≡ None → HasMode mode (after x z from u)
+      → LeftAt x Stop mode (after x z from u) (after x z from u).stage c
+      → LeftAt x Stop mode z stage (take n bytes ++ c)
+  unfolding after refused
+  unit_first (record_due due) z from bytes u n c at cheap open_at has_mode e ok then_mode h =
+      let r = unit_of_record x from bytes u n due e in
+      let w = both z from r.0.frame r.0.text (ap (refused x z from) (sym r.1) ∙ ok) in
+      record_first x good Stop mode z cheap from due at has_mode (take n bytes) c r.0.frame r.0.text
+      r.2.may r.2.bytes_are r.2.low w.0 w.1
+      (subst (λ (v : StreamUnit). HasMode mode (after x z from v)) r.1 then_mode)
+      (subst (λ (v : StreamUnit). LeftAt x Stop mode (after x z from v) (after x z from v).stage c)
+      r.1 h)
+  unit_first (chunk_due o) z from bytes u n c at cheap open_at has_mode e ok then_mode h =
+      let r = unit_of_chunk x from bytes u n o e in
+      size_first z from o (take n bytes) c r.0.frame r.0.text at cheap open_at r.2.may
+      r.2.bytes_are r.2.low (ap (refused x z from) (sym r.1) ∙ ok)
+      (subst (λ (v : StreamUnit). LeftAt x Stop mode (after x z from v) (after x z from v).stage c)
+      r.1 h)
+  unit_first (payload_open o) z from bytes u n c at cheap open_at has_mode e ok then_mode h =
+      let r = unit_of_payload x from bytes u n o e in
+      let y : ℕ = r.0 in
+      let front : take n bytes ≡ y ∷ [] = ap (λ k. take k bytes) r.4 ∙ ap (take 1) r.2 in
+      let none : refused_payload x z (with_byte x z o y) ≡ None =
+      ap (λ (s : Stage). on_open s (λ p. refused_payload x z (with_byte x z p y)) None) (sym at)
+      ∙ ap (refused x z from) (sym r.3) ∙ ok in
+      let fine = none_mapped (offence_in z.messages) (refusal_in x z (with_byte x z o y)) none in
+      let h' : LeftAt x Stop mode (behind_payload x z (with_byte x z o y))
+      (behind_payload x z (with_byte x z o y)).stage c =
+      subst (λ (s : Stage).
+      LeftAt x Stop mode (on_open s (λ p. behind_payload x z (with_byte x z p y)) z)
+      (on_open s (λ p. behind_payload x z (with_byte x z p y)) z).stage c) at
+      (subst (λ (v : StreamUnit). LeftAt x Stop mode (after x z from v) (after x z from v).stage c)
+      r.3 h) in
+      subst (λ (b : List ℕ). LeftAt x Stop mode z (payload_open o) (b ++ c)) (sym front)
+      (λ q behind. byte_first x Stop mode z o y q c open_at.more behind fine
+      (rest_behind x Stop mode z (with_byte x z o y) (q ++ y ∷ []) c
+      (byte_behind x z o q y open_at.more behind) fine h'))

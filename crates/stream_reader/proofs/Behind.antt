@@ -17,10 +17,10 @@ use Rattle.stream_reader.specs.{declared.awaited.PayloadLeft.PayloadLeft, Sides.
 use Rattle.stream_reader.specs.declared.reader.{ReadRefusal.ReadRefusal, StreamStep.StreamStep}
 use Rattle.stream_reader.specs.declared.reader.ReadRefusal.TheVariants.{Offence as Refused}
 use Rattle.stream_reader.specs.declared.reader.StreamReader.{StreamReader}
-use Rattle.stream_reader.specs.Stepping.{awaited_after, bare_step, begun_by, begun_with}
+use Rattle.stream_reader.specs.Stepping.{awaited_after, bare_step, begun_by}
 use Rattle.stream_reader.specs.Stepping.{BehindAnswers, closing_after, DecodesAfter, due_of}
 use Rattle.stream_reader.specs.Stepping.{HasDecoded, IsDue, IsMoved, joined_with, MakesPayload}
-use Rattle.stream_reader.specs.Stepping.{mode_after, step_of, with_size}
+use Rattle.stream_reader.specs.Stepping.{mode_after, step_of}
 use Rattle.stream_reader.specs.Stream.{after_bare, after_record, behind_payload, chunk_due, chunked}
 use Rattle.stream_reader.specs.Stream.{completed_bare, completed_payload, completed_record}
 use Rattle.stream_reader.specs.Stream.{direction_of, due_in, Form, is_over_in, kind_of}
@@ -30,7 +30,7 @@ use Rattle.stream_reader.specs.Stream.{offence_at, on_payload, OpenPayload, payl
 use Rattle.stream_reader.specs.Stream.{payload_by, payload_open, payloads, reason_in, record_due}
 use Rattle.stream_reader.specs.Stream.{refused_payload, refused_record, Settings, Side, Situation}
 use Rattle.stream_reader.specs.Stream.{sized, Stage, strings_at, strings_in, with_chunk}
-use Rattle.stream_reader.specs.StreamReaderState.{Awaits, form_of, HasPart, IsIn, IsOpenSo}
+use Rattle.stream_reader.specs.StreamReaderState.{awaited_at, form_for, HasPart, IsIn, left_of}
 use Rattle.stream_reader.specs.StreamReaderState.{ReadsPayload, Recalls, ShowsTable}
 use Rattle.stream_reader.proofs.{Ending.bare_goes_on, Ending.begun_on, Situations.begun_behind}
 use Rattle.stream_reader.proofs.MadePayloads.{only_size, reads_at, size_fits, size_large}
@@ -59,7 +59,7 @@ module _ (r : StreamReader) (x : Settings) (z : Situation) (f : Frame) (text : L
   d = direction_of x.side
 
   at_due : ReadsDue z.stage h.due
-  at_due = reads_at r.awaited z.stage h.due h.at.awaits h.due_is
+  at_due = reads_at z.stage h.due (ap due_of (sym h.at.awaits) ∙ h.due_is)
 
   shows_now : ShowsTable r.decoder (strings_in z)
   shows_now = shows_in r x z h.at
@@ -128,13 +128,13 @@ module _ (r : StreamReader) (x : Settings) (z : Situation) (f : Frame) (text : L
             (keeps_open (with_chunk o size) (ap (strings_at z) at)
             (let low = part.within in omega (arith, large, low)))
       ]
-  refused_in (frames.Version major minor) is why e =
+  refused_in frames.PreambleAck is why e = cc
+  refused_in frames.PreambleEnd is why e = cc
+  refused_in frames.UnsizedEnvelope is why e = cc
+  refused_in frames.End is why e = cc
+  refused_in frames.Fault is why e = cc
+  refused_in _ is why e =
       (refl, ap (strings_at z) (no_size (λ size same. let two = sym is ∙ same in cc)))
-  refused_in (frames.Mode mode) is why e =
-      (refl, ap (strings_at z) (no_size (λ size same. let two = sym is ∙ same in cc)))
-  refused_in frames.Via is why e =
-      (refl, ap (strings_at z) (no_size (λ size same. let two = sym is ∙ same in cc)))
-  refused_in g is why e = cc
 
   -- what comes of a record, by why it is refused and the payload that it makes
   abbrev By : Option Reason → Option OpenPayload → StreamReader → Result StreamStep ReadRefusal
@@ -178,7 +178,7 @@ module _ (r : StreamReader) (x : Settings) (z : Situation) (f : Frame) (text : L
   pub record IsMade (q : PayloadLeft) : Type 0 where
     pub payload : OpenPayload
     pub made : payload_by x z from f ≡ Some payload
-    pub open_so : IsOpenSo q payload
+    pub here_is : q ≡ left_of payload
     pub part : HasPart r.decoder x z payload
 
   part_begun : (size : ℕ) (form : Form) → z.stage ≡ record_due h.due → size ≤ x.limits.payload
@@ -192,29 +192,30 @@ module _ (r : StreamReader) (x : Settings) (z : Situation) (f : Frame) (text : L
         within = low;
       }
 
-  formed : (b : Bool) → form_of (if b then forms.LastChunk else forms.Chunked)
-      ≡ (if b then last_chunk else chunked)
+  formed : (b : Bool) → form_for (if b then last_chunk else chunked)
+      ≡ (if b then forms.LastChunk else forms.Chunked)
   formed true = refl
   formed false = refl
 
-  made_chunk : (p : PayloadLeft) (o : OpenPayload) (size : ℕ) (q : PayloadLeft) → IsOpenSo p o
-      → z.stage ≡ chunk_due o → f ≡ frames.Chunk size → joined_with p size q
+  made_chunk : (o : OpenPayload) (size : ℕ) (q : PayloadLeft) → z.stage ≡ chunk_due o
+      → f ≡ frames.Chunk size → joined_with (left_of o) size q
       → reason_in x (chunk_due o) (frames.Chunk size) text ≡ None → x.limits.payload < 2 ^ 32
       → IsMade q
-  made_chunk p o size q is at same joins good low =
+  made_chunk o size q at same joins good low =
       let fits = size_fits x (o.size + size) good in
       let reads = subst (ReadsPayload r.decoder x z) at h.at.payload in
       let part = reads.1 in
-      let q_is : q ≡ with_size p size = joins (let s = is.size in omega (arith, fits, low, s)) in
       record {
         payload = with_chunk o size;
         made = ap (payload_by x z from) same ∙ rw at refl;
-        open_so = rw q_is (record {
-          from = is.from;
-          size = ap (λ n. n + size) is.size;
-          left = refl;
-          form = formed (size == 0);
-        });
+        here_is =
+            joins (omega (arith, fits, low))
+            ∙ ap (λ form. record {
+              from = o.from;
+              size = o.size + size;
+              left = size;
+              form = form;
+            }) (sym (formed (size == 0)));
         part = record {
           bytes = part.bytes;
           stands_for = part.stands_for;
@@ -226,22 +227,18 @@ module _ (r : StreamReader) (x : Settings) (z : Situation) (f : Frame) (text : L
 
   made_head : (g : Frame) (q : PayloadLeft) → f ≡ g → z.stage ≡ record_due h.due
       → Some q ≡ begun_by from g → reason_in x z.stage g text ≡ None → IsMade q
-  made_head (frames.SizedEnvelope size) q is at makes good =
-      let q_is : q ≡ begun_with from size forms.Sized = cc in
-      record {
-        payload = payload_begun x z from size sized;
-        made = ap (payload_by x z from) is;
-        open_so = rw q_is (record { from = refl; size = refl; left = refl; form = refl });
-        part = part_begun size sized at (size_fits x size good);
-      }
-  made_head frames.UnsizedEnvelope q is at makes good =
-      let q_is : q ≡ begun_with from 0 forms.Chunked = cc in
-      record {
-        payload = payload_begun x z from 0 chunked;
-        made = ap (payload_by x z from) is;
-        open_so = rw q_is (record { from = refl; size = refl; left = refl; form = refl });
-        part = part_begun 0 chunked at (omega arith);
-      }
+  made_head (frames.SizedEnvelope size) q is at makes good = record {
+    payload = payload_begun x z from size sized;
+    made = ap (payload_by x z from) is;
+    here_is = cc;
+    part = part_begun size sized at (size_fits x size good);
+  }
+  made_head frames.UnsizedEnvelope q is at makes good = record {
+    payload = payload_begun x z from 0 chunked;
+    made = ap (payload_by x z from) is;
+    here_is = cc;
+    part = part_begun 0 chunked at (omega arith);
+  }
   made_head g q is at makes good = cc
 
   made_size : (p : PayloadLeft) (g : Frame) (q : PayloadLeft)
@@ -252,29 +249,27 @@ module _ (r : StreamReader) (x : Settings) (z : Situation) (f : Frame) (text : L
       (size, refl, subst (joined_with p size) same makes.2)
   made_size p g q makes = cc
 
-  made_by : (a : Awaited) (stage : Stage) (q : PayloadLeft) → Awaits a stage → z.stage ≡ stage
-      → MakesPayload a from f (Some q) → reason_in x stage f text ≡ None
+  made_by : (stage : Stage) (q : PayloadLeft) → z.stage ≡ stage
+      → MakesPayload (awaited_at stage) from f (Some q) → reason_in x stage f text ≡ None
       → x.limits.payload < 2 ^ 32 → IsMade q
-  made_by (awaits.Record due) (record_due other) q is at makes good low =
+  made_by (record_due other) q at makes good low =
       let here : record_due other ≡ record_due h.due = by_due at_due in
       made_head f q refl (at ∙ here) makes (ap (λ s. reason_in x s f text) at ∙ good)
     where
       by_due : ReadsDue z.stage h.due → record_due other ≡ record_due h.due
       by_due (reads_record e) = sym at ∙ e
       by_due (reads_size o e same) = let two = sym at ∙ e in cc
-  made_by (awaits.Chunk p) (chunk_due o) q is at makes good low =
-      let m = made_size p f q makes in
-      made_chunk p o m.0 q is at m.1 m.2
+  made_by (chunk_due o) q at makes good low =
+      let m = made_size (left_of o) f q makes in
+      made_chunk o m.0 q at m.1 m.2
       (ap (λ g. reason_in x (chunk_due o) g text) (sym m.1) ∙ good) low
-  made_by (awaits.Record due) (chunk_due o) q is at makes good low = absurd is
-  made_by (awaits.Record due) (payload_open o) q is at makes good low = absurd is
-  made_by (awaits.Chunk p) (record_due due) q is at makes good low = absurd is
-  made_by (awaits.Chunk p) (payload_open o) q is at makes good low = absurd is
-  made_by (awaits.Payload p) stage q is at makes good low = cc
+  made_by (payload_open o) q at makes good low = cc
 
   pub made_some : (q : PayloadLeft) → MakesPayload r.awaited from f (Some q)
       → reason_in x z.stage f text ≡ None → x.limits.payload < 2 ^ 32 → IsMade q
-  made_some q makes good low = made_by r.awaited z.stage q h.at.awaits refl makes good low
+  made_some q makes good low =
+      made_by z.stage q refl
+      (subst (λ (a : Awaited). MakesPayload a from f (Some q)) h.at.awaits makes) good low
 
   none_head : (g : Frame) (stage : Stage) (due : Due) → stage ≡ record_due due → None
       ≡ begun_by from g
@@ -284,39 +279,35 @@ module _ (r : StreamReader) (x : Settings) (z : Situation) (f : Frame) (text : L
   none_head (frames.Chunk size) stage due at makes = rw at refl
   none_head g stage due at makes = refl
 
-  none_by : (a : Awaited) (stage : Stage) → Awaits a stage → z.stage ≡ stage
-      → MakesPayload a from f None → payload_by x z from f ≡ None
-  none_by (awaits.Record due) (record_due other) is at makes = none_head f z.stage other at makes
-  none_by (awaits.Chunk p) (chunk_due o) is at makes =
+  none_by : (stage : Stage) → z.stage ≡ stage → MakesPayload (awaited_at stage) from f None
+      → payload_by x z from f ≡ None
+  none_by (record_due other) at makes = none_head f z.stage other at makes
+  none_by (chunk_due o) at makes =
       elim at_due [
         | reads_record e ↦ let two = sym at ∙ e in cc
         | reads_size other e same ↦
             let size = size_there same in
-            let bad = subst (λ (g : Frame). MakesPayload (awaits.Chunk p) from g None) size.1 makes
-            in
+            let bad = subst (λ (g : Frame). MakesPayload (awaits.Chunk (left_of o)) from g None)
+            size.1 makes in
             absurd (let never = bad.1 in cc)
       ]
-  none_by (awaits.Record due) (chunk_due o) is at makes = absurd is
-  none_by (awaits.Record due) (payload_open o) is at makes = absurd is
-  none_by (awaits.Chunk p) (record_due due) is at makes = absurd is
-  none_by (awaits.Chunk p) (payload_open o) is at makes = absurd is
-  none_by (awaits.Payload p) (record_due due) is at makes = absurd is
-  none_by (awaits.Payload p) (chunk_due o) is at makes = absurd is
-  none_by (awaits.Payload p) (payload_open o) is at makes =
+  none_by (payload_open o) at makes =
       elim at_due [
         | reads_record e ↦ let two = sym at ∙ e in cc
         | reads_size other e same ↦ let two = sym at ∙ e in cc
       ]
 
   pub made_none : MakesPayload r.awaited from f None → payload_by x z from f ≡ None
-  made_none makes = none_by r.awaited z.stage h.at.awaits refl makes
+  made_none makes =
+      none_by z.stage refl
+      (subst (λ (a : Awaited). MakesPayload a from f None) h.at.awaits makes)
 
   -- what the reader has then of it
   pub made_decoded : (new : StreamReader) (q : PayloadLeft) (m : IsMade q) → new.mode ≡ r.mode
       → new.kind ≡ r.kind → new.messages ≡ r.messages → new.decoder ≡ r.decoder
       → HasDecoded new x z q m.payload
   made_decoded new q m mode kind messages decoder = record {
-    open_so = m.open_so;
+    here_is = m.here_is;
     mode = mode ∙ h.at.mode;
     kind = kind ∙ h.at.kind;
     messages = messages ∙ h.at.messages;
@@ -338,27 +329,15 @@ module _ (r : StreamReader) (x : Settings) (z : Situation) (f : Frame) (text : L
       → (after_bare x z g text).stage
       ≡ record_due (leads (direction_of x.side) z.mode (due_in z.stage) g)
   bare_stage frames.Via = refl
-  bare_stage frames.Fault = refl
-  bare_stage (frames.Mode byte) = refl
-  bare_stage (frames.KnownEncoding encoding) = refl
-  bare_stage frames.ExtensibleEncoding = refl
-  bare_stage g = refl
+  bare_stage _ = refl
 
   bare_mode : (g : Frame) → mode_after z.mode g ≡ (after_bare x z g text).mode
   bare_mode frames.Via = refl
-  bare_mode frames.Fault = refl
-  bare_mode (frames.Mode byte) = refl
-  bare_mode (frames.KnownEncoding encoding) = refl
-  bare_mode frames.ExtensibleEncoding = refl
-  bare_mode g = refl
+  bare_mode _ = refl
 
   bare_messages : (g : Frame) → z.messages ≡ (after_bare x z g text).messages
   bare_messages frames.Via = refl
-  bare_messages frames.Fault = refl
-  bare_messages (frames.Mode byte) = refl
-  bare_messages (frames.KnownEncoding encoding) = refl
-  bare_messages frames.ExtensibleEncoding = refl
-  bare_messages g = refl
+  bare_messages _ = refl
 
   module _ (mid : StreamReader) (same_as : IsAs mid r) (side : side_of r.side ≡ x.side)
       (to_is : to ≡ r.taken)
@@ -405,16 +384,7 @@ module _ (r : StreamReader) (x : Settings) (z : Situation) (f : Frame) (text : L
     reads_bare frames.ExtensibleEncoding is new anew =
         let a = anew text (type_there is) in
         record { kind = a.0; decodes = a.2 ∙ sets (kind_of_type text); stands = a.1 }
-    reads_bare frames.Via is new same = same_bare new _ refl refl same
-    reads_bare frames.Fault is new same = same_bare new _ refl refl same
-    reads_bare (frames.Mode byte) is new same = same_bare new _ refl refl same
-    reads_bare (frames.Version major minor) is new same = same_bare new _ refl refl same
-    reads_bare frames.UnsizedEnvelope is new same = same_bare new _ refl refl same
-    reads_bare (frames.Chunk size) is new same = same_bare new _ refl refl same
-    reads_bare (frames.SizedEnvelope size) is new same = same_bare new _ refl refl same
-    reads_bare frames.End is new same = same_bare new _ refl refl same
-    reads_bare frames.PreambleAck is new same = same_bare new _ refl refl same
-    reads_bare frames.PreambleEnd is new same = same_bare new _ refl refl same
+    reads_bare _ is new same = same_bare new _ refl refl same
 
     says_bare : (g : Frame) (new : StreamReader) → new.mode ≡ mode_after mid.mode g
         → DecodesAfter mid g new → new.taken ≡ mid.taken
@@ -426,14 +396,7 @@ module _ (r : StreamReader) (x : Settings) (z : Situation) (f : Frame) (text : L
     says_bare frames.End new mode same taken = ap steps.Ended (taken ∙ same_as.taken ∙ sym to_is)
     says_bare frames.Fault new mode same taken =
         ap steps.PeerFault (taken ∙ same_as.taken ∙ sym to_is)
-    says_bare (frames.Version major minor) new mode same taken = refl
-    says_bare (frames.Mode byte) new mode same taken = refl
-    says_bare frames.Via new mode same taken = refl
-    says_bare (frames.KnownEncoding encoding) new mode same taken = refl
-    says_bare frames.ExtensibleEncoding new mode same taken = refl
-    says_bare frames.UnsizedEnvelope new mode same taken = refl
-    says_bare (frames.Chunk size) new mode same taken = refl
-    says_bare (frames.SizedEnvelope size) new mode same taken = refl
+    says_bare _ new mode same taken = refl
 
     on : is_over_in z.stage ≡ false
     on = ap is_over_in at ∙ due_on (direction_of x.side) h.due f h.may
@@ -447,16 +410,10 @@ module _ (r : StreamReader) (x : Settings) (z : Situation) (f : Frame) (text : L
         let still = begun_on (direction_of x.side) z.mode in let bad = sym still ∙ over in cc
     recalls_bare frames.PreambleAck is none over =
         let still = begun_on (direction_of x.side) z.mode in let bad = sym still ∙ over in cc
-    recalls_bare (frames.Version major minor) is none over = cc
-    recalls_bare (frames.Mode byte) is none over = cc
-    recalls_bare frames.Via is none over = cc
-    recalls_bare (frames.KnownEncoding encoding) is none over = cc
-    recalls_bare frames.ExtensibleEncoding is none over = cc
-    recalls_bare frames.UnsizedEnvelope is none over = cc
-    recalls_bare (frames.SizedEnvelope size) is none over = cc
     recalls_bare (frames.Chunk size) is none over =
         let still = bare_goes_on x z from to (frames.Chunk size) text none on refl in
         let bad = sym still ∙ over in cc
+    recalls_bare _ is none over = cc
 
     bare_in : (new : StreamReader) (step : StreamStep) → IsMoved mid f new step
         → IsIn new x (after_bare x z f text)
@@ -472,11 +429,7 @@ module _ (r : StreamReader) (x : Settings) (z : Situation) (f : Frame) (text : L
         ∙ ap (λ n. awaits.Record (leads (direction_of x.side) n h.due f)) (same_as.mode ∙ h.at.mode)
         ∙ ap (λ n. awaits.Record (leads (direction_of x.side) z.mode n f)) (sym (ap due_in at)) in
         record {
-          awaits =
-              subst (λ (a : Awaited). Awaits a (after_bare x z f text).stage) (sym awaited)
-              (subst (Awaits
-              (awaits.Record (leads (direction_of x.side) z.mode (due_in z.stage) f)))
-              (sym (bare_stage f)) refl);
+          awaits = awaited ∙ sym (ap awaited_at (bare_stage f));
           mode = m.mode ∙ ap (λ n. mode_after n f) (same_as.mode ∙ h.at.mode) ∙ bare_mode f;
           kind = reads.kind;
           messages = m.parts.messages ∙ same_as.messages ∙ h.at.messages ∙ bare_messages f;
@@ -487,14 +440,7 @@ module _ (r : StreamReader) (x : Settings) (z : Situation) (f : Frame) (text : L
         }
       where
         awaited_here : r.awaited ≡ awaits.Record h.due
-        awaited_here = go r.awaited z.stage h.at.awaits at h.due_is where
-          go : (a : Awaited) (stage : Stage) → Awaits a stage → stage ≡ record_due h.due
-              → due_of a ≡ Some h.due → a ≡ awaits.Record h.due
-          go (awaits.Record due) stage is here e = cc
-          go (awaits.Chunk p) (record_due due) is here e = absurd is
-          go (awaits.Chunk p) (chunk_due o) is here e = cc
-          go (awaits.Chunk p) (payload_open o) is here e = cc
-          go (awaits.Payload p) stage is here e = cc
+        awaited_here = h.at.awaits ∙ ap awaited_at at
 
     pub bare_answers : (new : StreamReader) (step : StreamStep) → IsMoved mid f new step
         → reason_in x z.stage f text ≡ None → payload_by x z from f ≡ None

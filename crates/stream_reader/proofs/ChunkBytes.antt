@@ -20,6 +20,7 @@ use Rattle.stream_reader.specs.Stream.{is_chunked, last_chunk, offence_at, offen
 use Rattle.stream_reader.specs.Stream.{payload_by, payload_in, payload_open, reason_of, refusal_in}
 use Rattle.stream_reader.specs.Stream.{refused_payload, refused_record, Settings, Situation, stream}
 use Rattle.stream_reader.specs.Stream.{StreamEvent, strings_in, unit_in, with_chunk}
+use Rattle.stream_reader.proofs.Envelopes.{between, so_far}
 use Rattle.stream_reader.proofs.Grammar.{readable, short_enough}
 use Rattle.stream_reader.proofs.Outcomes.{goes_on, is_refused, is_whole, more_behind, wants_chunk}
 use Rattle.stream_reader.proofs.Outcomes.{more_completed, outcome, strings_behind, text_behind}
@@ -61,21 +62,11 @@ pub record Shows (x : Settings) (z : Situation) (q bytes : List ℕ) : Type 0 wh
       → refusal_at (stream x) q ≡ None
 
 module _ (x : Settings) (z : Situation) (from : ℕ) where
-  -- a payload between two chunks, of which these bytes have come
-  abbrev pub between : List ℕ → OpenPayload
-  between bytes = record {
-    from = from;
-    size = length bytes;
-    left = 0;
-    form = chunked;
-    standing = standing (payload_in x z) bytes;
-  }
-
   -- behind whole units, between two chunks
   pub record IsBetween (p bytes : List ℕ) : Type 0 where
     pub units : AreUnits (stream x) p
     pub situation : (standing (stream x) p).situation
-        ≡ record z { stage = chunk_due (between bytes) }
+        ≡ between x z from bytes
     pub going : IsGoing (stream x) (standing (stream x) p)
 
   -- one chunk more
@@ -86,7 +77,7 @@ module _ (x : Settings) (z : Situation) (from : ℕ) where
 
     -- the situation, and the payload behind the chunk's size
     abbrev here : Situation
-    here = record z { stage = chunk_due (between bytes) }
+    here = between x z from bytes
 
     abbrev sized : OpenPayload
     sized = record {
@@ -100,7 +91,7 @@ module _ (x : Settings) (z : Situation) (from : ℕ) where
     longer : length (bytes ++ c) ≡ length bytes + length c
     longer = length-append bytes c
 
-    resumed : with_chunk (between bytes) (length c) ≡ sized
+    resumed : with_chunk (so_far x z from bytes) (length c) ≡ sized
     resumed =
         let some : (length c == 0) ≡ false =
         ne_eqb (length c) 0 (λ e. let n = short.some in omega (arith, n)) in
@@ -280,7 +271,7 @@ module _ (x : Settings) (z : Situation) (from : ℕ) where
         refusal_between x z sized (bytes ++ c) (omega arith) refl
         ∙ ap (λ d. refusal_at (payload_in x z) (bytes ++ d)) (sym all_taken)
         ∙ none (length c) (omega arith) in
-        let none_left : payload_behind x z sized (bytes ++ c) ≡ between (bytes ++ c) =
+        let none_left : payload_behind x z sized (bytes ++ c) ≡ so_far x z from (bytes ++ c) =
         (let zero_left : length (bytes ++ c) - length (bytes ++ c) ≡ 0 = omega arith in
         ap (λ n. record {
           from = from;

@@ -89,18 +89,14 @@ module _ (x : Settings) (z : Situation) where
   pub bare_goes_on : (from to : ℕ) (read : Frame) (text : List ℕ) → payload_by x z from read ≡ None
       → is_over_in z.stage ≡ false → completed_bare z to read text ≡ None
       → Over (after_bare x z read text) false
-  bare_goes_on from to (frames.Version major minor) text none on e = refl
-  bare_goes_on from to (frames.Mode byte) text none on e = refl
-  bare_goes_on from to frames.Via text none on e = refl
-  bare_goes_on from to (frames.KnownEncoding encoding) text none on e = refl
-  bare_goes_on from to frames.ExtensibleEncoding text none on e = refl
-  bare_goes_on from to frames.UnsizedEnvelope text none on e = cc
   bare_goes_on from to (frames.Chunk size) text none on e = chunk_goes_on z.stage size on
+  bare_goes_on from to frames.UnsizedEnvelope text none on e = cc
   bare_goes_on from to (frames.SizedEnvelope size) text none on e = cc
   bare_goes_on from to frames.End text none on e = cc
   bare_goes_on from to frames.Fault text none on e = cc
   bare_goes_on from to frames.PreambleAck text none on e = cc
   bare_goes_on from to frames.PreambleEnd text none on e = cc
+  bare_goes_on from to _ text none on e = refl
 
   -- one that completes an event ends as the event says
   bare_ends : (to : ℕ) (read : Frame) (text : List ℕ) (v : StreamEvent)

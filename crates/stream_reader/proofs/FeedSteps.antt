@@ -1,4 +1,9 @@
 -- A reader takes a piece, unit by unit.
+use Rattle.std.proofs.Common.{inl, inr}
+use Rattle.stream_reader.specs.Stepping.{step_of}
+use Rattle.stream_reader.specs.Stream.{accepted, ended, message, opened, peer_fault}
+use Rattle.std.proofs.Math.Nat.{eq-or-lt_of_le}
+use Rattle.std.proofs.Common.{Option}
 use Rattle.std.proofs.Common.{◌≡◌, ℕ, ◌+◌, ◌<◌, ◌≤◌, false, List, ◌++◌, length, take, drop, Some}
 use Rattle.std.proofs.Common.{None, Ok, Err, Result, sym, refl, ap, ◌∙◌, subst, append_assoc}
 use Rattle.std.proofs.Common.{append-nil, arith, length-append, length-take-le, take-take, le-leb}
@@ -56,6 +61,15 @@ FedRefused new x p y (Refused o) = (said (length y) (answer (stream x) p y) ≡ 
     (p ++ take (used (length y) (answer (stream x) p y)) y)
 FedRefused new x p y Memory = HasPayloads (standing (stream x) p).situation.stage × (k : ℕ)
     × DecideNothing x p y k × Failed new x Memory new.taken (p ++ take k y)
+
+-- where no event is told there is none
+told_none : (event : Option StreamEvent) → steps.More ≡ step_of event → event ≡ None
+told_none None is = refl
+told_none (Some (opened mode kind via)) is = cc
+told_none (Some accepted) is = cc
+told_none (Some (message envelope)) is = cc
+told_none (Some (ended n)) is = cc
+told_none (Some (peer_fault n text)) is = cc
 
 module _ (x : Settings) (p y : List ℕ) where
   pub along_none : (r : StreamReader) → Reached r x p → is_over_at (stream x) p ≡ false
@@ -141,23 +155,38 @@ module _ (x : Settings) (p y : List ℕ) where
 
       pub along_more : (n : ℕ) → UnitAnswers x (p ++ take k y) c new (Ok (n, steps.More))
           → Along new x p y (k + n)
-      along_more n u = record {
-        reached = subst (Reached new x) (taken_so n u.1.within) u.2;
-        quiet = quiet_so n u.1;
-        payloads = λ has. a.payloads
-            (u.3 (subst (λ (q : List ℕ). HasPayloads (standing (stream x) q).situation.stage)
-            (sym (taken_so n u.1.within)) has));
-        on = ap (is_over_at (stream x)) (sym (taken_so n u.1.within)) ∙ on_still n u.1;
-      } where
-        on_still : (n : ℕ) → IsQuiet (stream x) (p ++ take k y) c n → is_over_at (stream x)
-            ((p ++ take k y) ++ take n c) ≡ false
-        on_still n q =
-            let len = length-take-le n c q.within in
-            ap (λ d. is_over_at (stream x) ((p ++ take k y) ++ d)) (sym (take-length (take n c)))
-            ∙ not_over_along (stream x) (readable x) ends (tells x) (take n c) (p ++ take k y) a.on
-            (λ i some le. ap (λ d. event_at (stream x) ((p ++ take k y) ++ d))
-            (take-take i n c (omega (arith, len, le))) ∙ q.eventless i some
-            (omega (arith, len, le))) (length (take n c)) (omega arith)
+      along_more n (event, some, before, at, is, there, payloads) =
+          let none = told_none event is in
+          let quiet : IsQuiet (stream x) (p ++ take k y) c n = record {
+            within = before.within;
+            unrefused = before.unrefused;
+            eventless = λ i any le.
+                elim (eq-or-lt_of_le le) [
+                  | inl same ↦
+                      ap (λ m. event_at (stream x) ((p ++ take k y) ++ take m c)) same ∙ at ∙ none
+                  | inr lt ↦ before.eventless i any lt
+                ];
+          } in
+          record {
+            reached = subst (Reached new x) (taken_so n quiet.within) there;
+            quiet = quiet_so n quiet;
+            payloads = λ has. a.payloads
+                (payloads none
+                (subst (λ (q : List ℕ). HasPayloads (standing (stream x) q).situation.stage)
+                (sym (taken_so n quiet.within)) has));
+            on = ap (is_over_at (stream x)) (sym (taken_so n quiet.within)) ∙ on_still n quiet;
+          }
+        where
+          on_still : (n : ℕ) → IsQuiet (stream x) (p ++ take k y) c n → is_over_at (stream x)
+              ((p ++ take k y) ++ take n c) ≡ false
+          on_still n q =
+              let len = length-take-le n c q.within in
+              ap (λ d. is_over_at (stream x) ((p ++ take k y) ++ d)) (sym (take-length (take n c)))
+              ∙ not_over_along (stream x) (readable x) ends (tells x) (take n c) (p ++ take k y)
+              a.on
+              (λ i some le. ap (λ d. event_at (stream x) ((p ++ take k y) ++ d))
+              (take-take i n c (omega (arith, len, le))) ∙ q.eventless i some
+              (omega (arith, len, le))) (length (take n c)) (omega arith)
 
       pub along_refused : (told : ReadRefusal) → UnitAnswers x (p ++ take k y) c new (Err told)
           → FedRefused new x p y told
@@ -196,26 +225,14 @@ module _ (x : Settings) (p y : List ℕ) where
 
       pub along_event : (n : ℕ) (step : StreamStep) → (step ≡ steps.More → ⊥)
           → UnitAnswers x (p ++ take k y) c new (Ok (n, step)) → Fed new x p y (k + n) step
-      along_event n steps.More other u = absurd (other refl)
-      along_event n (steps.Opened mode kind) other u = fed_event n (steps.Opened mode kind) u.0 u.1
-          u.2 u.3 u.4 u.5
-      along_event n (steps.Message number size doc strings used) other u =
-          fed_event n (steps.Message number size doc strings used) u.0 u.1 u.2 u.3 u.4 u.5
-      along_event n steps.Accepted other u = fed_event n steps.Accepted u.0 u.1 u.2 u.3 u.4 u.5
-      along_event n (steps.Ended bytes) other u = fed_event n (steps.Ended bytes) u.0 u.1 u.2 u.3
-          u.4 u.5
-      along_event n (steps.PeerFault bytes) other u = fed_event n (steps.PeerFault bytes) u.0 u.1
-          u.2 u.3 u.4 u.5
+      along_event n step other (None, some, before, at, is, there, payloads) = absurd (other is)
+      along_event n step other (Some event, some, before, at, is, there, payloads) =
+          fed_event n step event some before at is there
 
       -- a unit takes some byte
       pub some_taken : (n : ℕ) (step : StreamStep) → UnitAnswers x (p ++ take k y) c new
           (Ok (n, step)) → 0 < n
-      some_taken n steps.More u = u.0
-      some_taken n (steps.Opened mode kind) u = u.1
-      some_taken n steps.Accepted u = u.1
-      some_taken n (steps.Message number size doc strings used) u = u.1
-      some_taken n (steps.Ended bytes) u = u.1
-      some_taken n (steps.PeerFault bytes) u = u.1
+      some_taken n step u = u.1
 
 -- what is said of a refusal
 pub says_refused : (new : StreamReader) (x : Settings) (p y : List ℕ) (told : ReadRefusal)

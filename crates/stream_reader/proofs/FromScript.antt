@@ -76,49 +76,40 @@ module _ (x : Settings) where
     next : HasScript x then_context t rest
 
   -- of one part
-  record SizedOnes (mode : Mode) (context : Context) (t : List Frame) (bytes : List ℕ) : Type 0
-    where
-      carried : List Carried
-      envelopes : List ℕ
-      rest : List ℕ
-      then_context : Context
-      joined_bytes : bytes ≡ envelopes ++ rest
-      carries_all : CarriesAll x mode context.kind context.strings carried envelopes
-      next : HasScript x then_context t rest
-
-  abbrev TakesSized : Mode → Type 0
-  TakesSized mode = (payload bytes : List ℕ) → IsSized payload bytes → IsEnvelopeIn mode payload
-      bytes
-
-  sized_script : (mode : Mode) → TakesSized mode → (sizes : List ℕ) (context : Context)
-      (t : List Frame) (bytes : List ℕ)
-      → HasScript x context (map frames.SizedEnvelope sizes ++ t) bytes → SizedOnes mode context t
-      bytes
-  sized_script mode takes [] context t bytes h = record {
+  sized_script : (direction : Direction) (mode : Mode)
+      → ((payload bytes : List ℕ) → IsSized payload bytes → IsEnvelopeIn mode payload bytes)
+      → ((carried : List Carried) → MayCarry direction mode carried) → (sizes : List ℕ)
+      (context : Context) (t : List Frame) (bytes : List ℕ)
+      → HasScript x context (map frames.SizedEnvelope sizes ++ t) bytes
+      → Envelopes direction mode context t bytes
+  sized_script direction mode takes may [] context t bytes h = record {
     carried = [];
     envelopes = [];
     rest = bytes;
     then_context = context;
     joined_bytes = refl;
+    may = may [];
     carries_all = refl;
     next = h;
   }
-  sized_script mode takes (size ∷ sizes) context t bytes h =
+  sized_script direction mode takes may (size ∷ sizes) context t bytes h =
       let (sized, (own, items, is_whole, then_is)) = h.followed in
-      let w = sized_script mode takes sizes h.then_context t h.rest h.next in
+      let w = sized_script direction mode takes may sizes h.then_context t h.rest h.next in
       let is : IsRecordOf (frames.SizedEnvelope (length h.payload)) h.text h.head =
       subst (λ n. IsRecordOf (frames.SizedEnvelope n) h.text h.head) (sym sized) h.is_record in
       let more : CarriesAll x mode context.kind (context.strings ++ own) w.carried w.envelopes =
       subst (λ (c : Context). CarriesAll x mode c.kind c.strings w.carried w.envelopes) then_is
       w.carries_all in
+      let one : Carried = record { payload = h.payload; items = items; own = own } in
       record {
-        carried = record { payload = h.payload; items = items; own = own } ∷ w.carried;
+        carried = one ∷ w.carried;
         envelopes = (h.head ++ h.payload) ++ w.envelopes;
         rest = w.rest;
         then_context = w.then_context;
         joined_bytes =
             h.joined ∙ ap (λ c. (h.head ++ h.payload) ++ c) w.joined_bytes
             ∙ sym (append_assoc (h.head ++ h.payload) w.envelopes w.rest);
+        may = may (one ∷ w.carried);
         carries_all = (
           h.head ++ h.payload,
           w.envelopes,
@@ -233,23 +224,14 @@ module _ (x : Settings) where
       }
 
   -- the envelopes of a script
-  any_sized : (direction : Direction) (mode : Mode) → TakesSized mode
+  any_sized : (direction : Direction) (mode : Mode)
+      → ((payload bytes : List ℕ) → IsSized payload bytes → IsEnvelopeIn mode payload bytes)
       → ((carried : List Carried) → MayCarry direction mode carried) → (envelopes : List Frame)
       (context : Context) (t : List Frame) (bytes : List ℕ) → AreSized envelopes
       → HasScript x context (envelopes ++ t) bytes → Envelopes direction mode context t bytes
   any_sized direction mode takes may envelopes context t bytes (sizes, are) h =
-      let w = sized_script mode takes sizes context t bytes
-      (subst (λ (fs : List Frame). HasScript x context (fs ++ t) bytes) are h) in
-      record {
-        carried = w.carried;
-        envelopes = w.envelopes;
-        rest = w.rest;
-        then_context = w.then_context;
-        joined_bytes = w.joined_bytes;
-        may = may w.carried;
-        carries_all = w.carries_all;
-        next = w.next;
-      }
+      sized_script direction mode takes may sizes context t bytes
+      (subst (λ (fs : List Frame). HasScript x context (fs ++ t) bytes) are h)
 
   one_unsized : (direction : Direction)
       → ((one : Carried) → MayCarry direction Singleton (one ∷ []))
@@ -333,15 +315,16 @@ module _ (x : Settings) where
     w.joined_bytes,
   )
 
-  -- the parts of a session, within its quota
-  abbrev pub Found : Side → List ℕ → Type 0
-  Found side bytes = (parts : Parts) × HasParts x side parts bytes × IsWithin x parts (length bytes)
+  -- the parts of a session, within its quota; those of a lone Ack are that of one
+  abbrev pub Found : Side → List Frame → List ℕ → Type 0
+  Found side script bytes = (parts : Parts) × HasParts x side parts bytes
+      × IsWithin x parts (length bytes) × (parts ≡ lone_ack → script ≡ frames.PreambleAck ∷ [])
 
   initiators_found : (endpoint : Option (List ℕ)) (mode : Mode) (script : List Frame)
       (bytes : List ℕ)
       → IsInitiatorsScript mode script
       → HasScript x (first_context (initiators endpoint)) script bytes
-      → length bytes ≤ x.limits.session → Found (initiators endpoint) bytes
+      → length bytes ≤ x.limits.session → Found (initiators endpoint) script bytes
   initiators_found endpoint mode script bytes r has within =
       by_records r.major r.minor r.encoding r.is_encoding r.envelopes r.sent
       (subst (λ (s : List Frame). HasScript x (first_context (initiators endpoint)) s bytes)
@@ -352,7 +335,7 @@ module _ (x : Settings) where
           → HasScript x (first_context (initiators endpoint))
           (frames.Version major minor ∷ frames.Mode (mode_number mode) ∷ frames.Via
           ∷ encoding ∷ frames.PreambleEnd ∷ envelopes ++ frames.End ∷ []) bytes
-          → Found (initiators endpoint) bytes
+          → Found (initiators endpoint) script bytes
       by_records major minor encoding is_encoding envelopes are h =
           let named = h.next in
           let via = named.next in
@@ -402,6 +385,7 @@ module _ (x : Settings) where
               parts,
             ),
             within,
+            (λ e. cc),
           )
 
   -- a receiver's stream behind its Ack
@@ -432,12 +416,12 @@ module _ (x : Settings) where
   receivers_found : (mode : Mode) (kind : Kind) (script : List Frame) (bytes : List ℕ)
       → IsScript FromReceiver mode script
       → HasScript x (first_context (receivers mode kind)) script bytes
-      → IsShort x script (length bytes) → Found (receivers mode kind) bytes
+      → IsShort x script (length bytes) → Found (receivers mode kind) script bytes
   receivers_found mode kind script bytes (inl r) has short =
       let w = ack_then mode kind r.envelopes frames.End bytes (IsBare frames.End) end_script r.sent
       (subst (λ (s : List Frame). HasScript x (first_context (receivers mode kind)) s bytes)
       r.joined has)
-      in (answer w.0, w.1, short.0)
+      in (answer w.0, w.1, short.0, λ e. cc)
   receivers_found mode kind script bytes (inr (inl (simplex, same))) has short =
       let h : BeginsWith x (first_context (receivers mode kind)) frames.PreambleAck
       (λ then_context rest. rest ≡ []) bytes =
@@ -455,6 +439,7 @@ module _ (x : Settings) where
           ),
         ),
         short.1 same,
+        (λ e. same),
       )
   receivers_found mode kind script bytes (inr (inr r)) has short =
       by_before r.before r.answer.joined
@@ -465,10 +450,10 @@ module _ (x : Settings) where
           → before ++ r.in_place_of ∷ r.after
           ≡ frames.PreambleAck ∷ r.answer.envelopes ++ frames.End ∷ []
           → HasScript x (first_context (receivers mode kind)) (before ++ frames.Fault ∷ []) bytes
-          → Found (receivers mode kind) bytes
+          → Found (receivers mode kind) script bytes
       by_before [] same h =
           let w = fault_script (first_context (receivers mode kind)) bytes h in
-          (turned_down w.0, w.1, short.0)
+          (turned_down w.0, w.1, short.0, λ e. cc)
       by_before (first ∷ more) same h =
           let is : first ≡ frames.PreambleAck = cc in
           let rest : more ++ r.in_place_of ∷ r.after ≡ r.answer.envelopes ++ frames.End ∷ [] = cc in
@@ -489,12 +474,13 @@ module _ (x : Settings) where
             broken_off w.0 text,
             (ack, last, is_ack, (envelopes, tail, may, all, fault, joined_tail), joined_ack),
             short.0,
+            (λ e. cc),
           )
 
   pub from_script : (side : Side) (mode : Mode) (script : List Frame) (bytes : List ℕ)
       → IsModeOf side mode → IsScript (direction_of side) mode script
       → HasScript x (first_context side) script bytes → IsShort x script (length bytes)
-      → Found side bytes
+      → Found side script bytes
   from_script (initiators endpoint) mode script bytes of_side is has short =
       initiators_found endpoint mode script bytes is has short.0
   from_script (receivers own kind) mode script bytes of_side is has short =

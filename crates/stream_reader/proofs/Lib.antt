@@ -35,15 +35,11 @@ pub mod Scripts
 pub mod Envelopes
 pub mod FromSession
 pub mod SessionEnds
-pub mod ToSession
-pub mod ProperStages
+pub mod Left
 pub mod Accepted
 pub mod Closed
--- a reader (specs/Bounds, StreamReaderState, Stepping): its bounds, what it stands for, payloads
--- (what it does
--- behind bytes of one, bytes of one), records (what it does behind one, texts, bytes of one),
--- pieces
-pub mod Bounded
+-- a reader (specs/StreamReaderState, Stepping): what it stands for, payloads (what it does behind
+-- bytes of one, bytes of one), records (what it does behind one, texts, bytes of one), pieces
 pub mod ReaderFacts
 pub mod PayloadSteps
 pub mod FailedFeeds

@@ -33,7 +33,7 @@ use Rattle.nmf_records.specs.declared.frame.Frame.TheVariants as frames
 use Rattle.nmf_records.specs.declared.script.Due.TheVariants as dues
 
 -- no Version or Mode record is due
-abbrev IsBehindMode : Stage → Type 0
+abbrev pub IsBehindMode : Stage → Type 0
 IsBehindMode (record_due dues.Version) = ⊥
 IsBehindMode (record_due dues.Mode) = ⊥
 IsBehindMode stage = Unit {0}
@@ -53,7 +53,7 @@ preamble_behind FromReceiver Duplex = tt
 preamble_behind FromReceiver Simplex = tt
 
 -- the mode is this one, and stays so
-abbrev KeepsMode : Mode → Situation → Type 0
+abbrev pub KeepsMode : Mode → Situation → Type 0
 KeepsMode mode z = (z.mode ≡ mode) × IsBehindMode z.stage
 
 module _ (x : Settings) (mode : Mode) (z : Situation) (h : KeepsMode mode z) where
@@ -89,16 +89,11 @@ module _ (x : Settings) (mode : Mode) (z : Situation) (h : KeepsMode mode z) whe
   bare_keeps (frames.Mode byte) text may =
       absurd (subst (λ (due : Due). IsBehindMode (record_due due))
       (mode_due (direction_of x.side) (due_in z.stage) byte may) (due_keeps z.stage h.1))
-  bare_keeps frames.Via text may = (h.0, tt)
-  bare_keeps (frames.KnownEncoding encoding) text may = (h.0, tt)
-  bare_keeps frames.ExtensibleEncoding text may = (h.0, tt)
   bare_keeps frames.PreambleEnd text may = (h.0, preamble_behind (direction_of x.side) z.mode)
   bare_keeps frames.PreambleAck text may = (h.0, preamble_behind (direction_of x.side) z.mode)
-  bare_keeps frames.UnsizedEnvelope text may = (h.0, tt)
   bare_keeps (frames.Chunk size) text may = (h.0, chunk_keeps size)
   bare_keeps (frames.SizedEnvelope size) text may = (h.0, due_keeps z.stage h.1)
-  bare_keeps frames.End text may = (h.0, tt)
-  bare_keeps frames.Fault text may = (h.0, tt)
+  bare_keeps _ text may = (h.0, tt)
 
   record_keeps : (read : Frame) (text : List ℕ) (v : Option OpenPayload)
       → MayCome (may_come (direction_of x.side) (due_in z.stage)) read
@@ -112,7 +107,7 @@ module _ (x : Settings) (mode : Mode) (z : Situation) (h : KeepsMode mode z) whe
   byte_keeps byte (chunk_due p) = h
   byte_keeps byte (payload_open p) = payload_keeps (with_byte x z p byte)
 
-  unit_keeps : (stage : Stage) (from : ℕ) (b : List ℕ) (u : StreamUnit) (k : ℕ) → z.stage ≡ stage
+  pub unit_keeps : (stage : Stage) (from : ℕ) (b : List ℕ) (u : StreamUnit) (k : ℕ) → z.stage ≡ stage
       → unit_in x stage from b ≡ whole u k → KeepsMode mode (after x z from u)
   unfolding after
   unit_keeps (record_due due) from b u k at e =
@@ -160,18 +155,8 @@ module _ (x : Settings) (kind : Kind) (side : x.side ≡ receivers Simplex kind)
     goes_one_way dues.End frames.Fault text at h may is = tt
     goes_one_way dues.Ack _ text at h may is = cc
     goes_one_way dues.End _ text at h may is = cc
-    goes_one_way dues.Over (frames.Version major minor) text at h may is = cc
-    goes_one_way dues.Over (frames.Mode byte) text at h may is = cc
     goes_one_way dues.Over frames.Via text at h may is = cc
-    goes_one_way dues.Over (frames.KnownEncoding encoding) text at h may is = cc
-    goes_one_way dues.Over frames.ExtensibleEncoding text at h may is = cc
-    goes_one_way dues.Over frames.UnsizedEnvelope text at h may is = cc
-    goes_one_way dues.Over (frames.Chunk size) text at h may is = cc
-    goes_one_way dues.Over (frames.SizedEnvelope size) text at h may is = cc
-    goes_one_way dues.Over frames.End text at h may is = cc
-    goes_one_way dues.Over frames.Fault text at h may is = cc
-    goes_one_way dues.Over frames.PreambleAck text at h may is = cc
-    goes_one_way dues.Over frames.PreambleEnd text at h may is = cc
+    goes_one_way dues.Over _ text at h may is = cc
     goes_one_way _ read text at h may is = absurd h
 
   one_way_unit : (before bytes : List ℕ) (u : StreamUnit) (stage : Stage)

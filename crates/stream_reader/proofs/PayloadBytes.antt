@@ -17,14 +17,14 @@ use Rattle.nbfx_values.specs.declared.refusals.Offence.{Offence}
 use Rattle.nbfx_decoder.{proofs.Readable.readable as payload_readable, specs.Payload.Refusal}
 use Rattle.stream_reader.specs.Stream.{after, after_bare, behind_payload, chunk_due, completed}
 use Rattle.stream_reader.specs.Stream.{completed_bare, completed_payload, frame, is_chunked}
-use Rattle.stream_reader.specs.Stream.{message, offence_in, on_open, on_payload, OpenPayload}
+use Rattle.stream_reader.specs.Stream.{offence_in, on_open, on_payload, OpenPayload}
 use Rattle.stream_reader.specs.Stream.{payload_by, payload_byte, payload_in, payload_open, payloads}
 use Rattle.stream_reader.specs.Stream.{PayloadStanding, refusal_in, refused, refused_payload}
 use Rattle.stream_reader.specs.Stream.{refused_record, Settings, Situation, Stage, stream}
 use Rattle.stream_reader.specs.Stream.{StreamEvent, too_long, unit_in, with_byte}
 use Rattle.stream_reader.proofs.Grammar.{readable, short_enough}
-use Rattle.stream_reader.proofs.Outcomes.{behind_whole, chunk_behind, envelope_of, HasAll}
-use Rattle.stream_reader.proofs.Outcomes.{more_behind, more_completed, refused_behind, whole_behind}
+use Rattle.stream_reader.proofs.Outcomes.{chunk_behind}
+use Rattle.stream_reader.proofs.Outcomes.{more_behind, more_completed}
 use Rattle.stream_reader.proofs.Situations.{IsBehind, nothing_begun}
 
 -- a payload of this offset, size and form behind these of its bytes
@@ -310,14 +310,6 @@ module _ (x : Settings) (p : List ℕ) (z : Situation) (o : OpenPayload) (bytes 
 
   -- where they aren't the last of the payload
   module _ (more : length bytes + length c < o.size) where
-    pub more_within : IsWithin x (p ++ c) z o (bytes ++ c)
-    more_within = record {
-      units = bytes_units;
-      situation = bytes_situation ∙ more_behind x z there
-          (omega (arith, longer, more));
-      more = omega (arith, longer, more);
-    }
-
     pub more_eventless : event_at (stream x) (p ++ c) ≡ None
     more_eventless = bytes_event ∙ more_completed x z there (omega (arith, longer, more))
 
@@ -335,40 +327,16 @@ module _ (x : Settings) (p : List ℕ) (z : Situation) (o : OpenPayload) (bytes 
           ≡ record z { stage = chunk_due (payload_behind x z o (bytes ++ c)) }
       between_situation = bytes_situation ∙ (chunk_behind x z there none_left chunked).0
 
-      pub between_eventless : event_at (stream x) (p ++ c) ≡ None
-      between_eventless = bytes_event ∙ (chunk_behind x z there none_left chunked).1
-
       pub between_refusal : refusal_in x z (payload_behind x z o (bytes ++ c))
           ≡ refusal_at (payload_in x z) (bytes ++ c)
       between_refusal = refusal_between x z o (bytes ++ c) (omega (arith, longer, all)) chunked
 
-    -- where they are the last of all
+    -- or the last of all
     module _ (last : is_chunked o.form ≡ false) where
-      has_all : HasAll there
-      has_all = record { none_left = none_left; last = last }
-
       pub last_refusal : refusal_in x z (payload_behind x z o (bytes ++ c))
           ≡ option_or (refusal_at (payload_in x z) (bytes ++ c))
           (ending_at (payload_in x z) (bytes ++ c))
       last_refusal = refusal_all x z o (bytes ++ c) (omega (arith, longer, all)) last
-
-      pub last_whole : refusal_in x z (payload_behind x z o (bytes ++ c)) ≡ None
-          → ((standing (stream x) (p ++ c)).situation
-          ≡ behind_whole z (payload_behind x z o (bytes ++ c)) (z.messages + 1))
-          × (event_at (stream x) (p ++ c)
-          ≡ Some (message (envelope_of z (payload_behind x z o (bytes ++ c)))))
-      last_whole none =
-          let w = whole_behind x z there has_all none in
-          (bytes_situation ∙ w.0, bytes_event ∙ w.1)
-
-      pub last_refused : (r : Refusal)
-          → refusal_in x z (payload_behind x z o (bytes ++ c)) ≡ Some r
-          → ((standing (stream x) (p ++ c)).situation
-          ≡ behind_whole z (payload_behind x z o (bytes ++ c)) z.messages)
-          × (event_at (stream x) (p ++ c) ≡ None)
-      last_refused r is =
-          let w = refused_behind x z there has_all r is in
-          (bytes_situation ∙ w.0, bytes_event ∙ w.1)
 
 -- k bytes of a piece behind p
 module _ (x : Settings) (p : List ℕ) (z : Situation) (o : OpenPayload) (bytes : List ℕ)

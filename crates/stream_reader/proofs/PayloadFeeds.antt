@@ -1,4 +1,5 @@
 -- A reader takes bytes of a payload.
+use Rattle.stream_reader.specs.StreamReaderState.{awaited_at, left_of}
 use Rattle.std.proofs.Common.{◌≡◌, ℕ, zero, suc, ◌+◌, ◌-◌, ◌^◌, ◌<◌, ◌≤◌, Bool, true, false, List}
 use Rattle.std.proofs.Common.{[], ◌++◌, length, take, Some, None, Ok, Err, Option, option_map, sym}
 use Rattle.std.proofs.Common.{refl, ap, ◌∙◌, subst, inl, inr, append-nil, arith, length-append}
@@ -16,21 +17,21 @@ use Rattle.nbfx_decoder.specs.DecoderState.{FailedBehind as DecoderFailedBehind,
 use Rattle.nbfx_decoder.specs.DecoderState.{FeedAnswers, settings_of as decoder_settings}
 use Rattle.nbfx_decoder.specs.DecoderState.{situation_of, StandsFor as DecoderStandsFor}
 use Rattle.nbfx_decoder.specs.Payload.{payload, Refusal, refusal, Settings as PayloadSettings}
-use Rattle.stream_reader.specs.declared.awaited.{Awaited.Awaited, PayloadLeft.PayloadLeft}
+use Rattle.stream_reader.specs.declared.awaited.{PayloadLeft.PayloadLeft}
 use Rattle.stream_reader.specs.declared.reader.{ReadRefusal.ReadRefusal, StreamStep.StreamStep}
 use Rattle.stream_reader.specs.declared.reader.ReadRefusal.TheVariants.{Memory, Offence as Refused}
 use Rattle.stream_reader.specs.declared.reader.StreamReader.{StreamReader}
 use Rattle.stream_reader.specs.Stepping.{BehindAnswers, HasDecoded, more_shown, refusal_told}
-use Rattle.stream_reader.specs.Stepping.{step_of, UnitAnswers}
-use Rattle.stream_reader.specs.Stream.{accepted, behind_payload, chunk_due, completed_payload}
-use Rattle.stream_reader.specs.Stream.{direction_of, ended, is_chunked, is_over_in, message}
-use Rattle.stream_reader.specs.Stream.{offence_in, opened, OpenPayload, payload_in, payload_open}
-use Rattle.stream_reader.specs.Stream.{payloads, PayloadStanding, peer_fault, record_due}
+use Rattle.stream_reader.specs.Stepping.{UnitAnswers}
+use Rattle.stream_reader.specs.Stream.{behind_payload, chunk_due, completed_payload}
+use Rattle.stream_reader.specs.Stream.{direction_of, is_chunked, is_over_in}
+use Rattle.stream_reader.specs.Stream.{offence_in, OpenPayload, payload_in, payload_open}
+use Rattle.stream_reader.specs.Stream.{payloads, PayloadStanding, record_due}
 use Rattle.stream_reader.specs.Stream.{refusal_in, refused_payload, Settings, Situation, Stage}
-use Rattle.stream_reader.specs.Stream.{stream, StreamEvent, strings_at, strings_in}
-use Rattle.stream_reader.specs.StreamReaderState.{Awaits, DecideNothing, Failed, failure_of}
+use Rattle.stream_reader.specs.Stream.{stream, strings_at, strings_in}
+use Rattle.stream_reader.specs.StreamReaderState.{awaited_at, DecideNothing, Failed, failure_of}
 use Rattle.stream_reader.specs.StreamReaderState.{ShowsType}
-use Rattle.stream_reader.specs.StreamReaderState.{form_of, HasBegun, HasPart, HasPayloads, IsIn}
+use Rattle.stream_reader.specs.StreamReaderState.{HasBegun, HasPart, HasPayloads, IsIn}
 use Rattle.stream_reader.specs.StreamReaderState.{messages_of, Reached, ReadsPayload, ShowsStrings}
 use Rattle.stream_reader.specs.StreamReaderState.{ShowsTable, ShowsText, taken_of}
 use Rattle.stream_reader.proofs.{Ending.payload_goes_on, FailedFeeds.unrefused_so}
@@ -45,27 +46,26 @@ use Rattle.nbfx_decoder.specs.declared.faults.DecodeFault.TheVariants as faults
 use Rattle.stream_reader.specs.declared.awaited.Awaited.TheVariants as awaits
 
 -- a reader of records that has begun none
-pub none_begun : (direction : Direction) (a : Awaited) (frames : FrameReader)
-    → ((next : Expect) → FrameStandsFor frames next []) → HasBegun direction a frames []
-none_begun direction (awaits.Record due) frames fresh = fresh _
-none_begun direction (awaits.Chunk p) frames fresh = fresh _
-none_begun direction (awaits.Payload p) frames fresh = fresh
+pub none_begun : (direction : Direction) (stage : Stage) (frames : FrameReader)
+    → ((next : Expect) → FrameStandsFor frames next []) → HasBegun direction stage frames []
+none_begun direction (record_due due) frames fresh = fresh _
+none_begun direction (chunk_due p) frames fresh = fresh _
+none_begun direction (payload_open p) frames fresh = fresh
 
 module _ (r : StreamReader) (x : Settings) (p : List ℕ) (h : Reached r x p) (left : PayloadLeft)
     (is : r.awaited ≡ awaits.Payload left) where
   abbrev z : Situation
   z = (standing (stream x) p).situation
 
-  find_open : (stage : Stage) → Awaits (awaits.Payload left) stage → (o : OpenPayload)
-      × (stage ≡ payload_open o) × Awaits (awaits.Payload left) (payload_open o)
-  find_open (record_due due) a = absurd a
-  find_open (chunk_due o) a = absurd a
-  find_open (payload_open o) a = (o, refl, a)
+  find_open : (stage : Stage) → awaits.Payload left ≡ awaited_at stage → (o : OpenPayload)
+      × (stage ≡ payload_open o) × (left ≡ left_of o)
+  find_open (record_due due) a = cc
+  find_open (chunk_due o) a = cc
+  find_open (payload_open o) a = let same : left ≡ left_of o = cc in (o, refl, same)
 
   pub found : (o : OpenPayload) × ((standing (stream x) p).situation.stage ≡ payload_open o)
-      × Awaits (awaits.Payload left) (payload_open o)
-  found = find_open (standing (stream x) p).situation.stage
-      (subst (λ (a : Awaited). Awaits a (standing (stream x) p).situation.stage) is h.at.awaits)
+      × (left ≡ left_of o)
+  found = find_open (standing (stream x) p).situation.stage (sym is ∙ h.at.awaits)
 
   abbrev o : OpenPayload
   o = found.0
@@ -87,19 +87,18 @@ module _ (r : StreamReader) (x : Settings) (p : List ℕ) (h : Reached r x p) (l
       (record { standing_is = own.standing_is; counted = own.counted }) more_left
 
   left_is : left.left ≡ o.left
-  left_is = found.2.left
+  left_is = ap (λ (n : PayloadLeft). n.left) found.2
 
   size_is : left.size ≡ o.size
-  size_is = found.2.size
+  size_is = ap (λ (n : PayloadLeft). n.size) found.2
 
   pub has_payloads : HasPayloads (standing (stream x) p).situation.stage
   has_payloads = subst HasPayloads (sym found.1) tt
 
   no_record : (next : Expect) → FrameStandsFor r.frames next []
   no_record =
-      subst (λ (a : Awaited). HasBegun (direction_of x.side) a r.frames
-      (standing (stream x) p).begun)
-      is h.frames
+      subst (λ (s : Stage). HasBegun (direction_of x.side) s r.frames (standing (stream x) p).begun)
+      found.1 h.frames
 
   -- some bytes of the piece, of those that are to come
   module _ (c : List ℕ) (n : ℕ) (within : n ≤ length c) (few : n ≤ left.left)
@@ -117,24 +116,20 @@ module _ (r : StreamReader) (x : Settings) (p : List ℕ) (h : Reached r x p) (l
     further k le = let m = taken k le in length-append p (take k c) ∙ omega (arith, m)
 
     -- the decoder that has taken them
-    pub has_decoded : (mid : StreamReader) (now : PayloadLeft) → now.from ≡ left.from → now.size
-        ≡ left.size → now.left ≡ left.left - n → now.form ≡ left.form → mid.mode ≡ r.mode → mid.kind
-        ≡ r.kind → mid.messages ≡ r.messages → decoder_settings mid.decoder ≡ decoder_settings
-        r.decoder
+    pub has_decoded : (mid : StreamReader) (now : PayloadLeft)
+        → now ≡ record left { left = left.left - n } → mid.mode ≡ r.mode → mid.kind ≡ r.kind
+        → mid.messages ≡ r.messages → decoder_settings mid.decoder ≡ decoder_settings r.decoder
         → DecoderStandsFor mid.decoder (standing (stream x) p).situation.strings
         (own.bytes ++ take n c) → (standing (stream x) p).situation.messages + 1 < 2 ^ 64
         → HasDecoded mid x (standing (stream x) p).situation now
         (payload_behind x (standing (stream x) p).situation found.0 (own.bytes ++ take n c))
-    has_decoded mid now from size rest form mode kind messages same stands small =
+    has_decoded mid now now_is mode kind messages same stands small =
         let m : length (bytes ++ take n c) ≡ length bytes + n = let k = taken n (omega arith) in
         length-append bytes (take n c) ∙ omega (arith, k) in
         record {
-          open_so = record {
-            from = from ∙ found.2.from;
-            size = size ∙ found.2.size;
-            left = omega (arith, rest, left_is, own.counted, m);
-            form = ap form_of form ∙ found.2.form;
-          };
+          here_is =
+              now_is ∙ ap (λ (k : PayloadLeft). record k { left = k.left - n }) found.2
+              ∙ ap (λ k. record (left_of o) { left = k }) (omega (arith, own.counted, m));
           mode = mode ∙ h.at.mode;
           kind = kind ∙ h.at.kind;
           messages = messages ∙ h.at.messages;
@@ -244,8 +239,8 @@ module _ (r : StreamReader) (x : Settings) (p : List ℕ) (h : Reached r x p) (l
             ap (λ s. s.from) stands in
             record {
               at = subst (IsIn new x) (sym situation_there) is_in;
-              frames = subst (HasBegun (direction_of x.side) new.awaited new.frames)
-                  (sym begun_there) (none_begun (direction_of x.side) new.awaited new.frames
+              frames = subst (HasBegun (direction_of x.side) _ new.frames)
+                  (sym begun_there) (none_begun (direction_of x.side) _ new.frames
                   (λ next. subst (λ (f : FrameReader). FrameStandsFor f next []) (sym frames)
                   (no_record next)));
               text = subst (λ (f : FrameReader). FramesShowText via_or_fault f
@@ -260,41 +255,21 @@ module _ (r : StreamReader) (x : Settings) (p : List ℕ) (h : Reached r x p) (l
               unfailed = failure ∙ h.unfailed;
             }
 
-        by_event : (v : Option StreamEvent) → completed_payload x z (there k) ≡ v → UnitAnswers x p
-            c new (Ok (k, step_of v))
-        by_event None e = (some, quiet_there (event_there ∙ e), reached, λ payloads. has_payloads)
-        by_event (Some (opened mode kind via)) e =
-            (opened mode kind via, some, before_there, event_there ∙ e, refl, reached)
-        by_event (Some accepted) e = (accepted, some, before_there, event_there ∙ e, refl, reached)
-        by_event (Some (peer_fault size text)) e =
-            (peer_fault size text, some, before_there, event_there ∙ e, refl, reached)
-        by_event (Some (message envelope)) e = (
-          message envelope,
-          some,
-          before_there,
-          event_there ∙
-              e,
-          refl,
-          reached,
-        )
-        by_event (Some (ended size)) e = (
-          ended size,
-          some,
-          before_there,
-          event_there ∙ e,
-          refl,
-          reached,
-        )
-
       -- by what a reader is behind them
       took_by : (v : Option Refusal) → refusal_in x z (there k) ≡ v → (new : StreamReader)
           (step : StreamStep) → BehindAnswers x (behind_payload x z (there k))
           (completed_payload x z (there k)) (option_map (offence_in z.messages) v) new (Ok step)
           → new.frames ≡ r.frames → new.taken ≡ r.taken + k → new.unit_from ≡ r.taken + k
           → new.failure ≡ r.failure → UnitAnswers x p c new (Ok (k, step))
-      took_by None refuses new step a frames taken_is unit_from failure = rw a.1
-          (by_event new refuses a.0 frames taken_is unit_from failure
-          (completed_payload x z (there k)) refl)
+      took_by None refuses new step a frames taken_is unit_from failure = rw a.1 (
+        completed_payload x z (there k),
+        some,
+        before_there,
+        event_there,
+        refl,
+        reached new refuses a.0 frames taken_is unit_from failure,
+        λ none payloads. has_payloads,
+      )
       took_by (Some why) refuses new step a frames taken_is unit_from failure = absurd a
 
       failed_by : (v : Option Refusal) → refusal_in x z (there k) ≡ v → (new : StreamReader)

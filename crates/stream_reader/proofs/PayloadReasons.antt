@@ -40,9 +40,6 @@ module _ (x : Settings) (z : Situation) (o : OpenPayload) (bytes : List ℕ) (r 
   abbrev here : OpenPayload
   here = payload_behind x z o bytes
 
-  abbrev IsSo : Bool → Type 0
-  IsSo all = ShowsOf (payloads x z.kind) z.strings all bytes r.at r.reason
-
   -- where some are to come, or another chunk
   shown_part : refusal_in x z (payload_behind x z o bytes) ≡ refusal_at (payload_in x z) bytes
       → (refusal_in x z (payload_behind x z o bytes) ≡ Some r)

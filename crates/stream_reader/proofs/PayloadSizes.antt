@@ -18,7 +18,7 @@ use Rattle.stream_reader.specs.Stream.{refused_payload, Settings, Situation, siz
 use Rattle.stream_reader.specs.Stream.{StreamEvent, StreamUnit, unit_in, with_byte, with_chunk}
 use Rattle.stream_reader.proofs.{Grammar.readable, Prefixes.units_keep, RightRecords.right_size}
 use Rattle.stream_reader.proofs.Outcomes.{goes_on, is_refused, is_whole, outcome, wants_chunk}
-use Rattle.stream_reader.proofs.ToSession.{none_both, none_mapped}
+use Rattle.stream_reader.proofs.Left.{none_both, none_mapped}
 use Rattle.nmf_records.specs.declared.frame.Frame.TheVariants as frames
 
 -- the sizes of payloads that are open, or of the document that is told
@@ -72,11 +72,7 @@ module _ (x : Settings) (z : Situation) where
   -- behind a record of no payload none is open
   bare_none : (read : Frame) (text : List ℕ) → open_payload (after_bare x z read text).stage ≡ None
   bare_none frames.Via text = refl
-  bare_none frames.Fault text = refl
-  bare_none (frames.Mode byte) text = refl
-  bare_none (frames.KnownEncoding encoding) text = refl
-  bare_none frames.ExtensibleEncoding text = refl
-  bare_none read text = refl
+  bare_none _ text = refl
 
   bare_untold : (to : ℕ) (read : Frame) (text : List ℕ) (e : Envelope)
       → completed_bare z to read text ≡ Some (message e) → ⊥

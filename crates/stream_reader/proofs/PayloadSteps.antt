@@ -1,4 +1,7 @@
 -- A reader goes on behind bytes of a payload.
+use Rattle.stream_reader.specs.Stream.{chunked, last_chunk, sized}
+use Rattle.stream_reader.specs.StreamReaderState.{form_for}
+use Rattle.stream_reader.specs.Stream.{Form}
 use Rattle.std.proofs.Common.{◌≡◌, ℕ, ◌+◌, ◌<◌, ◌≤◌, true, false, List, [], length, Some, None, Ok}
 use Rattle.std.proofs.Common.{Err, Option, Result, option_map, sym, refl, ap, ◌∙◌, subst, inr}
 use Rattle.std.{proofs.Common.arith, specs.Option.option_or}
@@ -13,7 +16,7 @@ use Rattle.nbfx_decoder.specs.DecoderState.{FailedBehind as DecoderFailedBehind,
 use Rattle.nbfx_decoder.specs.DecoderState.{settings_of as decoder_settings, situation_of}
 use Rattle.nbfx_decoder.specs.DecoderState.{StandsFor as DecoderStandsFor, table_at}
 use Rattle.nbfx_decoder.specs.Payload.{payload, Refusal, refusal, Settings as PayloadSettings}
-use Rattle.stream_reader.specs.declared.awaited.{Awaited.Awaited, PayloadLeft.PayloadLeft}
+use Rattle.stream_reader.specs.declared.awaited.{PayloadLeft.PayloadLeft}
 use Rattle.stream_reader.specs.declared.reader.{ReadRefusal.ReadRefusal, StreamStep.StreamStep}
 use Rattle.stream_reader.specs.{declared.reader.StreamReader.StreamReader, Stepping.refusal_told}
 use Rattle.stream_reader.specs.Stepping.{BehindAnswers, due_after, HasDecoded, is_chunked_form}
@@ -22,7 +25,7 @@ use Rattle.stream_reader.specs.Stream.{is_chunked, is_over_in, message, offence_
 use Rattle.stream_reader.specs.Stream.{payload_in, payload_open, payloads, PayloadStanding}
 use Rattle.stream_reader.specs.Stream.{record_due, refusal_in, refused_payload, Settings, Situation}
 use Rattle.stream_reader.specs.Stream.{Stage, StreamEvent}
-use Rattle.stream_reader.specs.StreamReaderState.{Awaits, HasPart, Recalls}
+use Rattle.stream_reader.specs.StreamReaderState.{HasPart, Recalls}
 use Rattle.stream_reader.proofs.{Ending.form_on, ReaderFacts.cost_within}
 use Rattle.stream_reader.proofs.Outcomes.{behind_whole, chunk_behind, envelope_of, HasAll}
 use Rattle.stream_reader.proofs.Outcomes.{more_behind, more_completed, refused_behind, whole_behind}
@@ -50,6 +53,17 @@ strings_first g strings =
     ap (λ (s : PayloadStanding). s.situation.strings)
     (standing_nothing (payload g strings) (payload_readable g strings))
 
+-- the code's forms of a payload say what the stream's do
+form_chunked : (form : Form) → is_chunked_form (form_for form) ≡ is_chunked form
+form_chunked sized = refl
+form_chunked chunked = refl
+form_chunked last_chunk = refl
+
+form_due : (form : Form) → due_after (form_for form) ≡ due_behind form
+form_due sized = refl
+form_due chunked = refl
+form_due last_chunk = refl
+
 -- a reader that is the same has decoded the same
 pub decoded_as : {old new : StreamReader} {x : Settings} {z : Situation} {here : PayloadLeft}
     {o : OpenPayload} → new ≡ old → HasDecoded old x z here o → HasDecoded new x z here o
@@ -62,7 +76,7 @@ module _ (r : StreamReader) (x : Settings) (z : Situation) (here : PayloadLeft) 
   bytes = h.part.bytes
 
   left_is : here.left ≡ o.left
-  left_is = h.open_so.left
+  left_is = ap (λ (n : PayloadLeft). n.left) h.here_is
 
   -- its grammar is the decoder's
   grammar_is : (A : PayloadSettings → Type 0) → A (decoder_settings r.decoder)
@@ -121,7 +135,7 @@ module _ (r : StreamReader) (x : Settings) (z : Situation) (here : PayloadLeft) 
       (refused_so None (open_is None (refusal_before x z o bytes few ∙ unrefused)))
       (more_behind x z o more) (more_completed x z o more) (
         record {
-          awaits = subst (λ (a : Awaited). Awaits a (payload_open o)) (sym is) h.open_so;
+          awaits = is ∙ ap awaits.Payload h.here_is;
           mode = h.mode;
           kind = h.kind;
           messages = h.messages;
@@ -140,7 +154,9 @@ module _ (r : StreamReader) (x : Settings) (z : Situation) (here : PayloadLeft) 
     all_there = let n = h.part.counted in omega (arith, n, none_left)
 
     chunked_as : (b : _) → is_chunked_form here.form ≡ b → is_chunked o.form ≡ b
-    chunked_as b e = ap is_chunked (sym h.open_so.form) ∙ e
+    chunked_as b e =
+        sym (form_chunked o.form)
+        ∙ ap (λ (n : PayloadLeft). is_chunked_form n.form) (sym h.here_is) ∙ e
 
     -- there are more chunks
     pub behind_chunk : (new : StreamReader) → is_chunked_form here.form ≡ true
@@ -148,15 +164,15 @@ module _ (r : StreamReader) (x : Settings) (z : Situation) (here : PayloadLeft) 
         → new.messages ≡ r.messages → new.decoder ≡ r.decoder
         → BehindAnswers x (behind_payload x z o) (completed_payload x z o) (refused_payload x z o)
         new (Ok steps.More)
-    behind_chunk new chunked awaited mode kind messages decoder =
-        let is = chunked_as true chunked in
+    behind_chunk new more awaited mode kind messages decoder =
+        let is = chunked_as true more in
         let w = chunk_behind x z o none_left is in
         answered new (Ok steps.More) None (record z { stage = chunk_due o }) None
         (refused_so None
         (open_is None (refusal_between x z o bytes (omega (arith, all_there)) is ∙ unrefused)))
         w.0 w.1 (
           record {
-            awaits = subst (λ (a : Awaited). Awaits a (chunk_due o)) (sym awaited) h.open_so;
+            awaits = awaited ∙ ap awaits.Chunk h.here_is;
             mode = mode ∙ h.mode;
             kind = kind ∙ h.kind;
             messages = messages ∙ h.messages;
@@ -221,8 +237,8 @@ module _ (r : StreamReader) (x : Settings) (z : Situation) (here : PayloadLeft) 
           (refused_so None (by_end None ends.0)) w.0 w.1 (
             record {
               awaits =
-                  subst (λ (a : Awaited). Awaits a (record_due (due_behind o.form))) (sym awaited)
-                  (ap due_behind h.open_so.form);
+                  awaited ∙ ap (λ (n : PayloadLeft). awaits.Record (due_after n.form)) h.here_is
+                  ∙ ap awaits.Record (form_due o.form);
               mode = mode ∙ h.mode;
               kind = kind ∙ h.kind;
               messages = messages ∙ ap (λ n. n + 1) h.messages;
@@ -232,7 +248,7 @@ module _ (r : StreamReader) (x : Settings) (z : Situation) (here : PayloadLeft) 
             },
             message_as number z.messages here.size o.size doc o.standing.situation.items count _
                 cost _
-                (numbered ∙ h.messages) h.open_so.size (ends.1 ∙ ap (λ s. s.items) standing_there)
+                (numbered ∙ h.messages) (ap (λ (n : PayloadLeft). n.size) h.here_is) (ends.1 ∙ ap (λ s. s.items) standing_there)
                 (counts ∙ ap length strings) (costs ∙ ap used_cost strings),
             not_over new (Some (message (envelope_of z o))),
           )

@@ -389,12 +389,7 @@ module _ (x : Settings) (p bytes : List ℕ) (units : AreUnits (stream x) p) whe
       let none : payload_by x z (length p) (frames.Chunk size) ≡ None =
       ap (λ (s : Stage). payload_by x (record z { stage = s }) (length p) (frames.Chunk size)) at in
       rw none tt
-  record_traced due frames.Via text at may is leads = tt
-  record_traced due frames.Fault text at may is leads = tt
-  record_traced due (frames.Mode byte) text at may is leads = tt
-  record_traced due (frames.KnownEncoding encoding) text at may is leads = tt
-  record_traced due frames.ExtensibleEncoding text at may is leads = tt
-  record_traced due read text at may is leads = tt
+  record_traced due _ text at may is leads = tt
 
   size_traced : (o : OpenPayload) (read : Frame) (text : List ℕ)
       → (standing (stream x) p).situation.stage ≡ chunk_due o → ChunkTrace x p

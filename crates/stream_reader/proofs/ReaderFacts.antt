@@ -7,7 +7,7 @@ use Rattle.unit_streams.specs.Judging.{ending_at, event_at, is_over_at}
 use Rattle.{string_tables.specs.SessionStrings.used_cost, nbfx_decoder.proofs.StandsFacts.stands_as}
 use Rattle.nbfx_values.specs.declared.{limits.Quotas.Quotas, session.Mode.Mode}
 use Rattle.nbfx_values.specs.{declared.refusals.Reason.TheVariants.Truncated, QuotasOf.limits_of}
-use Rattle.nmf_records.specs.declared.{reader.FrameReader.FrameReader, script.Due.Due}
+use Rattle.nmf_records.specs.declared.{reader.FrameReader.FrameReader}
 use Rattle.nmf_records.specs.Reader.{ShowsText as FramesShowText}
 use Rattle.nmf_records.specs.RecordFronts.{via_or_fault}
 use Rattle.nbfx_decoder.proofs.{Readable.readable as payload_readable, Sound.keeps_within}
@@ -18,7 +18,7 @@ use Rattle.nbfx_decoder.specs.DecoderState.{StandsFor as DecoderStandsFor}
 use Rattle.nbfx_decoder.specs.DecoderState.{WhereItFailed as WhereDecoderFailed}
 use Rattle.nbfx_decoder.specs.DecoderState.{WhereItStands as WhereDecoderStands}
 use Rattle.nbfx_decoder.specs.Payload.{payload, Settings as PayloadSettings}
-use Rattle.stream_reader.specs.declared.awaited.{Awaited.Awaited, Closing.Closing}
+use Rattle.stream_reader.specs.declared.awaited.{Closing.Closing}
 use Rattle.stream_reader.specs.declared.reader.{ReadRefusal.ReadRefusal, StreamReader.StreamReader}
 use Rattle.stream_reader.specs.{declared.side.Side.Side as SideRead, Saying.Repeats, Sides.side_of}
 use Rattle.stream_reader.specs.Stepping.{closing_step, has_ended, KeepsShown, may_end_at, opened_at}
@@ -27,13 +27,12 @@ use Rattle.stream_reader.specs.Stream.{is_over_in, may_end_in, message, offence_
 use Rattle.stream_reader.specs.Stream.{opened, OpenPayload, payload_open, payloads, PayloadStanding}
 use Rattle.stream_reader.specs.Stream.{peer_fault, record_due, Settings, Situation, Stage, stream}
 use Rattle.stream_reader.specs.Stream.{StreamEvent, strings_at, strings_in}
-use Rattle.stream_reader.specs.StreamReaderState.{Awaits, begun_in, Failed, FailedBehind}
+use Rattle.stream_reader.specs.StreamReaderState.{awaited_at, begun_in, Failed, FailedBehind}
 use Rattle.stream_reader.specs.StreamReaderState.{failure_of, HasPart, IsIn, items_in, messages_of}
 use Rattle.stream_reader.specs.StreamReaderState.{Reached, ReadsPayload, Recalls, settings_of}
 use Rattle.stream_reader.specs.StreamReaderState.{ShowsStrings, ShowsTable, ShowsText, taken_of}
 use Rattle.stream_reader.proofs.{Grammar.readable, Situations.event_tells}
 use Rattle.nmf_records.specs.declared.script.Due.TheVariants as dues
-use Rattle.stream_reader.specs.declared.awaited.Awaited.TheVariants as awaits
 use Rattle.stream_reader.specs.declared.awaited.Closing.TheVariants as closings
 
 -- a refused one stands for nothing
@@ -50,69 +49,47 @@ pub stands_first : (x : Settings) → standing (stream x) [] ≡ at_start (strea
 stands_first x = standing_nothing (stream x) (readable x)
 
 -- it has ended where the session is over
-pub ended_as : (a : Awaited) (stage : Stage) → Awaits a stage → has_ended a ≡ is_over_in stage
-ended_as (awaits.Record due) (record_due other) is = rw is refl
-ended_as (awaits.Record due) (chunk_due p) is = absurd is
-ended_as (awaits.Record due) (payload_open p) is = absurd is
-ended_as (awaits.Chunk p) (record_due due) is = absurd is
-ended_as (awaits.Chunk p) (chunk_due q) is = refl
-ended_as (awaits.Chunk p) (payload_open q) is = absurd is
-ended_as (awaits.Payload p) (record_due due) is = absurd is
-ended_as (awaits.Payload p) (chunk_due q) is = absurd is
-ended_as (awaits.Payload p) (payload_open q) is = refl
+ended_as : (stage : Stage) → has_ended (awaited_at stage) ≡ is_over_in stage
+ended_as (record_due due) = refl
+ended_as (chunk_due p) = refl
+ended_as (payload_open p) = refl
 
-pub opened_as : (a : Awaited) (stage : Stage) (from : ℕ) → Awaits a stage → opened_at a from
-    ≡ open_from stage from
-opened_as (awaits.Record due) (record_due other) from is = refl
-opened_as (awaits.Record due) (chunk_due p) from is = absurd is
-opened_as (awaits.Record due) (payload_open p) from is = absurd is
-opened_as (awaits.Chunk p) (record_due due) from is = absurd is
-opened_as (awaits.Chunk p) (chunk_due q) from is = is.from
-opened_as (awaits.Chunk p) (payload_open q) from is = absurd is
-opened_as (awaits.Payload p) (record_due due) from is = absurd is
-opened_as (awaits.Payload p) (chunk_due q) from is = absurd is
-opened_as (awaits.Payload p) (payload_open q) from is = is.from
+opened_as : (stage : Stage) (from : ℕ) → opened_at (awaited_at stage) from ≡ open_from stage from
+opened_as (record_due due) from = refl
+opened_as (chunk_due p) from = refl
+opened_as (payload_open p) from = refl
 
 -- and the input may end there alike
-may_end_due : (x : Settings) (mode : Mode) (due : Due) (from n : ℕ)
-    → may_end_in x mode (record_due due) from n
-    ≡ may_end_at (direction_of x.side) mode (awaits.Record due) from n
-may_end_due x mode dues.Over from n = refl
-may_end_due x mode _ from n = refl
-
-may_end_as : (x : Settings) (mode : Mode) (a : Awaited) (stage : Stage) (from n : ℕ)
-    → Awaits a stage
-    → may_end_in x mode stage from n ≡ may_end_at (direction_of x.side) mode a from n
-may_end_as x mode (awaits.Record due) (record_due other) from n is =
-    rw is (may_end_due x mode other from n)
-may_end_as x mode (awaits.Record due) (chunk_due p) from n is = absurd is
-may_end_as x mode (awaits.Record due) (payload_open p) from n is = absurd is
-may_end_as x mode (awaits.Chunk p) (record_due due) from n is = absurd is
-may_end_as x mode (awaits.Chunk p) (chunk_due q) from n is = refl
-may_end_as x mode (awaits.Chunk p) (payload_open q) from n is = absurd is
-may_end_as x mode (awaits.Payload p) (record_due due) from n is = absurd is
-may_end_as x mode (awaits.Payload p) (chunk_due q) from n is = absurd is
-may_end_as x mode (awaits.Payload p) (payload_open q) from n is = refl
+may_end_as : (x : Settings) (mode : Mode) (stage : Stage) (from n : ℕ)
+    → may_end_in x mode stage from n
+    ≡ may_end_at (direction_of x.side) mode (awaited_at stage) from n
+may_end_as x mode (record_due dues.Over) from n = refl
+may_end_as x mode (record_due _) from n = refl
+may_end_as x mode (chunk_due p) from n = refl
+may_end_as x mode (payload_open p) from n = refl
 
 module _ (r : StreamReader) (x : Settings) (p : List ℕ) (h : Reached r x p) where
   pub over_as_ended : is_over_at (stream x) p ≡ has_ended r.awaited
   unfolding is_over_at
-  over_as_ended = sym (ended_as r.awaited (standing (stream x) p).situation.stage h.at.awaits)
+  over_as_ended =
+      sym (ap has_ended h.at.awaits ∙ ended_as (standing (stream x) p).situation.stage)
 
   -- the first byte of what isn't whole
   pub open_as_opened : open_from (standing (stream x) p).situation.stage
       (standing (stream x) p).from ≡ opened_at r.awaited r.unit_from
   open_as_opened =
-      sym (opened_as r.awaited (standing (stream x) p).situation.stage (standing (stream x) p).from
-      h.at.awaits)
+      sym (ap (λ a. opened_at a (standing (stream x) p).from) h.at.awaits
+      ∙ opened_as (standing (stream x) p).situation.stage (standing (stream x) p).from)
       ∙ ap (opened_at r.awaited) (sym h.unit_from)
 
   may_end_so : may_end_in x (standing (stream x) p).situation.mode
       (standing (stream x) p).situation.stage (standing (stream x) p).from (length p)
       ≡ may_end_at (direction_of x.side) r.mode r.awaited r.unit_from r.taken
   may_end_so =
-      may_end_as x (standing (stream x) p).situation.mode r.awaited
-      (standing (stream x) p).situation.stage (standing (stream x) p).from (length p) h.at.awaits
+      may_end_as x (standing (stream x) p).situation.mode (standing (stream x) p).situation.stage
+      (standing (stream x) p).from (length p)
+      ∙ ap (λ a. may_end_at (direction_of x.side) (standing (stream x) p).situation.mode a
+      (standing (stream x) p).from (length p)) (sym h.at.awaits)
       ∙ ap (λ m. may_end_at (direction_of x.side) m r.awaited (standing (stream x) p).from
       (length p))
       (sym h.at.mode)

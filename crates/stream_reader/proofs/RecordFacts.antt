@@ -15,7 +15,6 @@ use Rattle.nmf_records.specs.declared.script.Direction.TheVariants.{FromInitiato
 use Rattle.nmf_records.specs.Reader.{AfterPiece, FrameAnswers, shown_behind}
 use Rattle.nmf_records.specs.Reader.{ShowsText as FramesShowText, StandsFor as FrameStandsFor}
 use Rattle.nmf_records.specs.RecordFronts.{frame_at, MayCome, TextKind, TextLimits, with_text}
-use Rattle.stream_reader.specs.{declared.awaited.Awaited.Awaited, Stepping.due_of}
 use Rattle.stream_reader.specs.Stream.{after, after_record, chunk_due, completed_bare}
 use Rattle.stream_reader.specs.Stream.{completed_payload, completed_record, direction_of}
 use Rattle.stream_reader.specs.Stream.{offence_at, offence_in, on_payload, OpenPayload}
@@ -29,7 +28,6 @@ use Rattle.stream_reader.proofs.Outcomes.{more_completed, refused_eventless}
 use Rattle.stream_reader.proofs.Texts.{reads_record, reads_size, ReadsDue}
 use Rattle.nmf_records.specs.declared.frame.Frame.TheVariants as frames
 use Rattle.nmf_records.specs.declared.script.Due.TheVariants as dues
-use Rattle.stream_reader.specs.declared.awaited.Awaited.TheVariants as awaits
 
 module _ (x : Settings) (z : Situation) (from to : ℕ) (f : Frame) (text : List ℕ) where
   -- a size that is refused is of a payload with bytes to come
@@ -129,15 +127,11 @@ module _ (x : Settings) (z : Situation) (from to : ℕ) (f : Frame) (text : List
           (sym (envelope_due (direction_of x.side) due size may)) tt
       by_frame frames.UnsizedEnvelope is may none has = unsized_due (direction_of x.side) due may
       by_frame (frames.Chunk size) is may none has = no_chunk size due is has may
-      by_frame (frames.Version major minor) is may none has = absurd has
-      by_frame (frames.Mode mode) is may none has = absurd has
-      by_frame frames.Via is may none has = absurd has
-      by_frame (frames.KnownEncoding encoding) is may none has = absurd has
-      by_frame frames.ExtensibleEncoding is may none has = absurd has
       by_frame frames.End is may none has = cc
       by_frame frames.Fault is may none has = cc
       by_frame frames.PreambleEnd is may none has = cc
       by_frame frames.PreambleAck is may none has = cc
+      by_frame _ is may none has = absurd has
 
 -- what a reader of records answers and shows, by the limits and what may come
 module _ (limits there : TextLimits) (expect other : Expect) (l : limits ≡ there) (m : expect
@@ -182,27 +176,20 @@ module _ (limits there : TextLimits) (expect other : Expect) (l : limits ≡ the
       → frame_at there other (b ++ y) ≡ wrong refusal.fault refusal.shown_by
   wrong_so refusal = by_same (λ k e. frame_at k e (b ++ y) ≡ wrong refusal.fault refusal.shown_by)
 
--- the reader of records has the bytes of what is due, as it is awaited
-pub begun_due : (direction : Direction) (a : Awaited) (due : Due) (frames : FrameReader)
-    (b : List ℕ)
-    → due_of a ≡ Some due → HasBegun direction a frames b
-    → FrameStandsFor frames (may_come direction due) b
-begun_due direction (awaits.Record other) due frames b is h =
-    let same : other ≡ due = cc in
-    subst (λ (n : Due). FrameStandsFor frames (may_come direction n) b) same h
-begun_due direction (awaits.Chunk p) due frames b is h =
-    let same : dues.Chunk ≡ due = cc in
-    subst (λ (n : Due). FrameStandsFor frames (may_come direction n) b) same h
-begun_due direction (awaits.Payload p) due frames b is h = cc
+-- the reader of records has the bytes of what is due
+module _ (direction : Direction) (stage : Stage) (due : Due) (frames : FrameReader) (b : List ℕ)
+  where
+    pub begun_due : ReadsDue stage due → HasBegun direction stage frames b
+        → FrameStandsFor frames (may_come direction due) b
+    begun_due (reads_record at) h = subst (λ (s : Stage). HasBegun direction s frames b) at h
+    begun_due (reads_size o at same) h =
+        subst (λ (n : Due). FrameStandsFor frames (may_come direction n) b) (sym same)
+        (subst (λ (s : Stage). HasBegun direction s frames b) at h)
 
-pub begun_awaited : (direction : Direction) (a : Awaited) (due : Due) (frames : FrameReader)
-    (b : List ℕ)
-    → due_of a ≡ Some due → FrameStandsFor frames (may_come direction due) b
-    → HasBegun direction a frames b
-begun_awaited direction (awaits.Record other) due frames b is h =
-    let same : other ≡ due = cc in
-    subst (λ (n : Due). FrameStandsFor frames (may_come direction n) b) (sym same) h
-begun_awaited direction (awaits.Chunk p) due frames b is h =
-    let same : dues.Chunk ≡ due = cc in
-    subst (λ (n : Due). FrameStandsFor frames (may_come direction n) b) (sym same) h
-begun_awaited direction (awaits.Payload p) due frames b is h = cc
+    pub begun_there : ReadsDue stage due → FrameStandsFor frames (may_come direction due) b
+        → HasBegun direction stage frames b
+    begun_there (reads_record at) h =
+        subst (λ (s : Stage). HasBegun direction s frames b) (sym at) h
+    begun_there (reads_size o at same) h =
+        subst (λ (s : Stage). HasBegun direction s frames b) (sym at)
+        (subst (λ (n : Due). FrameStandsFor frames (may_come direction n) b) same h)

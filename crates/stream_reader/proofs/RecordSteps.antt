@@ -23,24 +23,24 @@ use Rattle.nmf_records.specs.RecordFronts.{via_or_fault, with_text}
 use Rattle.nmf_records.specs.{Script.IsEncoding, Writing.has_text}
 use Rattle.nbfx_decoder.specs.declared.decoder.Decoder.{Decoder}
 use Rattle.nbfx_decoder.specs.DecoderState.{settings_of as decoder_settings}
-use Rattle.stream_reader.specs.declared.{awaited.Awaited.Awaited, reader.StreamReader.StreamReader}
+use Rattle.stream_reader.specs.declared.{reader.StreamReader.StreamReader}
 use Rattle.stream_reader.specs.declared.reader.{ReadRefusal.ReadRefusal, StreamStep.StreamStep}
 use Rattle.stream_reader.specs.declared.reader.ReadRefusal.TheVariants.{Memory, Offence as Refused}
-use Rattle.stream_reader.specs.Stepping.{BehindAnswers, due_of, step_of, UnitAnswers}
-use Rattle.stream_reader.specs.Stream.{accepted, after, after_record, chunk_due, completed, unit_in}
-use Rattle.stream_reader.specs.Stream.{completed_record, direction_of, ended, frame, is_over_in}
-use Rattle.stream_reader.specs.Stream.{message, offence_at, opened, OpenPayload, peer_fault}
+use Rattle.stream_reader.specs.Stepping.{BehindAnswers, due_of, UnitAnswers}
+use Rattle.stream_reader.specs.Stream.{after, after_record, chunk_due, completed, unit_in}
+use Rattle.stream_reader.specs.Stream.{completed_record, direction_of, frame, is_over_in}
+use Rattle.stream_reader.specs.Stream.{offence_at, OpenPayload}
 use Rattle.stream_reader.specs.Stream.{reason_of, record_due, refused, refused_record, Settings}
 use Rattle.stream_reader.specs.Stream.{Situation, stream, StreamEvent, StreamUnit, strings_in}
 use Rattle.stream_reader.specs.Stream.{text_limits}
-use Rattle.stream_reader.specs.StreamReaderState.{Awaits, failure_of, HasBegun, HasPayloads, IsIn}
+use Rattle.stream_reader.specs.StreamReaderState.{failure_of, HasBegun, HasPayloads, IsIn}
 use Rattle.stream_reader.specs.StreamReaderState.{messages_of, Reached, ReadsPayload, Recalls}
 use Rattle.stream_reader.specs.StreamReaderState.{ShowsStrings, ShowsTable, ShowsText, ShowsType}
 use Rattle.stream_reader.specs.StreamReaderState.{taken_of}
 use Rattle.stream_reader.proofs.DueRecords.{encoding_due, read_due, refusing}
 use Rattle.stream_reader.proofs.{Grammar.readable, Grammar.short_enough, PayloadFeeds.none_begun}
 use Rattle.stream_reader.proofs.{MadePayloads.reads_at, ReaderFacts.shows_in}
-use Rattle.stream_reader.proofs.RecordFacts.{begun_awaited, begun_due, quiet_payloads, refused_none}
+use Rattle.stream_reader.proofs.RecordFacts.{begun_there, begun_due, quiet_payloads, refused_none}
 use Rattle.stream_reader.proofs.Texts.{before_encoding, begun_text, early, own_text, reads_record}
 use Rattle.stream_reader.proofs.Texts.{reads_size, ReadsDue, whole_text, wrong_text}
 use Rattle.nmf_records.specs.declared.script.Due.TheVariants as dues
@@ -62,7 +62,7 @@ module _ (r : StreamReader) (x : Settings) (p c : List ℕ) (due : Due)
   expected = may_come (direction_of x.side) due
 
   pub due_here : ReadsDue (standing (stream x) p).situation.stage due
-  due_here = reads_at r.awaited (standing (stream x) p).situation.stage due h.at.awaits is
+  due_here = reads_at (standing (stream x) p).situation.stage due (ap due_of (sym h.at.awaits) ∙ is)
 
   stage_on : is_over_in (standing (stream x) p).situation.stage ≡ false
   unfolding is_over_at
@@ -71,7 +71,8 @@ module _ (r : StreamReader) (x : Settings) (p c : List ℕ) (due : Due)
   -- the reader of records has its first bytes
   pub frames_here : FrameStandsFor r.frames (may_come (direction_of x.side) due)
       (standing (stream x) p).begun
-  frames_here = begun_due (direction_of x.side) r.awaited due r.frames begun_here is h.frames
+  frames_here =
+      begun_due (direction_of x.side) situation_here.stage due r.frames begun_here due_here h.frames
 
   abbrev front : List ℕ → Front StreamUnit Offence
   front = (stream x).unit_at situation_here from_here
@@ -133,12 +134,18 @@ module _ (r : StreamReader) (x : Settings) (p c : List ℕ) (due : Due)
       let len : length (p ++ take k c) ≡ length p + k =
       length-append p (take k c)
       ∙ ap (λ n. length p + n) (length-take-le k c (omega (arith, all))) in (
+        None,
         some,
-        subst (λ (n : ℕ). IsQuiet (stream x) p c n) (sym all) quiet,
+        record {
+          within = omega (arith, all);
+          unrefused = λ i lt. quiet.unrefused i (omega (arith, all, lt));
+          eventless = λ i any lt. quiet.eventless i any (omega (arith, all, lt));
+        },
+        quiet.eventless k some (omega (arith, all)),
+        refl,
         record {
           at = rw there (record {
-            awaits = subst (λ (a : Awaited). Awaits a situation_here.stage) (sym awaited)
-                h.at.awaits;
+            awaits = awaited ∙ h.at.awaits;
             mode = mode ∙ h.at.mode;
             kind = kind ∙ h.at.kind;
             messages = messages ∙ h.at.messages;
@@ -149,11 +156,8 @@ module _ (r : StreamReader) (x : Settings) (p c : List ℕ) (due : Due)
           });
           frames =
               rw there
-              (subst (λ (a : Awaited). HasBegun (direction_of x.side) a new.frames
-              (begun_here ++ c))
-              (sym awaited)
-              (begun_awaited (direction_of x.side) r.awaited due new.frames (begun_here ++ c) is
-              frames_stand));
+              (begun_there (direction_of x.side) situation_here.stage due new.frames
+              (begun_here ++ c) due_here frames_stand);
           text =
               rw there
               (subst (FramesShowText via_or_fault new.frames)
@@ -174,7 +178,8 @@ module _ (r : StreamReader) (x : Settings) (p c : List ℕ) (due : Due)
               });
           unfailed = failure ∙ h.unfailed;
         },
-        λ has. subst (λ (s : Standing Situation StreamEvent Offence). HasPayloads s.situation.stage)
+        λ none has. subst
+            (λ (s : Standing Situation StreamEvent Offence). HasPayloads s.situation.stage)
             there has,
       )
 
@@ -330,9 +335,8 @@ module _ (r : StreamReader) (x : Settings) (p c : List ℕ) (due : Due)
               record {
                 at = subst (IsIn new x) (sym situation_there) is_in;
                 frames =
-                    subst (HasBegun (direction_of x.side) new.awaited new.frames)
-                    (sym between.begun)
-                    (none_begun (direction_of x.side) new.awaited new.frames
+                    subst (HasBegun (direction_of x.side) _ new.frames) (sym between.begun)
+                    (none_begun (direction_of x.side) _ new.frames
                     (λ next. subst (λ (g : FrameReader). FrameStandsFor g next []) (sym same)
                     (fresh next)));
                 text = text_there;
@@ -345,39 +349,6 @@ module _ (r : StreamReader) (x : Settings) (p c : List ℕ) (due : Due)
                     (from_here + (length begun_here + n)) between;
                 unfailed = failure ∙ h.unfailed;
               }
-
-          by_event : (v : Option StreamEvent)
-              → completed_record x situation_here from_here to_here f text ≡ v
-              → UnitAnswers x p c new (Ok (n, step_of v))
-          by_event None e = (
-            by_last.some,
-            quiet e,
-            reached,
-            λ has.
-                quiet_payloads x situation_here from_here to_here f text due due_here may_come_so e
-                (subst (λ (s : Situation). HasPayloads s.stage) situation_there has),
-          )
-          by_event (Some (opened mode kind via)) e =
-              (opened mode kind via, by_last.some, before, event ∙ e, refl, reached)
-          by_event (Some accepted) e = (accepted, by_last.some, before, event ∙ e, refl, reached)
-          by_event (Some (message envelope)) e = (
-            message envelope,
-            by_last.some,
-            before,
-            event ∙ e,
-            refl,
-            reached,
-          )
-          by_event (Some (ended at)) e = (ended at, by_last.some, before, event ∙ e, refl, reached)
-          by_event (Some (peer_fault at text)) e = (
-            peer_fault at text,
-            by_last.some,
-            before,
-            event ∙
-                e,
-            refl,
-            reached,
-          )
 
       -- what is behind the record, by where it begins and ends
       abbrev Behind : ℕ → ℕ → Result StreamStep ReadRefusal → Type 0
@@ -400,8 +371,17 @@ module _ (r : StreamReader) (x : Settings) (p c : List ℕ) (due : Due)
           → new.unit_from ≡ r.taken + n → ((next : Expect) → FrameStandsFor mid next [])
           → new.failure ≡ r.failure → UnitAnswers x p c new (Ok (n, step))
       done_by None good step a unit_from fresh failure =
-          rw a.1 (by_event good a.0 a.2 unit_from fresh failure
-          (completed_record x situation_here from_here to_here f text) refl)
+          rw a.1 (
+            completed_record x situation_here from_here to_here f text,
+            by_last.some,
+            before,
+            event,
+            refl,
+            reached good a.0 a.2 unit_from fresh failure,
+            λ none has.
+                quiet_payloads x situation_here from_here to_here f text due due_here may_come_so
+                none (subst (λ (s : Situation). HasPayloads s.stage) situation_there has),
+          )
       done_by (Some o) bad step a unit_from fresh failure = absurd a
 
       pub record_done : (from to : ℕ) → from ≡ (standing (stream x) p).from → to ≡ r.taken + n

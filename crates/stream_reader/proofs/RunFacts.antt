@@ -36,6 +36,12 @@ place_within c contents n le =
       | inr some ↦ let e = place_first c contents n some le in omega (arith, e)
     ]
 
+-- chunks of some content are some bytes
+pub some_run : (contents : List (List ℕ)) → 0 < length (concat contents)
+    → 0 < length (chunks_of contents)
+some_run [] some = some
+some_run (c ∷ contents) some = omega arith
+
 -- more of it is further on
 pub place_rises : (contents : List (List ℕ)) (i j : ℕ) → i < j
     → place_in contents i < place_in contents j

@@ -6,7 +6,7 @@ use Rattle.std.proofs.Math.{Nat.eq-or-lt_of_le, Seq.take-append-le, Seq.take-len
 use Rattle.{std.specs.List.concat, nbfx_decoder.specs.declared.faults.DecodeFault.DecodeFault}
 use Rattle.unit_streams.proofs.{Answers.answers_are_first, Standing.standing_length}
 use Rattle.unit_streams.proofs.Quiet.{quiet_before_behind, quiet_behind}
-use Rattle.unit_streams.specs.{Going.IsQuiet, Going.IsQuietBefore, Grammar.standing}
+use Rattle.unit_streams.specs.{Going.IsQuiet, Grammar.standing}
 use Rattle.unit_streams.specs.Judging.{event_at, goes_on, is_over_at, offends, refusal_at}
 use Rattle.nmf_records.specs.{declared.reader.FrameReader.FrameReader, Script.may_come}
 use Rattle.nmf_records.specs.Reader.{ShowsText as FramesShowText, StandsFor as FrameStandsFor}
@@ -15,21 +15,21 @@ use Rattle.nbfx_decoder.specs.DecoderState.{FailedBehind as DecoderFailedBehind,
 use Rattle.nbfx_decoder.specs.DecoderState.{FeedAnswers, settings_of as decoder_settings}
 use Rattle.nbfx_decoder.specs.DecoderState.{StandsFor as DecoderStandsFor}
 use Rattle.nbfx_decoder.specs.Payload.{payload, Refusal, refusal, Settings as PayloadSettings}
-use Rattle.stream_reader.specs.declared.awaited.{Awaited.Awaited, PayloadLeft.PayloadLeft}
+use Rattle.stream_reader.specs.declared.awaited.{PayloadLeft.PayloadLeft}
 use Rattle.stream_reader.specs.declared.reader.{ReadRefusal.ReadRefusal, StreamStep.StreamStep}
 use Rattle.stream_reader.specs.declared.reader.ReadRefusal.TheVariants.{Memory, Offence as Refused}
-use Rattle.stream_reader.specs.{declared.reader.StreamReader.StreamReader, Saying.step_for}
+use Rattle.stream_reader.specs.{declared.reader.StreamReader.StreamReader}
 use Rattle.stream_reader.specs.Runs.{AreShort, chunks_of, place_in}
 use Rattle.stream_reader.specs.Stepping.{more_shown, refusal_told, UnitAnswers}
 use Rattle.stream_reader.specs.Stream.{chunk_due, chunked, direction_of, Form, is_chunked}
 use Rattle.stream_reader.specs.Stream.{is_over_in, last_chunk, offence_in, OpenPayload, payload_in}
 use Rattle.stream_reader.specs.Stream.{payload_open, PayloadStanding, record_due, Settings}
-use Rattle.stream_reader.specs.Stream.{Situation, sized, Stage, stream, StreamEvent, strings_at}
-use Rattle.stream_reader.specs.StreamReaderState.{Awaits, Failed, form_of, HasBegun, HasPart}
+use Rattle.stream_reader.specs.Stream.{Situation, sized, Stage, stream, strings_at}
+use Rattle.stream_reader.specs.StreamReaderState.{awaited_at, Failed, form_for, HasBegun, HasPart}
 use Rattle.stream_reader.specs.StreamReaderState.{ShowsType}
-use Rattle.stream_reader.specs.StreamReaderState.{HasPayloads, IsIn, IsOpenSo, Reached}
+use Rattle.stream_reader.specs.StreamReaderState.{HasPayloads, IsIn, left_of, Reached}
 use Rattle.stream_reader.specs.StreamReaderState.{ReadsPayload}
-use Rattle.stream_reader.proofs.{ChunkBytes.between, ChunkBytes.IsBetween, PayloadBytes.units_place}
+use Rattle.stream_reader.proofs.{ChunkBytes.IsBetween, Envelopes.so_far, PayloadBytes.units_place}
 use Rattle.stream_reader.proofs.FailedFeeds.{failed_with, same_grammar, some_refused, StaysWith}
 use Rattle.stream_reader.proofs.{FailedFeeds.unrefused_so, Grammar.readable}
 use Rattle.stream_reader.proofs.RunBytes.{IsAlong, run_along, run_between}
@@ -45,40 +45,20 @@ module _ (x : Settings) (p c more : List ℕ) (new : StreamReader) where
   same_front : (k : ℕ) → k ≤ length c → p ++ take k c ≡ p ++ take k (c ++ more)
   same_front k le = ap (λ d. p ++ d) (sym (take-append-le k c more le))
 
-  event_further : (k : ℕ) (step : StreamStep) (event : StreamEvent) → 0 < k
-      → IsQuietBefore (stream x) p c k → event_at (stream x) (p ++ take k c) ≡ Some event
-      → step ≡ step_for event → Reached new x (p ++ take k c)
-      → (event : StreamEvent) × (0 < k) × IsQuietBefore (stream x) p (c ++ more) k
-      × (event_at (stream x) (p ++ take k (c ++ more)) ≡ Some event) × (step ≡ step_for event)
-      × Reached new x (p ++ take k (c ++ more))
-  event_further k step event some before at is reached = (
-    event,
-    some,
-    quiet_before_behind (stream x) p c more k before,
-    ap (event_at (stream x)) (sym (same_front k before.within)) ∙ at,
-    is,
-    subst (Reached new x) (same_front k before.within) reached,
-  )
-
   pub answers_further : (result : Result (ℕ × StreamStep) ReadRefusal)
       → UnitAnswers x p c new result → UnitAnswers x p (c ++ more) new result
-  answers_further (Ok (k, steps.More)) u = (
-    u.0,
-    quiet_behind (stream x) p c more k u.1,
-    subst (Reached new x) (same_front k u.1.within) u.2,
-    λ has. u.3 (subst (λ (q : List ℕ). HasPayloads (standing (stream x) q).situation.stage)
-        (sym (same_front k u.1.within)) has),
-  )
-  answers_further (Ok (k, steps.Opened mode kind)) u =
-      event_further k (steps.Opened mode kind) u.0 u.1 u.2 u.3 u.4 u.5
-  answers_further (Ok (k, steps.Accepted)) u =
-      event_further k steps.Accepted u.0 u.1 u.2 u.3 u.4 u.5
-  answers_further (Ok (k, steps.Message number size doc strings used)) u =
-      event_further k (steps.Message number size doc strings used) u.0 u.1 u.2 u.3 u.4 u.5
-  answers_further (Ok (k, steps.Ended n)) u =
-      event_further k (steps.Ended n) u.0 u.1 u.2 u.3 u.4 u.5
-  answers_further (Ok (k, steps.PeerFault n)) u =
-      event_further k (steps.PeerFault n) u.0 u.1 u.2 u.3 u.4 u.5
+  answers_further (Ok (k, step)) (event, some, before, at, is, reached, payloads) =
+      let same = same_front k before.within in (
+        event,
+        some,
+        quiet_before_behind (stream x) p c more k before,
+        ap (event_at (stream x)) (sym same) ∙ at,
+        is,
+        subst (Reached new x) same reached,
+        λ none has. payloads none
+            (subst (λ (q : List ℕ). HasPayloads (standing (stream x) q).situation.stage) (sym same)
+            has),
+      )
   answers_further (Err (Refused o)) u = (
     u.0,
     quiet_behind (stream x) p c more u.0 u.1,
@@ -106,16 +86,15 @@ module _ (r : StreamReader) (x : Settings) (p : List ℕ) (h : Reached r x p) (l
   abbrev z : Situation
   z = (standing (stream x) p).situation
 
-  find_chunk : (stage : Stage) → Awaits (awaits.Chunk left) stage → (o : OpenPayload)
-      × (stage ≡ chunk_due o) × IsOpenSo left o
-  find_chunk (record_due due) a = absurd a
-  find_chunk (chunk_due o) a = (o, refl, a)
-  find_chunk (payload_open o) a = absurd a
+  find_chunk : (stage : Stage) → awaits.Chunk left ≡ awaited_at stage → (o : OpenPayload)
+      × (stage ≡ chunk_due o) × (left ≡ left_of o)
+  find_chunk (record_due due) a = cc
+  find_chunk (chunk_due o) a = let same : left ≡ left_of o = cc in (o, refl, same)
+  find_chunk (payload_open o) a = cc
 
   pub chunk_found : (o : OpenPayload)
-      × ((standing (stream x) p).situation.stage ≡ chunk_due o) × IsOpenSo left o
-  chunk_found = find_chunk z.stage
-      (subst (λ (a : Awaited). Awaits a z.stage) is h.at.awaits)
+      × ((standing (stream x) p).situation.stage ≡ chunk_due o) × (left ≡ left_of o)
+  chunk_found = find_chunk z.stage (sym is ∙ h.at.awaits)
 
   abbrev o : OpenPayload
   o = chunk_found.0
@@ -132,13 +111,16 @@ module _ (r : StreamReader) (x : Settings) (p : List ℕ) (h : Reached r x p) (l
   size_is : o.size ≡ length bytes
   size_is = let n = chunk_part.counted in let m = read_so.0 in omega (arith, n, m)
 
+  pub chunk_size : left.size ≡ length chunk_part.bytes
+  chunk_size = ap (λ (n : PayloadLeft). n.size) chunk_found.2 ∙ size_is
+
   form_is : o.form ≡ chunked
   form_is =
       let open_at : IsOpenAt x z (chunk_due o) =
       subst (IsOpenAt x z) chunk_found.1 (sound x p).payload in
       chunked_form o.form open_at.chunked
 
-  payload_is : o ≡ between x z o.from bytes
+  payload_is : o ≡ so_far x z o.from bytes
   payload_is =
       ap (λ n. record {
         from = o.from;
@@ -199,7 +181,7 @@ module _ (r : StreamReader) (x : Settings) (p : List ℕ) (h : Reached r x p) (l
 
     all_fits : length (bytes ++ concat contents) ≤ x.limits.payload
     all_fits =
-        let n = length-append bytes content in let size = chunk_found.2.size in
+        let n = length-append bytes content in let size = ap (λ (n : PayloadLeft). n.size) chunk_found.2 in
         omega (arith, n, size, size_is, fits)
 
     along : (j : ℕ) → j ≤ length (concat contents)
@@ -248,7 +230,7 @@ module _ (r : StreamReader) (x : Settings) (p : List ℕ) (h : Reached r x p) (l
           (unit_from : new.unit_from ≡ r.taken + length (chunks_of contents))
           (failure : new.failure ≡ r.failure) where
         abbrev later : OpenPayload
-        later = between x z o.from (bytes ++ concat contents)
+        later = so_far x z o.from (bytes ++ concat contents)
 
         longer : length (bytes ++ concat contents) ≡ length bytes + length (concat contents)
         longer = length-append bytes content
@@ -256,24 +238,22 @@ module _ (r : StreamReader) (x : Settings) (p : List ℕ) (h : Reached r x p) (l
         further : length (p ++ chunks_of contents) ≡ length p + length (chunks_of contents)
         further = length-append p (chunks_of contents)
 
-        open_so : IsOpenSo now later
-        open_so =
-            let size = ap (λ (n : PayloadLeft). n.size) now_is in
-            let rest = ap (λ (n : PayloadLeft). n.left) now_is in
-            let own_size = chunk_found.2.size in
-            let own_left = chunk_found.2.left in
-            let none_left = read_so.0 in
-            record {
-              from = ap (λ (n : PayloadLeft). n.from) now_is ∙ chunk_found.2.from;
-              size = omega (arith, size, own_size, size_is, longer);
-              left = omega (arith, rest, own_left, none_left);
-              form =
-                  ap (λ (n : PayloadLeft). form_of n.form) now_is ∙ chunk_found.2.form ∙ form_is;
-            }
+        now_later : now ≡ left_of later
+        now_later =
+            now_is ∙ ap (λ (k : PayloadLeft). record k { size = k.size + length content })
+            chunk_found.2
+            ∙ ap (λ n. record (left_of o) { size = n }) (omega (arith, size_is, longer))
+            ∙ ap (λ n. record (left_of o) { size = length (bytes ++ content); left = n }) read_so.0
+            ∙ ap (λ (form : Form). record {
+              from = o.from;
+              size = length (bytes ++ content);
+              left = 0;
+              form = form_for form;
+            }) form_is
 
         is_in : IsIn new x (record z { stage = chunk_due later })
         is_in = record {
-          awaits = subst (λ (a : Awaited). Awaits a (chunk_due later)) (sym awaited) open_so;
+          awaits = awaited ∙ ap awaits.Chunk now_later;
           mode = mode ∙ h.at.mode;
           kind = kind ∙ h.at.kind;
           messages = messages ∙ h.at.messages;
@@ -296,8 +276,8 @@ module _ (r : StreamReader) (x : Settings) (p : List ℕ) (h : Reached r x p) (l
             (may_come (direction_of x.side) dues.Chunk) []) (sym frames)
             (subst (FrameStandsFor r.frames (may_come (direction_of x.side) dues.Chunk))
             none_begun_here
-            (subst (λ (a : Awaited). HasBegun (direction_of x.side) a r.frames
-            (standing (stream x) p).begun) is h.frames))
+            (subst (λ (s : Stage). HasBegun (direction_of x.side) s r.frames
+            (standing (stream x) p).begun) chunk_found.1 h.frames))
 
         over_not : is_over_at (stream x) (p ++ chunks_of contents) ≡ false
         unfolding is_over_at
@@ -309,9 +289,9 @@ module _ (r : StreamReader) (x : Settings) (p : List ℕ) (h : Reached r x p) (l
             record {
               at = subst (IsIn new x) (sym behind.situation) is_in;
               frames =
-                  subst (HasBegun (direction_of x.side) new.awaited new.frames) (sym behind.units)
-                  (subst (λ (a : Awaited). HasBegun (direction_of x.side) a new.frames [])
-                  (sym awaited) frames_none);
+                  subst (HasBegun (direction_of x.side) _ new.frames) (sym behind.units)
+                  (subst (λ (s : Situation). HasBegun (direction_of x.side) s.stage new.frames [])
+                  (sym behind.situation) frames_none);
               text =
                   subst (λ (f : FrameReader). FramesShowText via_or_fault f
                   (standing (stream x) (p ++ chunks_of contents)).situation.text) (sym frames)
@@ -332,12 +312,20 @@ module _ (r : StreamReader) (x : Settings) (p : List ℕ) (h : Reached r x p) (l
             let whole : take (length (chunks_of contents)) (chunks_of contents)
             ≡ chunks_of contents = take-length (chunks_of contents) in
             let all = along (length content) (omega arith)
-            (λ i lt. none_refused i (omega (arith, lt))) in (
+            (λ i lt. none_refused i (omega (arith, lt))) in
+            let quiet = subst (λ (n : ℕ). IsQuiet (stream x) p (chunks_of contents) n)
+            (place_all contents short) all.quiet in (
+              None,
               some,
-              subst (λ (n : ℕ). IsQuiet (stream x) p (chunks_of contents) n)
-                  (place_all contents short) all.quiet,
+              record {
+                within = quiet.within;
+                unrefused = quiet.unrefused;
+                eventless = λ i any lt. quiet.eventless i any (omega (arith, lt));
+              },
+              quiet.eventless (length (chunks_of contents)) some (omega arith),
+              refl,
               subst (λ (d : List ℕ). Reached new x (p ++ d)) (sym whole) reached,
-              λ payloads. chunk_payloads,
+              λ none payloads. chunk_payloads,
             )
 
         pub run_took : (run : List ℕ) → run ≡ chunks_of contents
@@ -404,7 +392,8 @@ module _ (r : StreamReader) (x : Settings) (p : List ℕ) (h : Reached r x p) (l
           same_grammar r x p h bytes chunk_part.stands_for
           (λ s. refusal_at (payload s z.strings) (bytes ++ take k content) ≡ Some why) means.1 in
           let shown : more_shown left (faults.Payload at reason shown_by) ≡ k =
-          (let size = chunk_found.2.size in let rest = chunk_found.2.left in
+          (let size = ap (λ (n : PayloadLeft). n.size) chunk_found.2 in
+          let rest = ap (λ (n : PayloadLeft). n.left) chunk_found.2 in
           let none_left = read_so.0 in
           omega (arith, answers.2, size, rest, none_left, size_is)) in
           let count : new.taken ≡ length p + place_in contents k =

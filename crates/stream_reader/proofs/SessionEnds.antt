@@ -35,6 +35,29 @@ record Ends (x : Settings) (b : List ℕ) (events : List StreamEvent) : Type 0 w
   over : is_over_in last.stage ≡ true
   passes : Passes (stream x) (beginning x) 0 b last events
 
+module _ (x : Settings) where
+  -- a last record behind a front leads to the end
+  ends_with : (front last b : List ℕ) (z over : Situation) (events : List StreamEvent)
+      (event : ℕ → StreamEvent) → front ++ last ≡ b → is_over_in over.stage ≡ true
+      → Passes (stream x) (beginning x) 0 front z events
+      → Passes (stream x) z (0 + length front) last over
+      (event (0 + length front + length last) ∷ [])
+      → Ends x b (events ++ event (length b) ∷ [])
+  ends_with front last b z over events event bytes_are is_over first second =
+      let size : 0 + length front + length last ≡ length b =
+      let n = ap length bytes_are in let m = length-append front last in omega (arith, n, m) in
+      record {
+        last = over;
+        over = is_over;
+        passes =
+            subst (λ (n : ℕ). Passes (stream x) (beginning x) 0 b over (events ++ event n ∷ []))
+            size
+            (subst (λ (c : List ℕ). Passes (stream x) (beginning x) 0 c over
+            (events ++ event (0 + length front + length last) ∷ [])) bytes_are
+            (passes_then (stream x) (beginning x) 0 front last z over events
+            (event (0 + length front + length last) ∷ []) first second));
+      }
+
 module _ (endpoint : Option (List ℕ)) (statics : List Entry) (l : Limits) (good : IsGood l) where
   abbrev x : Settings
   x = record { side = initiators endpoint; statics = statics; limits = l }
@@ -50,32 +73,13 @@ module _ (endpoint : Option (List ℕ)) (statics : List Entry) (l : Limits) (goo
       let c = initiator_carries endpoint statics l good mode kind via carried (0 + length preamble)
       envelopes may all in
       let events : List StreamEvent = message_events 0 [] carried in
-      let p1 = passes_then (stream x) (beginning x) 0 preamble envelopes _ _
-      (opened mode kind via ∷ []) events
-      (preamble_passes endpoint statics l good mode kind via preamble is_preamble) c.passes in
-      let p2 = passes_then (stream x) (beginning x) 0 (preamble ++ envelopes) end _ _
-      (opened mode kind via ∷ events) (ended (0 + length (preamble ++ envelopes) + length end) ∷ [])
-      p1
-      (end_passes x good mode kind via c.due (length carried) (0 + length (preamble ++ envelopes))
-      (left_by [] carried) end c.going c.end_comes is_end) in
-      let all_of : (preamble ++ envelopes) ++ end ≡ b =
-      append_assoc preamble envelopes end ∙ ap (λ r. preamble ++ r) (sym joined) ∙ sym bytes_are in
-      let size : 0 + length (preamble ++ envelopes) + length end ≡ length b =
-      let n = ap length all_of in let m = length-append (preamble ++ envelopes) end in
-      omega (arith, n, m) in
-      record {
-        last = at (record_due dues.Over) mode kind via (length carried) (left_by [] carried);
-        over = refl;
-        passes =
-            subst (λ (n : ℕ). Passes (stream x) (beginning x) 0 b
-            (at (record_due dues.Over) mode kind via (length carried) (left_by [] carried))
-            (opened mode kind via ∷ events ++ ended n ∷ [])) size
-            (subst (λ (c : List ℕ). Passes (stream x) (beginning x) 0 c
-            (at (record_due dues.Over) mode kind via (length carried) (left_by [] carried))
-            (opened mode kind via ∷ events
-            ++ ended (0 + length (preamble ++ envelopes) + length end) ∷ []))
-            all_of p2);
-      }
+      ends_with x (preamble ++ envelopes) end b _ _ (opened mode kind via ∷ events) (λ n. ended n)
+      (append_assoc preamble envelopes end ∙ ap (λ r. preamble ++ r) (sym joined)
+      ∙ sym bytes_are) refl
+      (passes_then (stream x) (beginning x) 0 preamble envelopes _ _ (opened mode kind via ∷ [])
+      events (preamble_passes endpoint statics l good mode kind via preamble is_preamble) c.passes)
+      (end_passes x good mode kind via c.due (length carried)
+      (0 + length (preamble ++ envelopes)) (left_by [] carried) end c.going c.end_comes is_end)
 
 -- a receiver's
 module _ (kind : Kind) (statics : List Entry) (l : Limits) (good : IsGood l) where
@@ -160,28 +164,6 @@ module _ (kind : Kind) (statics : List Entry) (l : Limits) (good : IsGood l) whe
               (accepted ∷ []) (message_events 0 [] carried) (ack_passes mode ack is_ack) c.passes;
         }
 
-    -- a last record behind a front leads to the end
-    ends_with : (front last b : List ℕ) (z over : Situation) (events : List StreamEvent)
-        (event : ℕ → StreamEvent) → front ++ last ≡ b → is_over_in over.stage ≡ true
-        → Passes (stream (reads mode)) (beginning (reads mode)) 0 front z events
-        → Passes (stream (reads mode)) z (0 + length front) last over
-        (event (0 + length front + length last) ∷ [])
-        → Ends (reads mode) b (events ++ event (length b) ∷ [])
-    ends_with front last b z over events event bytes_are is_over first second =
-        let size : 0 + length front + length last ≡ length b =
-        let n = ap length bytes_are in let m = length-append front last in omega (arith, n, m) in
-        record {
-          last = over;
-          over = is_over;
-          passes =
-              subst (λ (n : ℕ). Passes (stream (reads mode)) (beginning (reads mode)) 0 b over
-              (events ++ event n ∷ [])) size
-              (subst (λ (c : List ℕ). Passes (stream (reads mode)) (beginning (reads mode)) 0 c over
-              (events ++ event (0 + length front + length last) ∷ [])) bytes_are
-              (passes_then (stream (reads mode)) (beginning (reads mode)) 0 front last z over events
-              (event (0 + length front + length last) ∷ []) first second));
-        }
-
     receivers_end : (parts : Parts) (b : List ℕ) → (parts ≡ lone_ack → ⊥)
         → HasParts (reads mode) (receivers mode kind) parts b
         → Ends (reads mode) b (session_events parts (length b))
@@ -189,18 +171,18 @@ module _ (kind : Kind) (statics : List Entry) (l : Limits) (good : IsGood l) whe
     receivers_end lone_ack b isnt h = absurd (isnt refl)
     receivers_end (answer carried) b isnt h =
         let a = ack_with carried (IsBare frames.End) b h in
-        ends_with a.front a.last b _ _ (accepted ∷ message_events 0 [] carried) (λ n. ended n)
+        ends_with (reads mode) a.front a.last b _ _ (accepted ∷ message_events 0 [] carried) (λ n. ended n)
         a.bytes_are refl a.passes
         (end_passes (reads mode) good mode kind [] a.due (length carried) (0 + length a.front)
         (left_by [] carried) a.last a.going a.end_comes a.is_last)
     receivers_end (broken_off carried text) b isnt h =
         let a = ack_with carried (IsFault (reads mode) text) b h in
-        ends_with a.front a.last b _ _ (accepted ∷ message_events 0 [] carried)
+        ends_with (reads mode) a.front a.last b _ _ (accepted ∷ message_events 0 [] carried)
         (λ n. peer_fault n text) a.bytes_are refl a.passes
         (fault_passes (reads mode) good mode kind [] a.due (length carried) (0 + length a.front)
         (left_by [] carried) text a.last a.going a.fault_comes a.is_last)
     receivers_end (turned_down text) b isnt h =
-        ends_with [] b b (beginning (reads mode)) _ [] (λ n. peer_fault n text) refl refl
+        ends_with (reads mode) [] b b (beginning (reads mode)) _ [] (λ n. peer_fault n text) refl refl
         (passes_none (stream (reads mode)) (beginning (reads mode)) 0)
         (fault_passes (reads mode) good mode kind [] dues.Ack 0 0 [] text b refl refl h)
 

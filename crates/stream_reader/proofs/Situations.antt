@@ -162,13 +162,7 @@ sound_bare x z from k (frames.KnownEncoding encoding) text some h low =
     record { messages_within = omega arith; dictionary = omega arith; payload = tt }
 sound_bare x z from k frames.ExtensibleEncoding text some h low =
     record { messages_within = omega arith; dictionary = omega arith; payload = tt }
-sound_bare x z from k frames.Via text some h low =
-    record { messages_within = omega arith; dictionary = low; payload = tt }
-sound_bare x z from k frames.Fault text some h low =
-    record { messages_within = omega arith; dictionary = low; payload = tt }
-sound_bare x z from k (frames.Mode byte) text some h low =
-    record { messages_within = omega arith; dictionary = low; payload = tt }
-sound_bare x z from k read text some h low =
+sound_bare x z from k _ text some h low =
     record { messages_within = omega arith; dictionary = low; payload = tt }
 
 -- a payload's bytes keep within the quotas

@@ -104,18 +104,8 @@ form_late last_chunk = refl
 -- a record that may come, of a session that isn't over
 pub due_on : (direction : Direction) (due : Due) (f : Frame) → MayCome (may_come direction due) f
     → is_over_in (record_due due) ≡ false
-due_on direction dues.Over (frames.Version major minor) may = cc
-due_on direction dues.Over (frames.Mode mode) may = cc
 due_on direction dues.Over frames.Via may = cc
-due_on direction dues.Over (frames.KnownEncoding encoding) may = cc
-due_on direction dues.Over frames.ExtensibleEncoding may = cc
-due_on direction dues.Over frames.UnsizedEnvelope may = cc
-due_on direction dues.Over (frames.Chunk size) may = cc
-due_on direction dues.Over (frames.SizedEnvelope size) may = cc
-due_on direction dues.Over frames.End may = cc
-due_on direction dues.Over frames.Fault may = cc
-due_on direction dues.Over frames.PreambleAck may = cc
-due_on direction dues.Over frames.PreambleEnd may = cc
+due_on direction dues.Over _ may = cc
 due_on direction _ f may = refl
 
 module _ (x : Settings) (z : Situation) (h : IsEarly (direction_of x.side) z) where
@@ -275,17 +265,7 @@ pub chunk_made : (x : Settings) (z : Situation) (from : ℕ) (o : OpenPayload) (
     → z.stage ≡ chunk_due o → MayCome (may_come (direction_of x.side) dues.Chunk) f
     → payload_by x z from f ≡ None → ⊥
 chunk_made x z from o (frames.Chunk size) at may e = let none = rw at at e in cc
-chunk_made x z from o (frames.Version major minor) at may e = cc
-chunk_made x z from o (frames.Mode mode) at may e = cc
-chunk_made x z from o frames.Via at may e = cc
-chunk_made x z from o (frames.KnownEncoding encoding) at may e = cc
-chunk_made x z from o frames.ExtensibleEncoding at may e = cc
-chunk_made x z from o frames.UnsizedEnvelope at may e = cc
-chunk_made x z from o (frames.SizedEnvelope size) at may e = cc
-chunk_made x z from o frames.End at may e = cc
-chunk_made x z from o frames.Fault at may e = cc
-chunk_made x z from o frames.PreambleAck at may e = cc
-chunk_made x z from o frames.PreambleEnd at may e = cc
+chunk_made x z from o _ at may e = cc
 
 module _ (x : Settings) where
   early_unit : (stage : Stage) (z : Situation) (from : ℕ) (b : List ℕ) (u : StreamUnit) (k : ℕ)

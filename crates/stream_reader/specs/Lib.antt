@@ -10,6 +10,5 @@ pub mod Saying
 pub mod StreamReaderState
 pub mod Calls
 -- cited by a reader's own state and by private calls
-pub mod Bounds
 pub mod Stepping
 pub mod Runs

@@ -1,6 +1,6 @@
 -- What the parts of a reader's step answer. Public contracts cite none of this.
 use Rattle.std.specs.Prelude.{◌≡◌, ℕ, ◌+◌, ◌-◌, ◌^◌, ◌<◌, Bool, true, false, ◌&&◌, List, [], ◌++◌}
-use Rattle.std.specs.Prelude.{length, take, if◌then◌else◌, ◌==◌, Some, None, Ok, Err, Option}
+use Rattle.std.specs.Prelude.{◌≤◌, length, take, if◌then◌else◌, ◌==◌, Some, None, Ok, Err, Option}
 use Rattle.{std.specs.Prelude.Result, nbfx_values.specs.QuotasOf.limits_of}
 use Rattle.unit_streams.specs.{Going.IsQuiet, Going.IsQuietBefore, Grammar.standing}
 use Rattle.unit_streams.specs.Judging.{event_at, refusal_at}
@@ -12,21 +12,26 @@ use Rattle.nmf_records.specs.declared.script.{Direction.Direction, Due.Due}
 use Rattle.nmf_records.specs.Reader.{ShowsText as FramesShowText}
 use Rattle.nmf_records.specs.Script.{IsEncoding, leads, may_come, may_end}
 use Rattle.nbfx_decoder.specs.{declared.faults.DecodeFault.DecodeFault, Payload.refusal}
+use Rattle.nbfx_decoder.specs.declared.decoder.Decoder.{Decoder}
+use Rattle.nbfx_decoder.specs.DecoderState.{failure_of as decoder_failure}
 use Rattle.nbfx_decoder.specs.DecoderState.{settings_of as decoder_settings}
 use Rattle.nbfx_decoder.specs.DecoderState.{StandsFor as DecoderStandsFor}
+use Rattle.nbfx_decoder.specs.DecoderState.{taken_of as decoder_taken}
+use Rattle.nbfx_decoder.specs.DecoderState.{WhereItStands as WhereDecoderStands}
+use Rattle.nbfx_values.specs.declared.limits.Quotas.{Quotas}
 use Rattle.stream_reader.specs.declared.awaited.{Awaited.Awaited, Form.Form}
 use Rattle.stream_reader.specs.declared.awaited.{Closing.Closing, PayloadLeft.PayloadLeft}
 use Rattle.stream_reader.specs.declared.reader.{ReadRefusal.ReadRefusal, StreamStep.StreamStep}
 use Rattle.stream_reader.specs.declared.reader.ReadRefusal.TheVariants.{Memory, Offence as Refused}
 use Rattle.stream_reader.specs.{declared.reader.StreamReader.StreamReader, Sides.side_of}
 use Rattle.stream_reader.specs.Saying.{step_for}
-use Rattle.stream_reader.specs.Stream.{after_record, completed_record, direction_of, due_behind}
-use Rattle.stream_reader.specs.Stream.{is_chunked, is_over_in, kind_of, kind_of_type}
+use Rattle.stream_reader.specs.Stream.{after_record, completed_record, direction_of}
+use Rattle.stream_reader.specs.Stream.{is_over_in, kind_of, kind_of_type}
 use Rattle.stream_reader.specs.Stream.{mode_of, offence_in}
 use Rattle.stream_reader.specs.Stream.{OpenPayload, payloads, refused_record, Settings, Situation}
 use Rattle.stream_reader.specs.Stream.{stream, StreamEvent, strings_in}
-use Rattle.stream_reader.specs.StreamReaderState.{DecideNothing, Failed, form_of, HasPart}
-use Rattle.stream_reader.specs.StreamReaderState.{HasPayloads, IsIn, IsOpenSo, Reached, Recalls}
+use Rattle.stream_reader.specs.StreamReaderState.{DecideNothing, Failed, HasPart}
+use Rattle.stream_reader.specs.StreamReaderState.{HasPayloads, IsIn, left_of, Reached, Recalls}
 use Rattle.stream_reader.specs.StreamReaderState.{settings_of, ShowsTable}
 use Rattle.nmf_records.specs.declared.frame.Frame.TheVariants as frames
 use Rattle.stream_reader.specs.declared.reader.StreamStep.TheVariants as steps
@@ -43,10 +48,13 @@ step_of (Some event) = step_for event
 
 -- what a form of a payload says of it
 abbrev pub due_after : Form → Due
-due_after form = due_behind (form_of form)
+due_after forms.Sized = dues.Messages
+due_after forms.Chunked = dues.Chunk
+due_after forms.LastChunk = dues.End
 
 abbrev pub is_chunked_form : Form → Bool
-is_chunked_form form = is_chunked (form_of form)
+is_chunked_form forms.Chunked = true
+is_chunked_form form = false
 
 -- a payload before its first byte
 abbrev pub begun_with : ℕ → ℕ → Form → PayloadLeft
@@ -153,14 +161,12 @@ size_before_of awaited = 0
 -- what bytes c behind p, of one unit or of a payload, are answered with
 abbrev pub UnitAnswers : Settings → List ℕ → List ℕ → StreamReader
     → Result (ℕ × StreamStep) ReadRefusal → Type 0
-UnitAnswers x p c new (Ok (k, steps.More)) =
-    (0 < k) × IsQuiet (stream x) p c k × Reached new x (p ++ take k c)
-    × (HasPayloads (standing (stream x) (p ++ take k c)).situation.stage
-    → HasPayloads (standing (stream x) p).situation.stage)
 UnitAnswers x p c new (Ok (k, step)) =
-    (event : StreamEvent) × (0 < k) × IsQuietBefore (stream x) p c k
-    × (event_at (stream x) (p ++ take k c) ≡ Some event) × (step ≡ step_for event)
+    (event : Option StreamEvent) × (0 < k) × IsQuietBefore (stream x) p c k
+    × (event_at (stream x) (p ++ take k c) ≡ event) × (step ≡ step_of event)
     × Reached new x (p ++ take k c)
+    × (event ≡ None → HasPayloads (standing (stream x) (p ++ take k c)).situation.stage
+    → HasPayloads (standing (stream x) p).situation.stage)
 UnitAnswers x p c new (Err (Refused o)) =
     (k : ℕ) × IsQuiet (stream x) p c k × (refusal_at (stream x) (p ++ take k c) ≡ Some o)
     × Failed new x (Refused o) (length p + k) (p ++ take k c)
@@ -209,13 +215,18 @@ more_shown p faults.Memory = 0
 -- in this situation it has decoded the bytes so far of this payload
 pub record HasDecoded (r : StreamReader) (x : Settings) (z : Situation) (here : PayloadLeft)
     (p : OpenPayload) : Type 0 where
-  pub open_so : IsOpenSo here p
+  pub here_is : here ≡ left_of p
   pub mode : r.mode ≡ z.mode
   pub kind : r.kind ≡ z.kind
   pub messages : r.messages ≡ z.messages
   pub few : z.messages + 1 < 2 ^ 64
   pub decodes : decoder_settings r.decoder ≡ payloads x z.kind
   pub part : HasPart r.decoder x z p
+
+-- so many bytes more may come of a payload
+pub record MayTake (d : Decoder) (quotas : Quotas) (n : ℕ) : Type 0 where
+  pub few : decoder_failure d ≡ None → decoder_taken d + n ≤ quotas.payload
+  pub behind : WhereDecoderStands d (λ strings p. length p + n ≤ quotas.payload)
 
 -- the record that is due, or a chunk's size
 abbrev pub due_of : Awaited → Option Due

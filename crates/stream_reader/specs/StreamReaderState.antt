@@ -75,31 +75,27 @@ abbrev pub ShowsType : FrameReader → Type 0
 ShowsType frames = (type : List ℕ) × FramesShowText content_type frames type
 
 -- how a payload goes on
-abbrev pub form_of : FormRead → Form
-form_of forms.Sized = sized
-form_of forms.Chunked = chunked
-form_of forms.LastChunk = last_chunk
+abbrev pub form_for : Form → FormRead
+form_for sized = forms.Sized
+form_for chunked = forms.Chunked
+form_for last_chunk = forms.LastChunk
 
--- the numbers of a payload are those of the stream's
-pub record IsOpenSo (p : PayloadLeft) (q : OpenPayload) : Type 0 where
-  pub from : p.from ≡ q.from
-  pub size : p.size ≡ q.size
-  pub left : p.left ≡ q.left
-  pub form : form_of p.form ≡ q.form
+-- what is left of a payload
+abbrev pub left_of : OpenPayload → PayloadLeft
+left_of p = record { from = p.from; size = p.size; left = p.left; form = form_for p.form }
 
--- what comes next of the stream comes next of the reader
-abbrev pub Awaits : Awaited → Stage → Type 0
-Awaits (awaits.Record due) (record_due other) = due ≡ other
-Awaits (awaits.Chunk p) (chunk_due q) = IsOpenSo p q
-Awaits (awaits.Payload p) (payload_open q) = IsOpenSo p q
-Awaits _ _ = ⊥
+-- what comes next of the reader where this comes next of the stream
+abbrev pub awaited_at : Stage → Awaited
+awaited_at (record_due due) = awaits.Record due
+awaited_at (chunk_due p) = awaits.Chunk (left_of p)
+awaited_at (payload_open p) = awaits.Payload (left_of p)
 
 -- the reader of records has these bytes of one, or of a chunk's size, or, within a payload, of none
-abbrev pub HasBegun : Direction → Awaited → FrameReader → List ℕ → Type 0
-HasBegun direction (awaits.Payload p) frames begun = (next : Expect) → FrameStandsFor frames next []
-HasBegun direction (awaits.Chunk p) frames begun =
+abbrev pub HasBegun : Direction → Stage → FrameReader → List ℕ → Type 0
+HasBegun direction (payload_open p) frames begun = (next : Expect) → FrameStandsFor frames next []
+HasBegun direction (chunk_due p) frames begun =
     FrameStandsFor frames (may_come direction dues.Chunk) begun
-HasBegun direction (awaits.Record due) frames begun =
+HasBegun direction (record_due due) frames begun =
     FrameStandsFor frames (may_come direction due) begun
 
 -- the decoder has the bytes so far of the payload that stands so
@@ -125,7 +121,7 @@ Recalls closing event = ⊥
 
 -- it is in this situation
 pub record IsIn (r : StreamReader) (x : Settings) (z : Situation) : Type 0 where
-  pub awaits : Awaits r.awaited z.stage
+  pub awaits : r.awaited ≡ awaited_at z.stage
   pub mode : r.mode ≡ z.mode
   pub kind : r.kind ≡ z.kind
   pub messages : r.messages ≡ z.messages
@@ -135,7 +131,8 @@ pub record IsIn (r : StreamReader) (x : Settings) (z : Situation) : Type 0 where
 -- it has come as far as p, and isn't refused
 pub record Reached (r : StreamReader) (x : Settings) (p : List ℕ) : Type 0 where
   pub at : IsIn r x (standing (stream x) p).situation
-  pub frames : HasBegun (direction_of x.side) r.awaited r.frames (standing (stream x) p).begun
+  pub frames : HasBegun (direction_of x.side) (standing (stream x) p).situation.stage r.frames
+      (standing (stream x) p).begun
   pub text : FramesShowText via_or_fault r.frames (standing (stream x) p).situation.text
   pub type : ShowsType r.frames
   pub closing : is_over_at (stream x) p ≡ true → Recalls r.closing (event_at (stream x) p)

@@ -7,7 +7,7 @@ ghost use Rattle.nbfx_values.specs.Measures.{content_of};
 ghost use Rattle.nbfx_values.specs.QuotasOf.{limits_of};
 ghost use Rattle.nmf_records.specs.Reader.{limits_of as text_limits_of};
 ghost use Rattle.nmf_records.specs.RecordFronts.{limits_within};
-ghost use Rattle.stream_reader.specs.Bounds.{IsBounded};
+ghost use Rattle.nbfx_decoder.specs.DecoderState.{settings_of as decoder_settings};
 ghost use Rattle.string_tables.specs.SessionStrings.{used_cost};
 ghost use Rattle.stream_reader.specs.Sides.{side_of};
 ghost use Rattle.stream_reader.specs.Stream.{stream, strings_in};
@@ -94,7 +94,7 @@ pub struct StreamReader<'s> {
     pub(crate) unit_from: u64,
     pub(crate) failure: Option<ReadRefusal>,
     ghost limits: { text_limits_of frames ≡ limits_within quotas.via },
-    ghost bounded: { ∥ IsBounded decoder quotas awaited ∥₁ },
+    ghost decodes: { (decoder_settings decoder).limits ≡ limits_of quotas },
 }
 
 impl<'s> StreamReader<'s> {

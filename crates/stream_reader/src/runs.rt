@@ -28,7 +28,7 @@ struct Gathered {
 
 impl<'s> StreamReader<'s> {
     ghost use Rattle.stream_reader.specs.StreamReaderState.{settings_of, failure_of, WhereItStands};
-    ghost use Rattle.stream_reader.specs.Stepping.{UnitAnswers};
+    ghost use Rattle.stream_reader.specs.Stepping.{MayTake, UnitAnswers};
 
     // Takes the short chunks that lie whole at the front of the bytes, or else bytes of the next
     // chunk's size.
@@ -75,10 +75,9 @@ impl<'s> StreamReader<'s> {
         ensures taken { IfOk result (λ answer. self.new.taken ≡ self.old.taken + answer.0) }
     {
         let mut room = [0; ROOM];
-        let place = self.quotas.payload.saturating_sub(payload.size) as usize;
-        let most = ROOM.min(place);
+        let most = ROOM.min(self.payload_room());
         let gathered = gather(bytes, &mut room[..most]);
-        if gathered.used == 0 {
+        if gathered.filled == 0 {
             return self.record(Due::Chunk, bytes);
         }
         self.joined_chunks(payload, &bytes[..gathered.used], &room[..gathered.filled])
@@ -94,8 +93,8 @@ impl<'s> StreamReader<'s> {
         requires awaited { self.old.awaited ≡ Awaited.Chunk payload }
         requires between { self.old.unit_from ≡ self.old.taken }
         requires joined { IsRun chunks.now content.now }
-        requires some { 0 < length chunks.now }
-        requires room { payload.size + length content.now ≤ self.old.quotas.payload }
+        requires room { MayTake self.old.decoder self.old.quotas (length content.now) }
+        requires some { 0 < length content.now }
         requires fits { self.old.taken + length chunks.now ≤ self.old.quotas.session }
         ensures answers { WhereItStands self.old (λ p.
             UnitAnswers (settings_of self.old) p chunks.now self.new result) }

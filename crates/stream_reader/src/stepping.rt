@@ -14,13 +14,13 @@ use nbfx_values::{Kind, Mode, Offence, Place, Reason};
 use nmf_records::{Due, Frame, FrameStep};
 
 impl<'s> StreamReader<'s> {
-    ghost use Rattle.nbfx_decoder.specs.DecoderState.{settings_of as decoder_settings, StandsFor as DecoderStandsFor};
+    ghost use Rattle.nbfx_decoder.specs.DecoderState.{settings_of as decoder_settings, StandsFor as DecoderStandsFor, WhereItStands as WhereDecoderStands};
     ghost use Rattle.nmf_records.specs.declared.frame.Frame.{Frame as Record};
     ghost use Rattle.nmf_records.specs.Reader.{ShowsText as FramesShowText};
     ghost use Rattle.nmf_records.specs.{RecordFronts.text_kind, Writing.has_text};
     ghost use Rattle.stream_reader.specs.Sides.{side_of};
-    ghost use Rattle.stream_reader.specs.StreamReaderState.{settings_of, failure_of, Awaits, WhereItStands};
-    ghost use Rattle.stream_reader.specs.Stepping.{UnitAnswers, BehindAnswers, HasDecoded, IsDue, DecodesAfter, IsMoved, KeepsFraming, KeepsParts, KeepsShown, MakesPayload, RecordAnswers, awaited_after, bare_step, begun_by, closing_after, closing_step, is_chunked_form, mode_after, due_of, has_ended, may_end_at, opened_at, size_before_of, taken_since, refusal_told};
+    ghost use Rattle.stream_reader.specs.StreamReaderState.{settings_of, failure_of, awaited_at, WhereItStands};
+    ghost use Rattle.stream_reader.specs.Stepping.{UnitAnswers, BehindAnswers, HasDecoded, IsDue, DecodesAfter, IsMoved, KeepsFraming, KeepsParts, KeepsShown, MakesPayload, MayTake, RecordAnswers, awaited_after, bare_step, begun_by, closing_after, closing_step, is_chunked_form, mode_after, due_of, has_ended, may_end_at, opened_at, size_before_of, taken_since, refusal_told};
     ghost use Rattle.stream_reader.specs.Stream.{Settings, Situation, Stage, OpenPayload, behind_payload, completed, completed_payload, direction_of, frame as frame_unit, led, reason_in, refused_payload, after_record, completed_record, refused_record, payload_by};
 
     pub(crate) fn has_ended(&self) -> bool
@@ -163,7 +163,11 @@ impl<'s> StreamReader<'s> {
         ensures within { IfOk result (λ answer. answer.0 ≤ length bytes.now) }
         ensures taken { IfOk result (λ answer. self.new.taken ≡ self.old.taken + answer.0) }
     {
-        let n = bytes.len().min(payload.left as usize);
+        let most = bytes.len().min(payload.left as usize);
+        let n = most.min(self.payload_room());
+        if n == 0 {
+            return Ok((0, StreamStep::More));
+        }
         if let Err(fault) = self.decoder.feed(&bytes[..n]) {
             self.taken = self.taken.saturating_add(payload.more_shown(fault) as u64);
             return Err(self.refuse_payload(fault));
@@ -178,6 +182,15 @@ impl<'s> StreamReader<'s> {
         }
         let step = self.behind_last(payload)?;
         Ok((n, step))
+    }
+
+    // How many more bytes of a payload the decoder may take.
+    pub(crate) fn payload_room(&self) -> usize
+        ensures may { (n : ℕ) → 0 < n → n ≤ result → MayTake self.now.decoder self.now.quotas n }
+        ensures all { WhereDecoderStands self.now.decoder (λ strings p.
+            self.now.quotas.payload ≤ length p + result) }
+    {
+        self.quotas.payload.saturating_sub(self.decoder.taken()) as usize
     }
 
     // Whether more of a payload is to come after bytes of it: others of the same part, or another
@@ -314,7 +327,7 @@ impl<'s> StreamReader<'s> {
 
     // Why what a whole record says is refused.
     fn reason_in(&self, frame: Frame) -> Option<Reason>
-        ensures { (stage : Stage) (text : List ℕ) → Awaits self.now.awaited stage
+        ensures { (stage : Stage) (text : List ℕ) → self.now.awaited ≡ awaited_at stage
             → (has_text frame ≡ true → FramesShowText (text_kind frame) self.now.frames text)
             → result ≡ reason_in (settings_of self.now) stage frame text }
     {
@@ -435,6 +448,7 @@ impl<'s> StreamReader<'s> {
     }
 
     // From here on payloads are of this kind, with no strings before.
+    #[inline(never)]
     fn set_kind(&mut self, kind: Kind)
         ensures kind { self.new.kind ≡ kind }
         ensures stands { DecoderStandsFor self.new.decoder [] [] }

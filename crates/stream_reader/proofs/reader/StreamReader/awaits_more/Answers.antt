@@ -1,6 +1,4 @@
-use Rattle.std.proofs.Common.{sym, refl, ap, ◌∙◌, arith}
-use Rattle.{std.proofs.Math.Logic.∥∥₁_map, stream_reader.proofs.Bounded.bounded_at}
-use Rattle.stream_reader.specs.Bounds.{IsBounded, size_of, to_come}
+use Rattle.std.proofs.Common.{sym, refl, ◌∙◌, arith}
 use Rattle.stream_reader.proofs.PayloadSteps.{behind_chunk, behind_more}
 use Rattle.stream_reader.proofs.reader.StreamReader.awaits_more.Goals as goal
 
@@ -12,11 +10,3 @@ pub returns-then-is_chunked-clause-answers : goal.returns-then-is_chunked-clause
 returns-then-is_chunked-clause-answers c = λ is x z p h.
     behind_chunk c.args.self.now x z c.args.payload p h (omega (arith, c.if-payload-gt0.false)) _
     (sym c.is_chunked.ensures ∙ c.if-is_chunked.true) refl refl refl refl refl
-
-pub invariant_of-self-clause-bounded : goal.invariant_of-self-clause-bounded
-invariant_of-self-clause-bounded c =
-    let size = ap size_of c.requires.awaited in
-    let come = ap to_come c.requires.awaited in
-    ∥∥₁_map c.args.self.now.bounded
-    (λ (b : IsBounded _ _ _). bounded_at _ _ _ _ (let few = b.few in omega (arith, few, size))
-    (omega (arith, size, come, c.if-payload-gt0.false)) b)

@@ -1,16 +1,15 @@
-use Rattle.std.proofs.Common.{◌≡◌, ℕ, ◌^◌, ◌<◌, true, List, Some, None, Ok, Err, Option, Result}
+use Rattle.std.proofs.Common.{◌≡◌, ℕ, ◌^◌, ◌<◌, List, Some, None, Ok, Err, Option, Result}
 use Rattle.std.proofs.Common.{sym}
-use Rattle.std.proofs.{Common.refl, Common.◌∙◌, Common.subst, Common.arith, Math.Logic.∥∥₁_map}
+use Rattle.std.proofs.{Common.refl, Common.◌∙◌, Common.subst, Common.arith}
 use Rattle.nbfx_values.specs.declared.{refusals.Reason.Reason, session.Kind.Kind}
-use Rattle.{nbfx_values.specs.QuotasOf.limits_of, stream_reader.proofs.MadePayloads.bounded_made}
-use Rattle.nmf_records.specs.{declared.frame.Frame.Frame, Reader.ShowsText as FramesShowText}
-use Rattle.nmf_records.specs.{RecordFronts.text_kind, Writing.has_text}
+use Rattle.{nbfx_values.specs.QuotasOf.limits_of}
+use Rattle.nmf_records.specs.{declared.frame.Frame.Frame}
 use Rattle.stream_reader.specs.{declared.awaited.PayloadLeft.PayloadLeft, Sides.side_of}
 use Rattle.stream_reader.specs.declared.reader.{ReadRefusal.ReadRefusal, StreamStep.StreamStep}
-use Rattle.stream_reader.specs.{declared.reader.StreamReader.StreamReader, Bounds.IsBounded}
+use Rattle.stream_reader.specs.{declared.reader.StreamReader.StreamReader}
 use Rattle.stream_reader.specs.Stepping.{IsDue, MakesPayload, RecordAnswers}
-use Rattle.stream_reader.specs.Stream.{payloads, reason_in, Settings, Situation, Stage}
-use Rattle.stream_reader.specs.StreamReaderState.{Awaits, failure_of, settings_of}
+use Rattle.stream_reader.specs.Stream.{payloads, Settings, Situation}
+use Rattle.stream_reader.specs.StreamReaderState.{failure_of, settings_of}
 use Rattle.stream_reader.proofs.Behind.{bare_answers, behind_refusal, made_answers, made_decoded}
 use Rattle.stream_reader.proofs.Behind.{made_none, made_some, no_payload}
 use Rattle.stream_reader.proofs.reader.StreamReader.behind.Goals as goal
@@ -51,20 +50,6 @@ returns-in-Some-clause-answers c = λ read z text same here.
     c.in-Some.reason why c.refuse.ensures.offence c.refuse.ensures.shown.messages
     c.refuse.ensures.shown.decoder)
 
--- a record that is refused for nothing
-unrefused : (r : StreamReader) (f : Frame) (told : Option Reason)
-    → ((stage : Stage) (text : List ℕ) → Awaits r.awaited stage
-    → (has_text f ≡ true → FramesShowText (text_kind f) r.frames text)
-    → told ≡ reason_in (settings_of r) stage f text)
-    → told ≡ None → (stage : Stage) (text : List ℕ) → Awaits r.awaited stage
-    → (has_text f ≡ true → ⊥) → reason_in (settings_of r) stage f text ≡ None
-unrefused r f told h none stage text awaits never =
-    sym (h stage text awaits (λ e. absurd (never e))) ∙ none
-
-limits_are : (r : StreamReader) → (settings_of r).limits ≡ limits_of r.quotas
-unfolding settings_of
-limits_are r = refl
-
 -- where there is no reason
 no_reason : (told : Option Reason) → ((reason : Reason) → told ≡ Some reason → ⊥) → told ≡ None
 no_reason None never = refl
@@ -73,17 +58,6 @@ no_reason (Some reason) never = absurd (never reason refl)
 no_made : (made : Option PayloadLeft) → ((q : PayloadLeft) → made ≡ Some q → ⊥) → made ≡ None
 no_made None never = refl
 no_made (Some q) never = absurd (never q refl)
-
-pub invariant_of-self-clause-bounded : goal.invariant_of-self-clause-bounded
-invariant_of-self-clause-bounded c =
-    let r : StreamReader = c.args.self.now in
-    let makes = subst (MakesPayload r.awaited r.unit_from c.args.frame) c.in-Some-made.is
-    c.payload_by-made.ensures in
-    ∥∥₁_map r.bounded
-    (λ (b : IsBounded _ _ _). bounded_made r.decoder r.quotas (settings_of r) r.awaited r.unit_from
-    c.args.frame _ (limits_are r)
-    (unrefused r c.args.frame c.reason_in.result c.reason_in.ensures
-    (no_reason c.reason_in.result c.in_default.not-Some)) makes b)
 
 pub returns-in-Some-made-clause-answers : goal.returns-in-Some-made-clause-answers
 returns-in-Some-made-clause-answers c = λ read z text same here.

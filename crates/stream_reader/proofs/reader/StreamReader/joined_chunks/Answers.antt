@@ -1,50 +1,22 @@
-use Rattle.std.proofs.Common.{◌≡◌, ℕ, ◌+◌, ◌≤◌, List, ◌++◌, length, Ok, Err, sym, refl, ap, ◌∙◌}
-use Rattle.std.proofs.{Common.subst, Common.arith, Math.Logic.∥∥₁_map}
+use Rattle.std.proofs.Common.{◌≡◌, ℕ, ◌+◌, List, ◌++◌, length, Ok, Err, sym, refl, ap, ◌∙◌}
+use Rattle.std.proofs.{Common.subst, Common.arith}
 use Rattle.unit_streams.specs.Grammar.{standing}
 use Rattle.nbfx_decoder.specs.declared.decoder.Decoder.{Decoder}
 use Rattle.nbfx_decoder.specs.DecoderState.{FailedWithin, FeedAnswers}
 use Rattle.nbfx_decoder.specs.DecoderState.{settings_of as decoder_settings}
 use Rattle.nbfx_decoder.specs.DecoderState.{StandsFor as DecoderStandsFor}
-use Rattle.stream_reader.specs.declared.awaited.{Awaited.Awaited, PayloadLeft.PayloadLeft}
 use Rattle.stream_reader.specs.{declared.reader.StreamReader.StreamReader, Stepping.UnitAnswers}
-use Rattle.stream_reader.specs.Bounds.{IsBounded, size_of, to_come}
 use Rattle.stream_reader.specs.{Runs.place_in as place_of, Stream.Settings, Stream.stream}
 use Rattle.stream_reader.specs.StreamReaderState.{failure_of, settings_of, StandsFor}
-use Rattle.stream_reader.proofs.Bounded.{bounded_at, bounded_fed, bounded_refused, failed_within}
-use Rattle.stream_reader.proofs.{Bounded.may_take, ReaderFacts.same_settings}
-use Rattle.stream_reader.proofs.RunFeeds.{chunk_part, run_fails, run_took}
-use Rattle.stream_reader.specs.declared.awaited.Awaited.TheVariants as awaits
+use Rattle.nbfx_values.specs.Limits.{Limits}
+use Rattle.stream_reader.proofs.{ReaderFacts.same_settings, RunFacts.some_run}
+use Rattle.stream_reader.proofs.RunFeeds.{chunk_part, chunk_size, run_fails, run_took}
 use Rattle.stream_reader.proofs.reader.StreamReader.joined_chunks.Goals as goal
-
--- a payload of which so many bytes more are to come is within the quota too
-abbrev grown : PayloadLeft → ℕ → Awaited
-grown p n = awaits.Payload (record p { size = p.size + n; left = n })
-
-grows : (r : StreamReader) (p : PayloadLeft) (n : ℕ) → r.awaited ≡ awaits.Chunk p
-    → p.size + n ≤ r.quotas.payload → IsBounded r.decoder r.quotas r.awaited
-    → IsBounded r.decoder r.quotas (grown p n)
-grows r p n is fits b =
-    let size = ap size_of is in
-    let come = ap to_come is in
-    bounded_at r.quotas r.decoder r.awaited (grown p n) fits (omega (arith, size, come)) b
 
 pub feed-requires : goal.feed-requires
 feed-requires c = λ none.
-    may_take c.args.self.now.quotas c.args.self.now.decoder
-    (grown c.args.payload (length c.args.content.now)) (length c.args.content.now)
-    (∥∥₁_map c.args.self.now.bounded (grows c.args.self.now c.args.payload
-    (length c.args.content.now) c.requires.awaited c.requires.room)) (omega arith) none
-
-pub invariant_of-self : goal.invariant_of-self
-invariant_of-self c = record {
-  limits = c.args.self.now.limits;
-  bounded =
-      ∥∥₁_map c.args.self.now.bounded
-      (λ (b : IsBounded _ _ _). bounded_refused _ _ _ _ c.feed.ensures.settings b c.feed.result
-      c.feed.ensures.repeated c.feed.ensures.unchanged
-      (λ strings p stands. failed_within _ strings p _ c.feed.result c.in-Err.fault c.in-Err.is
-      (c.feed.ensures.failed strings p stands)));
-}
+    let few = c.requires.room.few none in
+    let most = ap (λ (l : Limits). l.payload) c.args.self.now.decodes in omega (arith, few, most)
 
 pub returns-in-Err-clause-refused : goal.returns-in-Err-clause-refused
 unfolding failure_of
@@ -59,22 +31,6 @@ returns-in-Err-clause-settings c = same_settings c.args.self.now c.refuse_payloa
 pub returns-clause-settings : goal.returns-clause-settings
 unfolding settings_of
 returns-clause-settings c = refl
-
-pub invariant_of-self-2 : goal.invariant_of-self-2
-invariant_of-self-2 c =
-    let small = c.args.self.now.quotas.good.payload_most in
-    let now_is = c.with_more.ensures (omega (arith, c.requires.room, small)) in
-    record {
-      limits = c.args.self.now.limits;
-      bounded =
-          ∥∥₁_map c.args.self.now.bounded
-          (λ (b : IsBounded _ _ _). bounded_fed _ _ _ _ c.feed.ensures.settings
-          (grows c.args.self.now c.args.payload (length c.args.content.now) c.requires.awaited
-          c.requires.room b) c.feed.result c.feed.ensures.repeated c.feed.ensures.unchanged
-          (awaits.Chunk c.with_more.result) c.args.content.now
-          (ap (λ (n : PayloadLeft). n.size) now_is) (omega arith) c.in_default.not-Err
-          c.feed.ensures.stands);
-    }
 
 -- what its quotas are
 session_is : (r : StreamReader) → (settings_of r).limits.session ≡ r.quotas.session
@@ -97,10 +53,12 @@ returns-in-Err-clause-answers c = λ p h.
     let quota = payload_is r in
     let content_size = ap length run.content_is in
     let run_size = ap length run.run_is in
+    let fits = c.requires.room.behind _ part.bytes part.stands_for in
+    let sized = chunk_size r x p h c.args.payload c.requires.awaited c.requires.between in
     subst (λ (bytes : List ℕ). UnitAnswers x p bytes c.refuse_payload.new.self
     (Err c.refuse_payload.result)) (sym run.run_is)
     (run_fails r x p h c.args.payload c.requires.awaited c.requires.between run.contents run.short
-    (omega (arith, c.requires.room, quota, content_size))
+    (omega (arith, fits, sized, quota, content_size))
     (omega (arith, c.requires.fits, h.taken, session, run_size)) c.refuse_payload.new.self
     c.refuse_payload.result
     (subst (λ (d : Decoder). decoder_settings d ≡ decoder_settings r.decoder) decoder
@@ -143,14 +101,16 @@ returns-clause-answers c = λ p h.
     let small = c.args.self.now.quotas.good.payload_most in
     let content_size = ap length run.content_is in
     let run_size = ap length run.run_is in
+    let fits = c.requires.room.behind _ part.bytes part.stands_for in
+    let sized = chunk_size r x p h c.args.payload c.requires.awaited c.requires.between in
     run_took r x p h c.args.payload c.requires.awaited c.requires.between run.contents run.short
-    (omega (arith, c.requires.room, quota, content_size))
+    (omega (arith, fits, sized, quota, content_size))
     (omega (arith, c.requires.fits, h.taken, session, run_size))
-    (omega (arith, c.requires.some, run_size))
+    (some_run run.contents (omega (arith, c.requires.some, content_size)))
     (subst (λ (b : List ℕ). FeedAnswers (decoder_settings r.decoder)
     (standing (stream x) p).situation.strings part.bytes b (Ok tt)) run.content_is
     (c.in_default.ensures.answers _ part.bytes part.stands_for)) _ c.with_more.result refl
-    (c.with_more.ensures (omega (arith, c.requires.room, small))
+    (c.with_more.ensures (omega (arith, fits, sized, small))
     ∙ ap (λ n. record c.args.payload { size = c.args.payload.size + n }) content_size)
     refl refl refl refl c.in_default.ensures.settings
     (subst (λ (b : List ℕ). DecoderStandsFor c.feed.new.self

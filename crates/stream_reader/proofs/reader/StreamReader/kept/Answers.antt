@@ -1,5 +1,4 @@
 use Rattle.std.proofs.Common.{◌≡◌, ℕ, ◌+◌, ◌≤◌, ◌⊎◌, List, length, ap, ◌∙◌, inl, inr, arith}
-use Rattle.std.proofs.Math.{Bridge.le_prop, Logic.∥∥₁_elim}
 use Rattle.nbfx_values.specs.{declared.limits.Kept.Kept, Limits.Limits, Measures.content_of}
 use Rattle.nmf_records.specs.declared.reader.TheConstants.{CONTENT_TYPE_LIMIT}
 use Rattle.nmf_records.specs.{Reader.limits_of as text_limits_of, RecordFronts.TextLimits}
@@ -10,7 +9,6 @@ use Rattle.nbfx_decoder.specs.DecoderState.{settings_of as decoder_settings}
 use Rattle.nbfx_decoder.specs.DecoderState.{StandsFor as DecoderStandsFor}
 use Rattle.nbfx_decoder.specs.DecoderState.{WhereItFailed as WhereDecoderFailed}
 use Rattle.nbfx_decoder.specs.DecoderState.{WhereItStands as WhereDecoderStands}
-use Rattle.stream_reader.specs.Bounds.{IsBounded}
 use Rattle.stream_reader.specs.StreamReaderState.{FailedBehind, held_of, settings_of, ShowsStrings}
 use Rattle.stream_reader.specs.StreamReaderState.{ShowsTable, StandsFor, texts_within}
 use Rattle.stream_reader.proofs.ReaderFacts.{comes_in, shows_in}
@@ -74,20 +72,16 @@ module _ (c : After-saturating_add) where
   shown_within strings h =
       let within = kept_within c.args.self.now.decoder c.kept-payload.result
       c.kept-payload.ensures.within c.kept-payload.ensures.failed strings h in (
-        ∥∥₁_elim c.args.self.now.bounded le_prop
-            (λ (b : IsBounded _ _ _). let payload = ap (λ
-            (l : Limits). l.payload) b.limits in omega (
-              arith,
-              within.0,
-              payload,
-              c.saturating_add.ensures,
-              c.held.ensures.within,
-              text_limit_is c.args.self.now,
-              type_limit_is c.args.self.now,
-            )),
-        ∥∥₁_elim c.args.self.now.bounded le_prop
-            (λ (b : IsBounded _ _ _). let content = ap (λ (l : Limits). l.content) b.limits in omega
-            (arith, within.1, content)),
+        omega (
+          arith,
+          within.0,
+          ap (λ (l : Limits). l.payload) c.args.self.now.decodes,
+          c.saturating_add.ensures,
+          c.held.ensures.within,
+          text_limit_is c.args.self.now,
+          type_limit_is c.args.self.now,
+        ),
+        omega (arith, within.1, ap (λ (l : Limits). l.content) c.args.self.now.decodes),
       )
 
 pub returns-clause-within : goal.returns-clause-within

@@ -2,13 +2,12 @@ use Rattle.std.proofs.Common.{◌≡◌, false, [], sym, refl, ap, ◌∙◌, ar
 use Rattle.unit_streams.specs.{Grammar.Standing, Judging.is_over_at}
 use Rattle.nbfx_values.specs.{declared.refusals.Offence.Offence, QuotasOf.limits_of}
 use Rattle.nmf_records.specs.{RecordFronts.content_type, RecordFronts.via_or_fault, Script.first}
-use Rattle.nmf_records.specs.Script.{may_come}
-use Rattle.nbfx_decoder.specs.Payload.{Settings as PayloadSettings}
 use Rattle.stream_reader.specs.{Sides.side_of, Stream.stream, Stream.StreamEvent}
-use Rattle.stream_reader.specs.Stream.{beginning, direction_of, payloads, Settings, Situation}
+use Rattle.stream_reader.specs.Stream.{beginning, payloads, Settings, Situation}
 use Rattle.stream_reader.specs.StreamReaderState.{settings_of, StandsFor}
-use Rattle.stream_reader.proofs.{Bounded.bounded_new, Ending.first_on}
+use Rattle.stream_reader.proofs.{Ending.first_on}
 use Rattle.stream_reader.proofs.{Grammar.readable, ReaderFacts.stands_first}
+use Rattle.stream_reader.specs.declared.awaited.Awaited.TheVariants as awaits
 use Rattle.stream_reader.proofs.reader.StreamReader.new.Goals as goal
 
 -- no stream is over before its first byte
@@ -32,14 +31,14 @@ returns-clause-stands c =
     let due = c.first.ensures ∙ ap first c.direction.ensures in
     record {
       at = rw e (record {
-        awaits = due;
+        awaits = ap awaits.Record due;
         mode = c.mode.ensures;
         kind = c.kind-kind.ensures;
         messages = refl;
         decodes = decoder.settings ∙ ap (payloads x) c.kind-kind.ensures;
         payload = decoder.stands;
       });
-      frames = rw e (c.in_ok-new.ensures.stands (may_come (direction_of x.side) c.first.result));
+      frames = rw e (c.in_ok-new.ensures.stands _);
       text = rw e (c.in_ok-new.ensures.text via_or_fault);
       type = ([], c.in_ok-new.ensures.text content_type);
       unit_from = sym (ap (λ (s : Standing Situation StreamEvent Offence). s.from) e);
@@ -53,8 +52,3 @@ returns-clause-stands c =
 pub returns-clause-settings : goal.returns-clause-settings
 unfolding settings_of
 returns-clause-settings c = refl
-
-pub invariant_of-result-clause-bounded : goal.invariant_of-result-clause-bounded
-invariant_of-result-clause-bounded c =
-    let limits = ap (λ (s : PayloadSettings). s.limits) c.new-2.ensures.settings in
-    ∣ bounded_new _ _ _ limits c.new-2.ensures.stands (omega arith) (omega arith) ∣₁

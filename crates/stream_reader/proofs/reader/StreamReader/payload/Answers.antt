@@ -1,40 +1,32 @@
 use Rattle.std.proofs.Common.{◌≡◌, ℕ, ◌+◌, ◌^◌, ◌<◌, ◌≤◌, min, List, length, take, sym, refl, ap}
 use Rattle.std.proofs.Common.{◌∙◌, subst, arith, length-take-le}
-use Rattle.std.proofs.{Math.Logic.∥∥₁_map, lemmas.Result.err_from_is_err_and}
+use Rattle.std.proofs.lemmas.Result.{err_from_is_err_and}
 use Rattle.unit_streams.specs.Grammar.{standing}
 use Rattle.nbfx_decoder.specs.declared.decoder.Decoder.{Decoder}
 use Rattle.nbfx_decoder.specs.DecoderState.{FailedWithin, settings_of as decoder_settings}
+use Rattle.nbfx_decoder.specs.DecoderState.{WhereItStands as WhereDecoderStands}
+use Rattle.nbfx_values.specs.Limits.{Limits}
 use Rattle.stream_reader.specs.declared.awaited.PayloadLeft.{PayloadLeft}
 use Rattle.stream_reader.specs.declared.reader.StreamReader.{StreamReader}
 use Rattle.stream_reader.specs.declared.reader.StreamStep.TheVariants.{More}
-use Rattle.stream_reader.specs.Bounds.{IsBounded, size_of, to_come}
 use Rattle.stream_reader.specs.Stream.{Settings, stream}
 use Rattle.stream_reader.specs.StreamReaderState.{failure_of, Reached, settings_of, StandsFor}
-use Rattle.stream_reader.proofs.Bounded.{bounded_fed, bounded_refused, failed_within, may_take}
 use Rattle.stream_reader.proofs.PayloadFeeds.{feed_behind, feed_fails, feed_took, found}
 use Rattle.stream_reader.proofs.PayloadFeeds.{has_decoded, more_left, own}
 use Rattle.stream_reader.proofs.{PayloadSteps.decoded_as, Situations.messages_within}
 use Rattle.stream_reader.proofs.ReaderFacts.{failure_as, same_settings}
-use Rattle.stream_reader.proofs.reader.StreamReader.payload.Goals.{After-feed}
 use Rattle.stream_reader.specs.declared.awaited.Awaited.TheVariants as awaits
 use Rattle.stream_reader.proofs.reader.StreamReader.payload.Goals as goal
 
+-- so many bytes are taken, where there may be some
 pub feed-requires : goal.feed-requires
 feed-requires c = λ none.
-    let n = length-take-le c.min-n.result c.args.bytes.now (omega (arith, c.min-n.ensures)) in
-    let come : to_come c.args.self.now.awaited ≡ c.args.payload.left = ap to_come c.requires.awaited
-    in
-    may_take c.args.self.now.quotas c.args.self.now.decoder c.args.self.now.awaited
-    (length (take c.min-n.result c.args.bytes.now)) c.args.self.now.bounded
-    (omega (arith, c.min-n.ensures, n, come)) none
-
-pub invariant_of-self-clause-bounded : goal.invariant_of-self-clause-bounded
-invariant_of-self-clause-bounded c =
-    ∥∥₁_map c.args.self.now.bounded
-    (λ (b : IsBounded _ _ _). bounded_refused _ _ _ _ c.feed.ensures.settings b c.feed.result
-    c.feed.ensures.repeated c.feed.ensures.unchanged
-    (λ strings p stands. failed_within _ strings p _ c.feed.result c.in-Err.fault c.in-Err.is
-    (c.feed.ensures.failed strings p stands)))
+    let n = length-take-le c.min-n.result c.args.bytes.now
+    (omega (arith, c.min-n.ensures, c.min-most.ensures)) in
+    let may = c.payload_room.ensures.may c.min-n.result (omega (arith, c.if-n-eq0.false))
+    (omega (arith, c.min-n.ensures)) in
+    let few = may.few none in
+    let most = ap (λ (l : Limits). l.payload) c.args.self.now.decodes in omega (arith, n, few, most)
 
 pub returns-in-Err-clause-refused : goal.returns-in-Err-clause-refused
 unfolding failure_of
@@ -65,21 +57,14 @@ returns-clause-settings c =
     same_settings c.args.self.now c.behind_last.new.self (then.side ∙ first.side)
     (then.statics ∙ first.statics) (then.quotas ∙ first.quotas)
 
-pub invariant_of-self-2-clause-bounded : goal.invariant_of-self-2-clause-bounded
-invariant_of-self-2-clause-bounded c =
-    let n = length-take-le c.min-n.result c.args.bytes.now (omega (arith, c.min-n.ensures)) in
-    let come : to_come c.args.self.now.awaited ≡ c.args.payload.left = ap to_come c.requires.awaited
-    in
-    let size = sym (ap size_of c.requires.awaited) in
-    ∥∥₁_map c.args.self.now.bounded
-    (λ (b : IsBounded _ _ _). bounded_fed _ _ _ _ c.feed.ensures.settings b c.feed.result
-    c.feed.ensures.repeated c.feed.ensures.unchanged _ (take c.min-n.result c.args.bytes.now) size
-    (omega (arith, c.min-n.ensures, n, come)) c.in_default.not-Err c.feed.ensures.stands)
-
 -- what is known before the bytes are fed
 session_is : (r : StreamReader) → (settings_of r).limits.session ≡ r.quotas.session
 unfolding settings_of
 session_is r = refl
+
+payload_is : (r : StreamReader) → (settings_of r).limits.payload ≡ r.quotas.payload
+unfolding settings_of
+payload_is r = refl
 
 few_messages : (r : StreamReader) (p : List ℕ) → Reached r (settings_of r) p
     → (standing (stream (settings_of r)) p).situation.messages + 1 < 2 ^ 64
@@ -97,8 +82,10 @@ returns-in-Err-clause-answers c = λ p h.
     let decoder = sym c.refuse_payload.ensures.shown.decoder in
     let session = session_is r in
     feed_fails r x p h c.args.payload c.requires.awaited c.args.bytes.now n
-    (omega (arith, c.min-n.ensures)) (omega (arith, c.min-n.ensures))
-    (omega (arith, c.min-n.ensures, c.requires.fits, h.taken, session)) c.refuse_payload.new.self
+    (omega (arith, c.min-n.ensures, c.min-most.ensures))
+    (omega (arith, c.min-n.ensures, c.min-most.ensures))
+    (omega (arith, c.min-n.ensures, c.min-most.ensures, c.requires.fits, h.taken, session))
+    c.refuse_payload.new.self
     c.refuse_payload.result
     (subst (λ (d : Decoder). decoder_settings d ≡ decoder_settings r.decoder) decoder
     c.in-Err.ensures.settings) c.refuse_payload.ensures.failure
@@ -119,22 +106,40 @@ returns-in-Err-clause-answers c = λ p h.
       most,
     ))
 
--- bytes that the decoder has taken are behind it
+-- how many bytes are taken
 module _ (r : StreamReader) (left : PayloadLeft) (is : r.awaited ≡ awaits.Payload left) (c : List ℕ)
-    (n : ℕ) (least : n ≡ min (length c) left.left) (some : 0 < length c)
-    (fits : r.taken + length c ≤ r.quotas.session) where
-  some_read : (p : List ℕ) → Reached r (settings_of r) p → 0 < n
-  some_read p h = let o = found r (settings_of r) p h left is in let more = more_left r
-      (settings_of r) p h left is in let same = o.2.left in omega (arith, least, some, same, more)
+    (most room n : ℕ) (up_to : most ≡ min (length c) left.left) (least : n ≡ min most room)
+    (some : 0 < length c) (fits : r.taken + length c ≤ r.quotas.session) where
+  some_read : WhereDecoderStands r.decoder (λ strings bytes. r.quotas.payload ≤ length bytes + room)
+      → (p : List ℕ) → Reached r (settings_of r) p → 0 < n
+  some_read all p h =
+      let o = found r (settings_of r) p h left is in
+      let more = more_left r (settings_of r) p h left is in
+      let part = own r (settings_of r) p h left is in
+      let same = ap (λ (n : PayloadLeft). n.left) o.2 in
+      let low = part.within in
+      let counted = part.counted in
+      let enough = all _ part.bytes part.stands_for in
+      let payload = payload_is r in
+      omega (arith, least, up_to, some, same, more, low, counted, enough, payload)
 
   within : n ≤ length c
-  within = omega (arith, least)
+  within = omega (arith, least, up_to)
 
   few : n ≤ left.left
-  few = omega (arith, least)
+  few = omega (arith, least, up_to)
 
   short : (p : List ℕ) → Reached r (settings_of r) p → length p + n ≤ (settings_of r).limits.session
-  short p h = let session = session_is r in omega (arith, least, fits, h.taken, session)
+  short p h =
+      let session = session_is r in omega (arith, least, up_to, fits, h.taken, session)
+
+pub returns-then-n-eq0-clause-answers : goal.returns-then-n-eq0-clause-answers
+unfolding StandsFor
+returns-then-n-eq0-clause-answers c = λ p h.
+    let some = some_read c.args.self.now c.args.payload c.requires.awaited c.args.bytes.now
+    c.min-most.result c.payload_room.result c.min-n.result c.min-most.ensures c.min-n.ensures
+    c.requires.some c.requires.fits c.payload_room.ensures.all p h in
+    absurd (omega (arith, some, c.if-n-eq0.true))
 
 pub returns-then-awaits_more-clause-answers : goal.returns-then-awaits_more-clause-answers
 unfolding StandsFor
@@ -145,16 +150,15 @@ returns-then-awaits_more-clause-answers c = λ p h.
     let left : PayloadLeft = c.args.payload in
     let bytes : List ℕ = c.args.bytes.now in
     let own_is = own r x p h left c.requires.awaited in
-    let few_bytes = few r left c.requires.awaited bytes n c.min-n.ensures c.requires.some
-    c.requires.fits in
-    let within_bytes = within r left c.requires.awaited bytes n c.min-n.ensures c.requires.some
-    c.requires.fits in
-    let short_of = short r left c.requires.awaited bytes n c.min-n.ensures c.requires.some
-    c.requires.fits p h in
-    let some = some_read r left c.requires.awaited bytes n c.min-n.ensures c.requires.some
-    c.requires.fits p h in
+    let few_bytes = few r left c.requires.awaited bytes _ _ n c.min-most.ensures c.min-n.ensures
+    c.requires.some c.requires.fits in
+    let within_bytes = within r left c.requires.awaited bytes _ _ n c.min-most.ensures
+    c.min-n.ensures c.requires.some c.requires.fits in
+    let short_of = short r left c.requires.awaited bytes _ _ n c.min-most.ensures c.min-n.ensures
+    c.requires.some c.requires.fits p h in
+    let some : 0 < n = omega (arith, c.if-n-eq0.false) in
     let decoded = has_decoded r x p h left c.requires.awaited bytes n within_bytes few_bytes
-    short_of _ _ refl refl refl refl refl refl refl c.in_default.ensures.settings
+    short_of _ _ refl refl refl refl c.in_default.ensures.settings
     (c.in_default.ensures.stands _ own_is.bytes own_is.stands_for) (few_messages r p h) in
     feed_took r x p h left c.requires.awaited bytes n within_bytes few_bytes short_of some
     (c.in_default.ensures.answers _ own_is.bytes own_is.stands_for) c.awaits_more.new.self
@@ -171,16 +175,15 @@ returns-in_err-step-clause-answers c = λ p h.
     let left : PayloadLeft = c.args.payload in
     let bytes : List ℕ = c.args.bytes.now in
     let own_is = own r x p h left c.requires.awaited in
-    let few_bytes = few r left c.requires.awaited bytes n c.min-n.ensures c.requires.some
-    c.requires.fits in
-    let within_bytes = within r left c.requires.awaited bytes n c.min-n.ensures c.requires.some
-    c.requires.fits in
-    let short_of = short r left c.requires.awaited bytes n c.min-n.ensures c.requires.some
-    c.requires.fits p h in
-    let some = some_read r left c.requires.awaited bytes n c.min-n.ensures c.requires.some
-    c.requires.fits p h in
+    let few_bytes = few r left c.requires.awaited bytes _ _ n c.min-most.ensures c.min-n.ensures
+    c.requires.some c.requires.fits in
+    let within_bytes = within r left c.requires.awaited bytes _ _ n c.min-most.ensures
+    c.min-n.ensures c.requires.some c.requires.fits in
+    let short_of = short r left c.requires.awaited bytes _ _ n c.min-most.ensures c.min-n.ensures
+    c.requires.some c.requires.fits p h in
+    let some : 0 < n = omega (arith, c.if-n-eq0.false) in
     let decoded = has_decoded r x p h left c.requires.awaited bytes n within_bytes few_bytes
-    short_of _ _ refl refl refl refl refl refl refl c.in_default.ensures.settings
+    short_of _ _ refl refl refl refl c.in_default.ensures.settings
     (c.in_default.ensures.stands _ own_is.bytes own_is.stands_for) (few_messages r p h) in
     let told = err_from_is_err_and c.from_residual.result c.from_residual.ensures.1 in
     let first = c.awaits_more.ensures.keeps in
@@ -202,16 +205,15 @@ returns-clause-answers c = λ p h.
     let left : PayloadLeft = c.args.payload in
     let bytes : List ℕ = c.args.bytes.now in
     let own_is = own r x p h left c.requires.awaited in
-    let few_bytes = few r left c.requires.awaited bytes n c.min-n.ensures c.requires.some
-    c.requires.fits in
-    let within_bytes = within r left c.requires.awaited bytes n c.min-n.ensures c.requires.some
-    c.requires.fits in
-    let short_of = short r left c.requires.awaited bytes n c.min-n.ensures c.requires.some
-    c.requires.fits p h in
-    let some = some_read r left c.requires.awaited bytes n c.min-n.ensures c.requires.some
-    c.requires.fits p h in
+    let few_bytes = few r left c.requires.awaited bytes _ _ n c.min-most.ensures c.min-n.ensures
+    c.requires.some c.requires.fits in
+    let within_bytes = within r left c.requires.awaited bytes _ _ n c.min-most.ensures
+    c.min-n.ensures c.requires.some c.requires.fits in
+    let short_of = short r left c.requires.awaited bytes _ _ n c.min-most.ensures c.min-n.ensures
+    c.requires.some c.requires.fits p h in
+    let some : 0 < n = omega (arith, c.if-n-eq0.false) in
     let decoded = has_decoded r x p h left c.requires.awaited bytes n within_bytes few_bytes
-    short_of _ _ refl refl refl refl refl refl refl c.in_default.ensures.settings
+    short_of _ _ refl refl refl refl c.in_default.ensures.settings
     (c.in_default.ensures.stands _ own_is.bytes own_is.stands_for) (few_messages r p h) in
     let first = c.awaits_more.ensures.keeps in
     let then = c.in_ok-step.ensures.keeps in

@@ -4,15 +4,14 @@ use Rattle.nbfx_values.specs.QuotasOf.{limits_of}
 use Rattle.nmf_records.specs.declared.{frame.Frame.Frame}
 use Rattle.nmf_records.specs.{Reader.ShowsText as FramesShowText, RecordFronts.text_kind}
 use Rattle.nmf_records.specs.Writing.{has_text}
-use Rattle.stream_reader.specs.declared.{awaited.Awaited.Awaited, reader.StreamReader.StreamReader}
+use Rattle.stream_reader.specs.declared.{reader.StreamReader.StreamReader}
 use Rattle.stream_reader.specs.{Sides.side_of, Stepping.size_before_of}
 use Rattle.stream_reader.specs.Stream.{chunk_due, is_binary_type, payload_open, reason_in}
 use Rattle.stream_reader.specs.Stream.{record_due, serves}
 use Rattle.stream_reader.specs.Stream.{size_before, Stage, too_large}
-use Rattle.stream_reader.specs.StreamReaderState.{Awaits, settings_of}
+use Rattle.stream_reader.specs.StreamReaderState.{awaited_at, settings_of}
 use Rattle.nbfx_values.specs.declared.refusals.Reason.TheVariants as reasons
 use Rattle.nmf_records.specs.declared.frame.Frame.TheVariants as frames
-use Rattle.stream_reader.specs.declared.awaited.Awaited.TheVariants as awaits
 use Rattle.stream_reader.proofs.reader.StreamReader.reason_in.Goals as goal
 
 -- what it is set to
@@ -38,16 +37,10 @@ shown_as r f g text shown is has =
     (shown (ap has_text is ∙ has))
 
 -- the bytes of a payload before a chunk
-before_as : (a : Awaited) (stage : Stage) → Awaits a stage → size_before_of a ≡ size_before stage
-before_as (awaits.Record due) (record_due other) is = refl
-before_as (awaits.Record due) (chunk_due o) is = absurd is
-before_as (awaits.Record due) (payload_open o) is = absurd is
-before_as (awaits.Chunk p) (record_due due) is = absurd is
-before_as (awaits.Chunk p) (chunk_due o) is = is.size
-before_as (awaits.Chunk p) (payload_open o) is = absurd is
-before_as (awaits.Payload p) (record_due due) is = absurd is
-before_as (awaits.Payload p) (chunk_due o) is = absurd is
-before_as (awaits.Payload p) (payload_open o) is = refl
+before_as : (stage : Stage) → size_before_of (awaited_at stage) ≡ size_before stage
+before_as (record_due due) = refl
+before_as (chunk_due o) = refl
+before_as (payload_open o) = refl
 
 pub returns-in-Via : goal.returns-in-Via
 returns-in-Via c = λ stage text awaits shown.
@@ -90,7 +83,7 @@ returns-in-SizedEnvelope c = λ stage text awaits shown.
 pub returns-in-Chunk : goal.returns-in-Chunk
 returns-in-Chunk c = λ stage text awaits shown.
     let before = c.from-in-Chunk.ensures ∙ c.size_before.ensures
-    ∙ before_as c.args.self.now.awaited stage awaits in
+    ∙ ap size_before_of awaits ∙ before_as stage in
     c.too_large-in-Chunk.ensures (settings_of c.args.self.now) (limits_are c.args.self.now)
     ∙ ap (λ n. too_large (settings_of c.args.self.now) (n + c.from-in-Chunk-2.result)) before
     ∙ ap (λ n. too_large (settings_of c.args.self.now) (size_before stage + n))

@@ -117,7 +117,7 @@ module _ (f : After-feed) (p : List ℕ) where
         → placed.frames ≡ f.feed.new.self → IsDue placed x z read text
     is_due read text n there {placed} awaited mode kind messages decoder frames = record {
       at = record {
-        awaits = rw awaited h.at.awaits;
+        awaits = awaited ∙ h.at.awaits;
         mode = mode ∙ h.at.mode;
         kind = kind ∙ h.at.kind;
         messages = messages ∙ h.at.messages;

@@ -1,14 +1,8 @@
-use Rattle.std.proofs.{Common.refl, Common.◌∙◌, Math.Logic.∥∥₁_map}
-use Rattle.stream_reader.{specs.Bounds.IsBounded, proofs.Bounded.bounded_reused}
+use Rattle.std.proofs.{Common.refl, Common.◌∙◌}
 use Rattle.stream_reader.specs.StreamReaderState.{FailedBehind, failure_of, messages_of, taken_of}
 use Rattle.stream_reader.specs.StreamReaderState.{settings_of, ShowsStrings, ShowsText, StandsFor}
 use Rattle.stream_reader.proofs.ReaderFacts.{reads_too, shows_too}
 use Rattle.stream_reader.proofs.reader.StreamReader.reuse.Goals as goal
-
-pub invariant_of-self-clause-bounded : goal.invariant_of-self-clause-bounded
-invariant_of-self-clause-bounded c =
-    ∥∥₁_map c.args.self.now.bounded (λ (b : IsBounded _ _ _). bounded_reused _ _ _ _
-    c.reuse.ensures.settings b c.reuse.ensures.stands c.reuse.ensures.failed)
 
 pub returns-clause-stands : goal.returns-clause-stands
 unfolding StandsFor settings_of

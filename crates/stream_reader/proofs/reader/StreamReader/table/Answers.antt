@@ -1,7 +1,6 @@
 use Rattle.std.proofs.Common.{◌≡◌, ℕ, ◌≤◌, ◌⊎◌, List, sym, ap, ◌∙◌, subst, inl, inr}
-use Rattle.std.proofs.Math.{Bridge.le_prop, Logic.∥∥₁_elim}
 use Rattle.{string_tables.specs.SessionStrings.used_cost, nbfx_values.specs.Limits.Limits}
-use Rattle.{session_dictionary.specs.Strings.LimitedStrings, stream_reader.specs.Bounds.IsBounded}
+use Rattle.{session_dictionary.specs.Strings.LimitedStrings}
 use Rattle.nbfx_decoder.specs.declared.{decoder.Decoder.Decoder, faults.DecodeFault.DecodeFault}
 use Rattle.nbfx_decoder.specs.DecoderState.{FailedBehind as DecoderFailedBehind}
 use Rattle.nbfx_decoder.specs.DecoderState.{StandsFor as DecoderStandsFor, table_at}
@@ -47,11 +46,9 @@ module _ (c : After-table) where
   shown_within strings h =
       let same = has_strings c.args.self.now.decoder _ c.table.ensures.strings
       c.table.ensures.failed strings h in
-      ∥∥₁_elim c.args.self.now.bounded le_prop
-      (λ (b : IsBounded _ _ _).
       subst (λ (s : List (List ℕ)). used_cost s ≤ (settings_of c.args.self.now).limits.dictionary)
       (sym same)
-      (subst (λ (l : Limits). used_cost strings ≤ l.dictionary) b.limits h.within))
+      (subst (λ (l : Limits). used_cost strings ≤ l.dictionary) c.args.self.now.decodes h.within)
 
 pub returns-clause-within : goal.returns-clause-within
 unfolding StandsFor ShowsStrings
