@@ -60,9 +60,7 @@ measured_unasked serves limits version action relates body unfit =
     by : (what : Served) → IsTooLarge limits what
         → IsMeasured limits (answer_by version action relates what) (TooLarge relates version)
     by (said.Reply content) h = too_large limits version action relates content h
-    by said.Nothing h = absurd h
-    by said.Unknown h = absurd h
-    by (said.Refuse reason) h = absurd h
+    by what h = absurd h
 
 -- an answer that is measured is the one that the plan leads to
 pub measured_asked : (serves : Serves) (limits : Limits) (doc : List Item) (version : Addressing)

@@ -19,8 +19,7 @@ files : AllRead (
     ∷ (codes "action,text\nurn:echo,ok\n", (codes "urn:echo", codes "ok") ∷ [])
     ∷ (
       codes "action,text\nurn:b,two\nurn:a,one",
-      (codes "urn:a", codes "one")
-          ∷ (codes "urn:b", codes "two") ∷ [],
+      (codes "urn:a", codes "one") ∷ (codes "urn:b", codes "two") ∷ [],
     )
     ∷ (codes "\"action\",text\r\n\r\n\"\",\"a, \"\"b\"\"\"\r\n", ([], codes "a, \"b\"") ∷ [])
     ∷ (0xEF ∷ 0xBB ∷ 0xBF ∷ codes "action,text\nurn:a,\n", (codes "urn:a", []) ∷ [])

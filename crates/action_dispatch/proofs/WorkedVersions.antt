@@ -1,42 +1,35 @@
 -- Worked cases: requests of the older version of addressing, and of both.
-use Rattle.std.proofs.Common.{◌≡◌, List, [], ◌∷◌, ◌++◌, codes, refl}
-use Rattle.nbfx_values.specs.declared.content.Item.{Item}
-use Rattle.nbfx_values.specs.declared.content.Item.TheVariants.{Close, Start, Xmlns}
-use Rattle.soap_envelope.proofs.Documents.{action, addressing_action, aged, attribute, echo, fault}
-use Rattle.soap_envelope.proofs.Documents.{hi, identified, message, must, older, older_action}
-use Rattle.soap_envelope.proofs.Documents.{related, reply, s, secured, soap_action, subcode}
-use Rattle.soap_envelope.proofs.OnLiterals.{envelopes_on_literals}
-use Rattle.soap_envelope.specs.declared.versions.Addressing.TheVariants.{V10, V200408}
+use Rattle.std.proofs.Common.{List, [], refl, ◌++◌, ◌∷◌, ◌≡◌}
+use Rattle.action_dispatch.proofs.{Requests.reply_to, Requests.request, Worked.AllAnswered}
 use Rattle.action_dispatch.specs.declared.answers.Answer.TheVariants.{Nothing, Reply}
 use Rattle.action_dispatch.specs.{Refusals.unfit_fault, Services.echoed}
-use Rattle.action_dispatch.proofs.{Requests.reply_to, Requests.request, Worked.AllAnswered}
+use Rattle.nbfx_values.specs.declared.content.Item.{Item}
+use Rattle.soap_envelope.proofs.Documents.{action, addressing_action, aged, echo, fault, hi}
+use Rattle.soap_envelope.proofs.Documents.{identified, invalid, message, must, older, older_action}
+use Rattle.soap_envelope.proofs.Documents.{related, reply, secured, soap_action, subcode, unknown}
+use Rattle.soap_envelope.proofs.OnLiterals.{envelopes_on_literals}
+use Rattle.soap_envelope.specs.declared.versions.Addressing.TheVariants.{V10, V200408}
 
 anonymous : List Item
-anonymous = reply_to (codes "http://www.w3.org/2005/08/addressing/anonymous")
+anonymous = reply_to "http://www.w3.org/2005/08/addressing/anonymous"
 
 older_anonymous : List Item
-older_anonymous = reply_to (codes "http://schemas.xmlsoap.org/ws/2004/08/addressing/role/anonymous")
+older_anonymous = reply_to "http://schemas.xmlsoap.org/ws/2004/08/addressing/role/anonymous"
 
 nobody : List Item
-nobody = reply_to (codes "http://www.w3.org/2005/08/addressing/none")
+nobody = reply_to "http://www.w3.org/2005/08/addressing/none"
 
 -- a request is answered in its version, whose anonymous address alone is served
 echoed_again : List Item
-echoed_again = reply (codes "urn:echoResponse") hi
+echoed_again = reply "urn:echoResponse" hi
 
 elsewhere : List Item
-elsewhere =
-    fault older_action related (codes "s:Sender")
-    (subcode (codes "a:InvalidAddressingHeader")
-    (subcode (codes "a:OnlyAnonymousAddressSupported") []))
-    (codes "Only the anonymous reply address is supported.")
+elsewhere = fault older_action related "s:Sender" (invalid "a:OnlyAnonymousAddressSupported")
+    "Only the anonymous reply address is supported."
 
 elsewhere_now : List Item
-elsewhere_now =
-    fault addressing_action related (codes "s:Sender")
-    (subcode (codes "a:InvalidAddressingHeader")
-    (subcode (codes "a:OnlyAnonymousAddressSupported") []))
-    (codes "Only the anonymous reply address is supported.")
+elsewhere_now = fault addressing_action related "s:Sender"
+    (invalid "a:OnlyAnonymousAddressSupported") "Only the anonymous reply address is supported."
 
 served : AllAnswered echoed (
     (aged echo, Reply (aged echoed_again) identified V200408)
@@ -55,53 +48,36 @@ served = refl
 
 -- a block of the other version isn't understood where it must be, and doesn't count
 other_reply_to : List Item
-other_reply_to =
-    fault soap_action
-    (related ++ s (codes "NotUnderstood")
-    (Xmlns (codes "n") (codes "http://schemas.xmlsoap.org/ws/2004/08/addressing")
-    ∷ attribute [] (codes "qname") (codes "n:ReplyTo") ∷ []))
-    (codes "s:MustUnderstand") [] (codes "A header block was not understood.")
+other_reply_to = fault soap_action
+    (related ++ unknown "http://schemas.xmlsoap.org/ws/2004/08/addressing" "n:ReplyTo")
+    "s:MustUnderstand" [] "A header block was not understood."
 
 other_action : List Item
-other_action =
-    fault older_action
-    (s (codes "NotUnderstood")
-    (Xmlns (codes "n") (codes "http://www.w3.org/2005/08/addressing")
-    ∷ attribute [] (codes "qname") (codes "n:Action") ∷ []))
-    (codes "s:MustUnderstand") [] (codes "A header block was not understood.")
+other_action = fault older_action (unknown "http://www.w3.org/2005/08/addressing" "n:Action")
+    "s:MustUnderstand" [] "A header block was not understood."
 
 mixed : AllAnswered echoed ((
-  request (action ++ message ++ older (codes "ReplyTo") (must (codes "1") ∷ [])),
+  request (action ++ message ++ older "ReplyTo" (must "1" ∷ [])),
   Reply other_reply_to identified V10,
 )
-    ∷ (
-      request (action ++ message ++ older (codes "ReplyTo") []),
-      Reply echoed_again identified V10,
-    )
-    ∷ (request (older (codes "To") [] ++ action), Reply (aged other_action) [] V200408)
+    ∷ (request (action ++ message ++ older "ReplyTo" []), Reply echoed_again identified V10)
+    ∷ (request (older "To" [] ++ action), Reply (aged other_action) [] V200408)
     ∷ [])
 unfolding envelopes_on_literals echoed_again other_reply_to other_action
 mixed = refl
 
 -- other refusals of the older version, and one of a document without a view, which is in 1.0
 no_action : List Item
-no_action =
-    fault older_action related (codes "s:Sender")
-    (subcode (codes "a:MessageAddressingHeaderRequired") [])
-    (codes "The Action header is required.")
+no_action = fault older_action related "s:Sender" (subcode "a:MessageAddressingHeaderRequired" [])
+    "The Action header is required."
 
 not_understood : List Item
-not_understood =
-    fault older_action
-    (related ++ s (codes "NotUnderstood")
-    (Xmlns (codes "n") (codes "urn:t") ∷ attribute [] (codes "qname") (codes "n:Sec") ∷ []))
-    (codes "s:MustUnderstand") [] (codes "A header block was not understood.")
+not_understood = fault older_action (related ++ unknown "urn:t" "n:Sec") "s:MustUnderstand" []
+    "A header block was not understood."
 
 repeated : List Item
-repeated =
-    fault addressing_action [] (codes "s:Sender")
-    (subcode (codes "a:InvalidAddressingHeader") (subcode (codes "a:InvalidCardinality") []))
-    (codes "An addressing header is repeated.")
+repeated = fault addressing_action [] "s:Sender" (invalid "a:InvalidCardinality")
+    "An addressing header is repeated."
 
 refused : AllAnswered echoed (
     (aged (request message), Reply (aged no_action) identified V200408)
@@ -115,7 +91,7 @@ unfolding envelopes_on_literals no_action not_understood repeated
 refused = refl
 
 does_not_fit : List Item
-does_not_fit = fault older_action related (codes "s:Receiver") [] (codes "The reply does not fit.")
+does_not_fit = fault older_action related "s:Receiver" [] "The reply does not fit."
 
 unfit : unfit_fault V200408 identified ≡ aged does_not_fit
 unfolding envelopes_on_literals does_not_fit

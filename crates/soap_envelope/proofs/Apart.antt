@@ -7,6 +7,7 @@ use Rattle.std.proofs.lemmas.{Cmp.nat_list_cmp_total, Map.Lookups.exact_bytes}
 use Rattle.std.specs.{Cmp.Lexicographic.slice_cmp, List.list_all, Ordering.ordering_reverse}
 use Rattle.soap_envelope.specs.Body.{in_scope, placed, put, put_all}
 use Rattle.soap_envelope.specs.Scopes.{Declaration, Scope, uri_in}
+use Rattle.soap_envelope.proofs.Usual.{all-put}
 
 -- whether some declaration is of a prefix
 abbrev pub has : List Declaration → List ℕ → Bool
@@ -45,13 +46,13 @@ lacks-filter f (d ∷ ds) p h = elim (cases_Bool (bytes_eq d.prefix p)) [
       ]
 ]
 
-lacked : (a b : Bool) → (not a && b) ≡ true → (a ≡ false) × (b ≡ true)
-lacked true b h = absurd cc
-lacked false b h = (refl, h)
+pub refuted : (a b : Bool) → (not a && b) ≡ true → (a ≡ false) × (b ≡ true)
+refuted true b h = absurd cc
+refuted false b h = (refl, h)
 
 pub apart-parts : (d : Declaration) (ds : List Declaration) → are_apart (d ∷ ds) ≡ true
     → (has ds d.prefix ≡ false) × (are_apart ds ≡ true)
-apart-parts d ds h = lacked (has ds d.prefix) (are_apart ds) h
+apart-parts d ds h = refuted (has ds d.prefix) (are_apart ds) h
 
 pub apart-filter : (f : Declaration → Bool) (ds : List Declaration) → are_apart ds ≡ true
     → are_apart (filter f ds) ≡ true
@@ -88,20 +89,6 @@ above-lower p q (d ∷ ds) h k =
     let less = nat_list_cmp_total.trans p q d.prefix h (is_lt-is (order q d.prefix) r.0) in
     rw less (above-lower p q ds h r.1)
 
-above-placed : (p : List ℕ) (o : Ordering) (d e : Declaration) (more behind : List Declaration)
-    → is_above p d ≡ true → is_above p e ≡ true → list_all (is_above p) more ≡ true
-    → list_all (is_above p) behind ≡ true → list_all (is_above p) (placed o d e more behind) ≡ true
-above-placed p Less d e more behind h k m b = rw (h, k) m
-above-placed p Equal d e more behind h k m b = rw h m
-above-placed p Greater d e more behind h k m b = rw k b
-
-above-put : (p : List ℕ) (d : Declaration) (ds : List Declaration) → is_above p d ≡ true
-    → list_all (is_above p) ds ≡ true → list_all (is_above p) (put d ds) ≡ true
-above-put p d [] h k = rw h refl
-above-put p d (e ∷ ds) h k =
-    let r = and_parts (is_above p e) (list_all (is_above p) ds) k in
-    above-placed p (order d.prefix e.prefix) d e ds (put d ds) h r.0 r.1 (above-put p d ds h r.1)
-
 ascend-placed : (o : Ordering) (d e : Declaration) (more behind : List Declaration)
     → o ≡ order d.prefix e.prefix → list_all (is_above e.prefix) more ≡ true → ascend more ≡ true
     → (is_above e.prefix d ≡ true → list_all (is_above e.prefix) behind ≡ true)
@@ -120,7 +107,7 @@ ascend-put d [] h = refl
 ascend-put d (e ∷ ds) h =
     let r = and_parts (list_all (is_above e.prefix) ds) (ascend ds) h in
     ascend-placed (order d.prefix e.prefix) d e ds (put d ds) refl r.0 r.1
-    (λ k. above-put e.prefix d ds k r.0) (ascend-put d ds r.1)
+    (λ k. all-put (is_above e.prefix) d ds k r.0) (ascend-put d ds r.1)
 
 ascend-put_all : (ds others : List Declaration) → ascend others ≡ true
     → ascend (put_all ds others) ≡ true
@@ -154,53 +141,3 @@ ascend-apart (d ∷ ds) h =
 
 pub in_scope-apart : (scope : Scope) → are_apart (in_scope scope) ≡ true
 in_scope-apart scope = ascend-apart (in_scope scope) (ascend-in_scope scope)
-
--- those put among others are there, and so are the others
-or-swap : (a b c : Bool) → (b || (a || c)) ≡ (a || (b || c))
-or-swap true true c = refl
-or-swap true false c = refl
-or-swap false true c = refl
-or-swap false false c = refl
-
-or-twice : (a b c : Bool) → a ≡ b → (a || c) ≡ (a || (b || c))
-or-twice true b c h = refl
-or-twice false true c h = absurd cc
-or-twice false false c h = refl
-
-has-placed : (o : Ordering) (d e : Declaration) (more behind : List Declaration) (p : List ℕ)
-    → o ≡ order d.prefix e.prefix → has behind p ≡ (bytes_eq d.prefix p || has more p)
-    → has (placed o d e more behind) p
-    ≡ (bytes_eq d.prefix p || (bytes_eq e.prefix p || has more p))
-has-placed Less d e more behind p is h = rw (has-cons d (e ∷ more) p, has-cons e more p) refl
-has-placed Equal d e more behind p is h =
-    rw (has-cons d more p)
-    (or-twice (bytes_eq d.prefix p) (bytes_eq e.prefix p) (has more p)
-    (ap (λ q. bytes_eq q p) (exact_bytes d.prefix e.prefix (sym is))))
-has-placed Greater d e more behind p is h =
-    rw (has-cons e behind p, h) (or-swap (bytes_eq d.prefix p) (bytes_eq e.prefix p) (has more p))
-
-has-put : (d : Declaration) (ds : List Declaration) (p : List ℕ)
-    → has (put d ds) p ≡ (bytes_eq d.prefix p || has ds p)
-has-put d [] p = has-cons d [] p
-has-put d (e ∷ ds) p =
-    has-placed (order d.prefix e.prefix) d e ds (put d ds) p refl (has-put d ds p)
-    ∙ ap (λ b. bytes_eq d.prefix p || b) (sym (has-cons e ds p))
-
-has-put_all : (ds others : List Declaration) (p : List ℕ)
-    → has (put_all ds others) p ≡ (has ds p || has others p)
-has-put_all [] others p = refl
-has-put_all (d ∷ ds) others p =
-    has-put_all ds (put d others) p
-    ∙ rw (has-put d others p, has-cons d ds p)
-    (moved (has ds p) (bytes_eq d.prefix p) (has others p))
-  where
-    moved : (a b c : Bool) → (a || (b || c)) ≡ ((b || a) || c)
-    moved true true c = refl
-    moved true false c = refl
-    moved false true c = refl
-    moved false false c = refl
-
--- a declaration in scope is among those by the order of their prefixes
-pub has-in_scope : (layer : List Declaration) (outer : Scope) (p : List ℕ)
-    → has (in_scope (layer ∷ outer)) p ≡ (has layer p || has (in_scope outer) p)
-has-in_scope layer outer p = has-put_all layer (in_scope outer) p

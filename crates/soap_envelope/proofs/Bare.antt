@@ -35,13 +35,8 @@ bare_of (Arrays name attributes kind values) = Array some_array
 bare_of Ends = Close
 
 one-bare : (scope : Scope) (x : Item) (xs : List Item) → bare_of (resolved_item scope x xs) ≡ bare x
-one-bare scope (Start p l) xs = refl
-one-bare scope (Xmlns p u) xs = refl
-one-bare scope (Attr p l v) xs = refl
-one-bare scope (Text v) xs = refl
-one-bare scope (Comment v) xs = refl
-one-bare scope (Array a) xs = refl
 one-bare scope Close xs = refl
+one-bare scope x xs = refl
 
 pub all-bare : (scope : Scope) (xs : List Item) → map bare_of (resolved_from scope xs) ≡ map bare xs
 all-bare scope [] = refl
@@ -50,22 +45,12 @@ all-bare scope (x ∷ xs) =
 
 -- children by their places
 pub child-same : (item : Item) → is_child (bare item) ≡ is_child item
-child-same (Start p l) = refl
-child-same (Xmlns p u) = refl
-child-same (Attr p l v) = refl
-child-same (Text v) = refl
-child-same (Comment v) = refl
-child-same (Array a) = refl
 child-same Close = refl
+child-same item = refl
 
 pub opens-same : (n : ℕ) (item : Item) → open_behind n (bare item) ≡ open_behind n item
-opens-same n (Start p l) = refl
-opens-same n (Xmlns p u) = refl
-opens-same n (Attr p l v) = refl
-opens-same n (Text v) = refl
-opens-same n (Comment v) = refl
-opens-same n (Array a) = refl
 opens-same n Close = refl
+opens-same n item = refl
 
 pub children-same : (o : Option ℕ) (at : ℕ) (xs : List Item)
     → children_from o at (map bare xs) ≡ children_from o at xs
@@ -82,56 +67,19 @@ close-same n at (x ∷ xs) =
     rw (opens-same n x)
     (ap (ends_at (open_behind n x) at) (fun_ext (λ k. close-same k (at + 1) xs)))
 
-pub passed-by : (o : Option Item) → is_passed (option_map bare o) ≡ is_passed o
-passed-by None = refl
-passed-by (Some (Start p l)) = refl
-passed-by (Some (Xmlns p u)) = refl
-passed-by (Some (Attr p l v)) = refl
-passed-by (Some (Text v)) = refl
-passed-by (Some (Comment v)) = refl
-passed-by (Some (Array a)) = refl
-passed-by (Some Close) = refl
+-- and what an item is
+pub record SeenAlike (one other : Option Item) : Type 0 where
+  pub passed : is_passed one ≡ is_passed other
+  pub plain : is_plain one ≡ is_plain other
+  pub start : is_start one ≡ is_start other
+  pub characters : characters_of one ≡ characters_of other
+  pub text : text_item one ≡ text_item other
 
-pub plain-by : (o : Option Item) → is_plain (option_map bare o) ≡ is_plain o
-plain-by None = refl
-plain-by (Some (Start p l)) = refl
-plain-by (Some (Xmlns p u)) = refl
-plain-by (Some (Attr p l v)) = refl
-plain-by (Some (Text v)) = refl
-plain-by (Some (Comment v)) = refl
-plain-by (Some (Array a)) = refl
-plain-by (Some Close) = refl
-
-pub start-by : (o : Option Item) → is_start (option_map bare o) ≡ is_start o
-start-by None = refl
-start-by (Some (Start p l)) = refl
-start-by (Some (Xmlns p u)) = refl
-start-by (Some (Attr p l v)) = refl
-start-by (Some (Text v)) = refl
-start-by (Some (Comment v)) = refl
-start-by (Some (Array a)) = refl
-start-by (Some Close) = refl
-
-pub characters-by : (o : Option Item)
-    → characters_of (option_map bare o) ≡ characters_of o
-characters-by None = refl
-characters-by (Some (Start p l)) = refl
-characters-by (Some (Xmlns p u)) = refl
-characters-by (Some (Attr p l v)) = refl
-characters-by (Some (Text v)) = refl
-characters-by (Some (Comment v)) = refl
-characters-by (Some (Array a)) = refl
-characters-by (Some Close) = refl
-
-pub text-by : (o : Option Item) → text_item (option_map bare o) ≡ text_item o
-text-by None = refl
-text-by (Some (Start p l)) = refl
-text-by (Some (Xmlns p u)) = refl
-text-by (Some (Attr p l v)) = refl
-text-by (Some (Text v)) = refl
-text-by (Some (Comment v)) = refl
-text-by (Some (Array a)) = refl
-text-by (Some Close) = refl
+pub seen-alike : (o : Option Item) → SeenAlike (option_map bare o) o
+seen-alike (Some Close) =
+    record { passed = refl; plain = refl; start = refl; characters = refl; text = refl }
+seen-alike o =
+    record { passed = refl; plain = refl; start = refl; characters = refl; text = refl }
 
 pub children-bare : (xs : List Item) (at : ℕ) → children_of (map bare xs) at ≡ children_of xs at
 children-bare xs at =

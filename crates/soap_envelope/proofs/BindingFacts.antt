@@ -190,9 +190,6 @@ hidden-few : (bs : List Binding) → length bs ≤ few → AreHidden bs
 hidden-few [] h = tt
 hidden-few (b ∷ bs) h = ((λ many. absurd (omega arith)), hidden-few bs (omega arith))
 
-count-of : (xs : List Binding) → length (map bound_as (reverse xs)) ≡ length xs
-count-of xs = declarations-length xs
-
 -- no more than the first few
 pub kept-few : (bound : Vec Binding) (places : BTreeMap (Bor (List ℕ)) ℕ)
     → length bound.items ≤ few
@@ -201,14 +198,15 @@ pub kept-few : (bound : Vec Binding) (places : BTreeMap (Bor (List ℕ)) ℕ)
 kept-few bound places h none =
     let ds = declarations bound in
     record {
-      found = λ q. none q ∙ sym (beyond-few q ds (omega (arith, count-of bound.items)));
+      found = λ q. none q ∙ sym (beyond-few q ds (omega (arith, declarations-length bound.items)));
       hidden = hidden-few (newest bound) (omega (arith, length-reverse bound.items));
     }
 
 pub kept-none : (bound : Vec Binding) (places : BTreeMap (Bor (List ℕ)) ℕ) (q : List ℕ)
     → length bound.items ≤ few → AreKept bound places → place_in q places ≡ None
 kept-none bound places q h kept =
-    kept.found q ∙ beyond-few q (declarations bound) (omega (arith, count-of bound.items))
+    kept.found q
+    ∙ beyond-few q (declarations bound) (omega (arith, declarations-length bound.items))
 
 -- one more behind them
 pub kept-more : (old new : Vec Binding) (places more : BTreeMap (Bor (List ℕ)) ℕ) (b : Binding)
@@ -221,13 +219,13 @@ pub kept-more : (old new : Vec Binding) (places more : BTreeMap (Bor (List ℕ))
     → AreKept new more
 kept-more old new places more b e h kept hides put =
     let ds = declarations old in
-    let many : few ≤ length ds = omega (arith, count-of old.items) in
+    let many : few ≤ length ds = omega (arith, declarations-length old.items) in
     let all : newest new ≡ b ∷ newest old = ap reverse e ∙ newest-more old.items b in
     record {
       found = λ q. put q
           ∙ ap (λ o. if bytes_eq b.prefix.now q then Some (length old.items) else o) (kept.found q)
           ∙ ap (λ n. if bytes_eq b.prefix.now q then Some n else last_beyond q ds)
-          (sym (count-of old.items))
+          (sym (declarations-length old.items))
           ∙ sym (beyond-more q (bound_as b) ds many)
           ∙ ap (λ l. last_beyond q (map bound_as l)) (sym all);
       hidden = rw all ((λ _. hides ∙ kept.found b.prefix.now), kept.hidden);
@@ -244,7 +242,7 @@ pub kept-less : (old new : Vec Binding) (places left : BTreeMap (Bor (List ℕ))
 kept-less old new places left b e h kept back =
     let ds = declarations new in
     let p = b.prefix.now in
-    let many : few ≤ length ds = omega (arith, count-of new.items) in
+    let many : few ≤ length ds = omega (arith, declarations-length new.items) in
     let many_newest : few ≤ length (newest new) = omega (arith, length-reverse new.items) in
     let all : newest old ≡ b ∷ newest new = ap reverse e ∙ newest-more new.items b in
     let hidden : AreHidden (b ∷ newest new) = rw all at kept.hidden in
@@ -294,7 +292,7 @@ pub kept-there : (old new : Vec Binding) (places : BTreeMap (Bor (List ℕ)) ℕ
     → AreKept old places
     → is_some (place_in b.prefix.now places) ≡ true
 kept-there old new places b e h kept =
-    let many : few ≤ length (declarations new) = omega (arith, count-of new.items) in
+    let many : few ≤ length (declarations new) = omega (arith, declarations-length new.items) in
     let all : newest old ≡ b ∷ newest new = ap reverse e ∙ newest-more new.items b in
     ap is_some (kept.found b.prefix.now
     ∙ ap (λ l. last_beyond b.prefix.now (map bound_as l)) all)

@@ -1,22 +1,22 @@
 -- The declarations around the content of Body, and what is known of its names there.
-use Rattle.std.proofs.Common.{◌≡◌, ℕ, ◌+◌, true, List, [], drop, slice_get, Some, None, Ok, Err}
-use Rattle.std.proofs.Common.{Option, Result, option_map, refl, ap, subst, add-one, not}
+use Rattle.std.proofs.Common.{Err, List, None, Ok, Option, Result, Some, [], add-one, ap, drop, not}
+use Rattle.std.proofs.Common.{option_map, refl, slice_get, subst, true, ℕ, ◌+◌, ◌≡◌}
 use Rattle.std.specs.List.{list_all}
-use Rattle.nbfx_values.specs.declared.content.Item.{Item, TheVariants.Start}
-use Rattle.soap_envelope.specs.{declared.parts.Parts.Parts, Seen.BodyStands}
-use Rattle.soap_envelope.specs.declared.refusals.SoapFault.{SoapFault, TheVariants.BadNames}
-use Rattle.soap_envelope.specs.{BadNames.bad_name, Bindings.scope_to, Body.behind_head}
-use Rattle.soap_envelope.specs.{Body.needed, Characters.is_passed, Children.children_of}
-use Rattle.soap_envelope.specs.{Children.is_start, Parts.kept_children, Parts.name_by}
-use Rattle.soap_envelope.specs.Parts.{parts_of, root_scope, wrong_name, wrong_root}
-use Rattle.soap_envelope.specs.Scopes.{is_bound, Scope, within}
-use Rattle.soap_envelope.specs.View.{header_fault, unless, View, view, viewed, viewed_by}
-use Rattle.soap_envelope.proofs.{Apart.are_apart, Apart.in_scope-apart, BoundNames.names-at}
-use Rattle.soap_envelope.proofs.{BoundNames.starts-apart, Contents.among-each, Contents.view-stands}
-use Rattle.soap_envelope.proofs.GoodNames.{good_names, head-good, names-good}
-use Rattle.soap_envelope.proofs.{InScope.needs-reach, InScope.Reached}
-use Rattle.soap_envelope.proofs.{ResolvedPlaces.children-stand}
-use Rattle.soap_envelope.proofs.{ResolvedPlaces.inside, ResolvedViews.each-filter}
+use Rattle.nbfx_values.proofs.Walks.{document-position}
+use Rattle.nbfx_values.specs.{Documents.IsDocument, declared.content.Item.Item}
+use Rattle.nbfx_values.specs.{declared.position.Position.TheVariants.Before}
+use Rattle.soap_envelope.proofs.GoodNames.{good_names, head-good, names-at, names-good}
+use Rattle.soap_envelope.proofs.ResolvedPlaces.{children-stand, inside, root-starts}
+use Rattle.soap_envelope.proofs.{Apart.are_apart, Apart.in_scope-apart, BoundNames.starts-apart}
+use Rattle.soap_envelope.proofs.{Contents.among-each, Contents.view-stands, InScope.Reached}
+use Rattle.soap_envelope.proofs.{InScope.needs-reach, ResolvedViews.each-filter}
+use Rattle.soap_envelope.specs.Parts.{kept_children, parts_of, root_scope, wrong_root}
+use Rattle.soap_envelope.specs.View.{View, header_fault, unless, view, viewed, viewed_by}
+use Rattle.soap_envelope.specs.declared.refusals.SoapFault.TheVariants.{BadNames}
+use Rattle.soap_envelope.specs.{BadNames.bad_name, Bindings.scope_to, Body.behind_head, Body.needed}
+use Rattle.soap_envelope.specs.{Characters.is_passed, Children.children_of, Children.is_start}
+use Rattle.soap_envelope.specs.{Scopes.is_bound, Scopes.within, Seen.BodyStands}
+use Rattle.soap_envelope.specs.{declared.parts.Parts.Parts, declared.refusals.SoapFault.SoapFault}
 
 -- what was viewed has good names, begins with its root, and has its parts
 passes : {X : Type 0} (fault : Option SoapFault) (r : Result X SoapFault) (x : X)
@@ -27,11 +27,6 @@ passes (Some fault) r x h = absurd cc
 no-bad_name : (bad : Option ℕ) → option_map BadNames bad ≡ None → bad ≡ None
 no-bad_name None h = refl
 no-bad_name (Some at) h = absurd cc
-
-root-starts : (scope : Scope) (root : Option Item) → wrong_name (name_by scope root) ≡ None
-    → is_start root ≡ true
-root-starts scope (Some (Start p l)) h = refl
-root-starts scope root h = absurd cc
 
 pub record IsViewed (doc : List Item) (v : View) : Type 0 where
   pub names : bad_name doc ≡ None
@@ -73,15 +68,15 @@ around-body doc parts root h =
 
 -- the names of the content are good where it stands, and mean the same with what children need
 pub record BodyScope (doc : List Item) (v : View) : Type 0 where
-  pub names : bad_name doc ≡ None
   pub here : scope_to [] (v.body_at + 1) doc ≡ within doc v.body_at (root_scope doc)
   pub good : good_names (within doc v.body_at (root_scope doc))
       (behind_head (drop (v.body_at + 1) doc)) ≡ true
   pub reach : let base = within doc v.body_at (root_scope doc) in
       (p : List ℕ) → is_bound base p ≡ true → Reached v.version (needed v.version base) base p
 
-pub body-scope : (doc : List Item) (v : View) → view doc ≡ Ok v → BodyScope doc v
-body-scope doc v h =
+pub body-scope : (doc : List Item) (v : View) → IsDocument doc → view doc ≡ Ok v
+    → BodyScope doc v
+body-scope doc v document h =
     let seen = is-viewed doc v h in
     let stands : BodyStands doc v = rw h at (view-stands doc) in
     let root = root_scope doc in
@@ -92,7 +87,8 @@ body-scope doc v h =
     (around-body doc seen.parts seen.root seen.are_parts) in
     let here : scope_to [] (v.body_at + 1) doc ≡ base =
     inside doc v.body_at root at_body stands.starts in
-    let good = names-good [] 0 doc seen.names in
+    let good = names-good Before [] 0 doc (document-position doc document) (λ e. absurd cc)
+    seen.names in
     let good_there : good_names base behind ≡ true =
     subst (λ scope. good_names scope behind ≡ true) here (names-at [] (v.body_at + 1) doc good) in
     let apart : list_all are_apart base ≡ true =
@@ -100,7 +96,6 @@ body-scope doc v h =
     (rw (starts-apart [] v.body_at doc good stands.starts, starts-apart [] 0 doc good seen.root)
     refl) in
     record {
-      names = seen.names;
       here = here;
       good = head-good base behind good_there;
       reach = needs-reach v.version base apart (in_scope-apart base);

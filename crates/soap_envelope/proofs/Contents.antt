@@ -24,7 +24,9 @@ use Rattle.soap_envelope.specs.Parts.{parts_behind, parts_of, root_scope, wrong_
 use Rattle.soap_envelope.specs.Scopes.{Declaration, declared, Scope, within}
 use Rattle.soap_envelope.specs.View.{header_fault, texts_among, texts_at, texts_in, unless, view}
 use Rattle.soap_envelope.proofs.Declarations.{array-valid, is_text, missing-texts, needed-texts}
-use Rattle.soap_envelope.proofs.ResolvedPlaces.{Each}
+use Rattle.soap_envelope.proofs.Nesting.{nowhere}
+use Rattle.soap_envelope.proofs.ResolvedPlaces.{Each, named-starts}
+use Rattle.soap_envelope.proofs.Standing.{plain}
 
 -- declarations lead nowhere else behind the beginning of an element
 declarations-lead : (ds : List Declaration) (n : ℕ) (xs : List Item) → list_all is_text ds ≡ true
@@ -36,12 +38,6 @@ declarations-lead (d ∷ ds) n xs h =
     stepped (Within n true) (xmlns_of d) (map xmlns_of ds ++ xs) p.0 ∙ declarations-lead ds n xs p.1
 
 module _ (needs : List Declaration) (texts : list_all is_text needs ≡ true) where
-  -- an item that is put as it stands
-  plain : (inner : ℕ) (item : Item) (more : List Item) → child_items needs item more ≡ item ∷ []
-      → standing_items needs inner item more ≡ item ∷ []
-  plain inner item more e =
-      elim (cases_Bool (inner == 0)) [ inl is ↦ rw is e | inr other ↦ rw other refl ]
-
   -- from a place within Body, around which further elements are open, up to its end
   stands : (inner around n : ℕ) (a : Bool) (xs : List Item) → n ≡ inner + around
       → (inner ≡ 0 → a ≡ false)
@@ -67,33 +63,17 @@ module _ (needs : List Declaration) (texts : list_all is_text needs ≡ true) wh
   stands inner around n true (Xmlns p u ∷ xs) e top h =
       let q = passed (is_valid_item (Xmlns p u)) (Some (Within n true)) xs After h in
       ap (λ put. position_from (Some (Within inner true))
-      (put ++ self_standing needs (Some inner) xs)) (plain inner (Xmlns p u) xs refl)
+      (put ++ self_standing needs (Some inner) xs)) (plain needs inner (Xmlns p u) xs refl)
       ∙ stepped (Within inner true) (Xmlns p u) (self_standing needs (Some inner) xs) q.0
       ∙ stands inner around n true xs e top q.1
-  stands inner around n false (Xmlns p u ∷ xs) e top h =
-      absurd (let f : None ≡ Some After = sym (position_from-none xs)
-      ∙ (passed (is_valid_item (Xmlns p u)) None xs After h).1 in cc)
+  stands inner around n false (Xmlns p u ∷ xs) e top h = absurd (nowhere (Xmlns p u) xs After h)
   stands inner around n true (Attr p l v ∷ xs) e top h =
       let q = passed (is_valid_item (Attr p l v)) (Some (Within n true)) xs After h in
       ap (λ put. position_from (Some (Within inner true))
-      (put ++ self_standing needs (Some inner) xs)) (plain inner (Attr p l v) xs refl)
+      (put ++ self_standing needs (Some inner) xs)) (plain needs inner (Attr p l v) xs refl)
       ∙ stepped (Within inner true) (Attr p l v) (self_standing needs (Some inner) xs) q.0
       ∙ stands inner around n true xs e top q.1
-  stands inner around n false (Attr p l v ∷ xs) e top h =
-      absurd (let f : None ≡ Some After = sym (position_from-none xs)
-      ∙ (passed (is_valid_item (Attr p l v)) None xs After h).1 in cc)
-  stands inner around n a (Text v ∷ xs) e top h =
-      let q = passed (is_valid_item (Text v)) (Some (Within n false)) xs After h in
-      ap (λ put. position_from (Some (Within inner a)) (put ++ self_standing needs (Some inner) xs))
-      (plain inner (Text v) xs refl)
-      ∙ stepped (Within inner a) (Text v) (self_standing needs (Some inner) xs) q.0
-      ∙ stands inner around n false xs e (λ _. refl) q.1
-  stands inner around n a (Comment v ∷ xs) e top h =
-      let q = passed (is_valid_item (Comment v)) (Some (Within n false)) xs After h in
-      ap (λ put. position_from (Some (Within inner a)) (put ++ self_standing needs (Some inner) xs))
-      (plain inner (Comment v) xs refl)
-      ∙ stepped (Within inner a) (Comment v) (self_standing needs (Some inner) xs) q.0
-      ∙ stands inner around n false xs e (λ _. refl) q.1
+  stands inner around n false (Attr p l v ∷ xs) e top h = absurd (nowhere (Attr p l v) xs After h)
   stands inner around n a (Array v ∷ xs) e top h =
       let q = passed (is_valid_item (Array v)) (Some (Within n false)) xs After h in
       let rest = self_standing needs (Some inner) xs in
@@ -110,23 +90,25 @@ module _ (needs : List Declaration) (texts : list_all is_text needs ≡ true) wh
       let led : position_from (Some (Within (m + around) false)) xs ≡ Some After =
       subst (λ v. position_from (Some (Within v a)) (Close ∷ xs) ≡ Some After) k h in
       ap (λ put. position_from (Some (Within (suc m) a)) (put ++ self_standing needs (Some m) xs))
-      (plain (suc m) Close xs refl)
+      (plain needs (suc m) Close xs refl)
       ∙ stands m around (m + around) false xs refl (λ _. refl) led
+  stands inner around n a (x ∷ xs) e top h =
+      let q = passed (is_valid_item x) (Some (Within n false)) xs After h in
+      ap (λ put. position_from (Some (Within inner a)) (put ++ self_standing needs (Some inner) xs))
+      (plain needs inner x xs refl)
+      ∙ stepped (Within inner a) x (self_standing needs (Some inner) xs) q.0
+      ∙ stands inner around n false xs e (λ _. refl) q.1
 
 -- behind the attributes of an element none may stand
 behind_head-leads : (n : ℕ) (xs : List Item) → position_from (Some (Within n true)) xs ≡ Some After
     → position_from (Some (Within n false)) (behind_head xs) ≡ Some After
 behind_head-leads n [] h = absurd (let f : Some (Within n true) ≡ Some After = h in cc)
-behind_head-leads n (Start p l ∷ xs) h = h
 behind_head-leads n (Xmlns p u ∷ xs) h =
     behind_head-leads n xs (passed (is_valid_item (Xmlns p u)) (Some (Within n true)) xs After h).1
 behind_head-leads n (Attr p l v ∷ xs) h =
     behind_head-leads n xs (passed (is_valid_item (Attr p l v)) (Some (Within n true)) xs After h).1
-behind_head-leads n (Text v ∷ xs) h = h
-behind_head-leads n (Comment v ∷ xs) h = h
-behind_head-leads n (Array v ∷ xs) h = h
 behind_head-leads zero (Close ∷ xs) h = h
-behind_head-leads (suc n) (Close ∷ xs) h = h
+behind_head-leads n xs h = h
 
 -- behind the beginning of an element, elements are open
 opens : (o : Option Position) (items : List Item) (at : ℕ) → is_start (slice_get items at) ≡ true
@@ -141,9 +123,7 @@ opens o items at starts h = rw add-one (opened o items at starts h)
         (0, (passed (is_valid_item (Start p l)) (Some (Within 0 true)) xs After h).1)
     begun (Within m a) (Start p l) xs starts h =
         (suc m, (passed (is_valid_item (Start p l)) (Some (Within (suc m) true)) xs After h).1)
-    begun After (Start p l) xs starts h =
-        absurd (let f : None ≡ Some After = sym (position_from-none xs)
-        ∙ (passed (is_valid_item (Start p l)) None xs After h).1 in cc)
+    begun After (Start p l) xs starts h = absurd (nowhere (Start p l) xs After h)
     begun s x xs starts h = absurd cc
 
     opened : (o : Option Position) (items : List Item) (at : ℕ)
@@ -224,18 +204,13 @@ any-each (child ∷ more) = (tt, any-each more)
 
 -- an element begins at the place of Body
 module _ (items : List Item) where
-  named-starts : (scope : Scope) (o : Option Item) (uri local : List ℕ)
-      → is_some_name uri local (name_by scope o) ≡ true → is_start o ≡ true
-  named-starts scope (Some (Start p l)) uri local h = refl
-  named-starts scope o uri local h = absurd cc
-
   pub body-starts : (parts : Parts) → parts_of items ≡ Ok parts
       → is_start (slice_get items parts.body) ≡ true
   body-starts parts h =
       let root = root_scope items in
       let children = kept_children items 0 in
       let body = among-each items (λ child. Unit {0}) root children parts (any-each children) h in
-      named-starts (within items parts.body root) (slice_get items parts.body) soap (codes "Body")
+      named-starts (within items parts.body root) soap (codes "Body") (slice_get items parts.body)
       body.1
 
   -- the place and the content of a view's Body

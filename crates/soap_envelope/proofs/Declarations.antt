@@ -11,7 +11,7 @@ use Rattle.nbfx_values.specs.Items.{are_texts, is_valid_array, is_valid_attribut
 use Rattle.soap_envelope.specs.Body.{array_with, attribute_of, in_scope, is_missing, is_usual}
 use Rattle.soap_envelope.specs.Body.{missing, needed, placed, put, put_all}
 use Rattle.soap_envelope.specs.Scopes.{Declaration, declared, declared_on, within}
-use Rattle.soap_envelope.proofs.Lists.{list_all-drop}
+use Rattle.soap_envelope.proofs.{Lists.list_all-drop, Usual.all-put-all}
 
 -- whether a declaration's prefix and namespace are UTF-8
 abbrev pub is_text : Declaration → Bool
@@ -27,29 +27,6 @@ declared-texts (Attr prefix local value ∷ xs) h =
     declared-texts xs (and_parts (is_valid_item (Attr prefix local value))
     (list_all is_valid_item xs) h).1
 declared-texts (x ∷ xs) h = refl
-
-placed-texts : (o : Ordering) (d e : Declaration) (more behind : List Declaration)
-    → is_text d ≡ true → is_text e ≡ true
-    → list_all is_text more ≡ true → list_all is_text behind ≡ true
-    → list_all is_text (placed o d e more behind) ≡ true
-placed-texts Less d e more behind h k m b = rw (h, k) m
-placed-texts Equal d e more behind h k m b = rw h m
-placed-texts Greater d e more behind h k m b = rw k b
-
-put-texts : (d : Declaration) (ds : List Declaration) → is_text d ≡ true
-    → list_all is_text ds ≡ true → list_all is_text (put d ds) ≡ true
-put-texts d [] h k = rw h refl
-put-texts d (e ∷ ds) h k =
-    let p = and_parts (is_text e) (list_all is_text ds) k in
-    placed-texts (slice_cmp nat_cmp d.prefix e.prefix) d e ds (put d ds) h p.0 p.1
-    (put-texts d ds h p.1)
-
-put_all-texts : (ds others : List Declaration) → list_all is_text ds ≡ true
-    → list_all is_text others ≡ true → list_all is_text (put_all ds others) ≡ true
-put_all-texts [] others h k = k
-put_all-texts (d ∷ ds) others h k =
-    let p = and_parts (is_text d) (list_all is_text ds) h in
-    put_all-texts ds (put d others) p.1 (put-texts d others p.0 k)
 
 -- what all pass, those that are kept pass too
 pub filtered : {X : Type 0} (p q : X → Bool) (xs : List X) → list_all p xs ≡ true
@@ -68,10 +45,11 @@ needed-texts version items root at h =
     let own = declared-texts (drop (at + 1) items) (list_all-drop is_valid_item (at + 1) items h) in
     let outer =
     declared-texts (drop (root + 1) items) (list_all-drop is_valid_item (root + 1) items h) in
-    let all = put_all-texts (declared (drop (root + 1) items)) [] outer refl in
+    let all = all-put-all is_text (declared (drop (root + 1) items)) [] outer refl in
     filtered is_text (λ d. not (is_usual version d)) (in_scope (within items at (within items root
     [])))
-    (put_all-texts (declared (drop (at + 1) items)) (put_all (declared (drop (root + 1) items)) [])
+    (all-put-all is_text (declared (drop (at + 1) items))
+    (put_all (declared (drop (root + 1) items)) [])
     own all)
 
 pub missing-texts : (needs own : List Declaration) → list_all is_text needs ≡ true

@@ -41,25 +41,10 @@ code-leads : (code : Code) (s : Sub) (reason : List ℕ) (names : List Name)
     ≡ Some (Within 1 false)
 unfolding envelopes_on_literals
 code-leads VersionMismatch sub.None reason names = refl
-code-leads VersionMismatch sub.HeaderRequired reason names = refl
-code-leads VersionMismatch sub.ActionNotSupported reason names = refl
-code-leads VersionMismatch sub.OnlyAnonymous reason names = refl
-code-leads VersionMismatch sub.InvalidCardinality reason names = refl
 code-leads MustUnderstand sub.None reason names = refl
-code-leads MustUnderstand sub.HeaderRequired reason names = refl
-code-leads MustUnderstand sub.ActionNotSupported reason names = refl
-code-leads MustUnderstand sub.OnlyAnonymous reason names = refl
-code-leads MustUnderstand sub.InvalidCardinality reason names = refl
 code-leads Sender sub.None reason names = refl
-code-leads Sender sub.HeaderRequired reason names = refl
-code-leads Sender sub.ActionNotSupported reason names = refl
-code-leads Sender sub.OnlyAnonymous reason names = refl
-code-leads Sender sub.InvalidCardinality reason names = refl
 code-leads Receiver sub.None reason names = refl
-code-leads Receiver sub.HeaderRequired reason names = refl
-code-leads Receiver sub.ActionNotSupported reason names = refl
-code-leads Receiver sub.OnlyAnonymous reason names = refl
-code-leads Receiver sub.InvalidCardinality reason names = refl
+code-leads code s reason names = refl
 
 reason-leads : (reason : List ℕ) → is_utf8 reason ≡ true
     → position_from (Some (Within 1 false)) (reason_items reason) ≡ Some (Within 1 false)

@@ -1,19 +1,18 @@
 -- A fault counts at least what its names do.
-use Rattle.soap_envelope.specs.declared.versions.Addressing.{Addressing}
-use Rattle.std.proofs.Common.{◌≡◌, ℕ, ◌≤◌, ◌*◌, List, [], ◌∷◌, ◌++◌, flat_map, length, nat_le}
-use Rattle.std.proofs.Common.{sum_by, inl, inr, arith, le-leb, leb-true}
-use Rattle.std.proofs.lemmas.{Bool.and_parts, Bool.cases_Bool, List.Sums.sum_by-append}
-use Rattle.std.proofs.lemmas.List.Sums.{sum_by-cons}
-use Rattle.nbfx_values.specs.declared.content.Item.{Item}
+use Rattle.std.proofs.Common.{List, [], arith, flat_map, length, sum_by, ℕ, ◌*◌, ◌++◌, ◌∷◌, ◌≡◌}
+use Rattle.std.proofs.Common.{le_trans, ◌≤◌}
+use Rattle.std.proofs.lemmas.List.Sums.{sum_by-append, sum_by-cons}
+use Rattle.least_payloads.specs.Least.{least_of_item, least_payload}
 use Rattle.nbfx_values.specs.Measures.{content_of, item_content}
-use Rattle.least_payloads.specs.Least.{least_of_item, least_payload, may_fit}
-use Rattle.soap_envelope.specs.{declared.report.FaultReport.FaultReport, Qualified.Name}
+use Rattle.nbfx_values.specs.declared.content.Item.{Item}
+use Rattle.soap_envelope.proofs.OnLiterals.{envelopes_on_literals}
+use Rattle.soap_envelope.proofs.ReplySizes.{behind-least, fits-less, within-least}
 use Rattle.soap_envelope.specs.Faults.{fault_body, fault_items, not_understood_block}
-use Rattle.soap_envelope.specs.Versions.{fault_action}
 use Rattle.soap_envelope.specs.Fitting.{least_of_name, name_content, names_content}
-use Rattle.soap_envelope.{specs.Laws.UnfitNamesAreUnfit, proofs.OnLiterals.envelopes_on_literals}
 use Rattle.soap_envelope.specs.Making.{action_block, ending, middle, opening, relates_block}
-use Rattle.soap_envelope.proofs.ReplySizes.{behind-least, within-least}
+use Rattle.soap_envelope.specs.{Laws.UnfitNamesAreUnfit, Qualified.Name, Versions.fault_action}
+use Rattle.soap_envelope.specs.{declared.report.FaultReport.FaultReport}
+use Rattle.soap_envelope.specs.{declared.versions.Addressing.Addressing}
 
 block-content : (name : Name) → name_content name ≤ content_of (not_understood_block name)
 unfolding envelopes_on_literals
@@ -59,20 +58,7 @@ fault-least f version report relates =
 pub unfit_names_are_unfit : UnfitNamesAreUnfit
 unfit_names_are_unfit limits version report relates unfit =
     let fault = fault_items version report relates in
-    elim (cases_Bool (may_fit limits fault)) [
-      | inl fit ↦
-          let parts = and_parts (nat_le (content_of fault) limits.content)
-          (nat_le (least_payload fault) limits.payload) fit in
-          let content = leb-true (content_of fault) limits.content parts.0 in
-          let payload = leb-true (least_payload fault) limits.payload parts.1 in
-          let counts = content-least report.names in
-          let all = fault-least item_content version report relates in
-          let least = payload-least report.names in
-          let whole = fault-least least_of_item version report relates in
-          let names = le-leb (names_content report.names) limits.content
-          (omega (arith, content, counts, all)) in
-          let blocks = le-leb (least_of_name * length report.names) limits.payload
-          (omega (arith, payload, least, whole)) in
-          cc (rw (names, blocks) at unfit)
-      | inr other ↦ other
-    ]
+    fits-less limits (names_content report.names) (least_of_name * length report.names)
+    (content_of fault) (least_payload fault)
+    (le_trans (content-least report.names) (fault-least item_content version report relates))
+    (le_trans (payload-least report.names) (fault-least least_of_item version report relates)) unfit

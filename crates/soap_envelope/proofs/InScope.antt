@@ -1,18 +1,18 @@
 -- What a prefix stands for in Body it stands for in a reply, by what an element there gets.
-use Rattle.soap_envelope.specs.declared.versions.Addressing.{Addressing}
-use Rattle.std.proofs.Common.{◌≡◌, ℕ, true, false, not, ◌&&◌, ◌⊎◌, List, [], ◌∷◌, ◌++◌, is_some}
-use Rattle.std.proofs.Common.{is_none, Some, None, codes, Option, bytes_eq, Ordering, Less, Equal}
-use Rattle.std.proofs.Common.{Greater, sym, refl, ap, ◌∙◌, subst, inl, inr}
+use Rattle.std.proofs.Common.{Equal, Greater, Less, List, None, Option, Ordering, Some, [], ap}
+use Rattle.std.proofs.Common.{bytes_eq, codes, false, inl, inr, is_none, is_some, not, refl, subst}
+use Rattle.std.proofs.Common.{sym, true, ℕ, ◌&&◌, ◌++◌, ◌∙◌, ◌∷◌, ◌≡◌, ◌⊎◌}
 use Rattle.std.proofs.lemmas.Bool.{and_parts, cases_Bool, or_cases}
-use Rattle.std.proofs.lemmas.{Cmp.nat_list_cmp_total, Map.Lookups.exact_bytes}
-use Rattle.std.proofs.lemmas.Slice.Eq.{bytes_eq-Decides}
+use Rattle.std.proofs.{lemmas.Cmp.nat_list_cmp_total, lemmas.Map.Lookups.exact_bytes}
+use Rattle.std.proofs.{lemmas.Slice.Eq.bytes_eq-Decides}
 use Rattle.std.specs.{List.list_all, Option.option_or, Ordering.ordering_reverse}
-use Rattle.soap_envelope.specs.Body.{in_scope, is_missing, is_usual, missing, needed, placed, put}
-use Rattle.soap_envelope.specs.{Body.put_all, Body.unusual, Made.reply_scope}
-use Rattle.soap_envelope.specs.{Names.soap, Versions.namespace}
-use Rattle.soap_envelope.specs.Scopes.{Declaration, is_bound, Scope, undeclared_uri, uri_in, uri_of}
 use Rattle.soap_envelope.proofs.Apart.{apart-parts, are_apart, has, lacks-filter, order}
 use Rattle.soap_envelope.proofs.OnLiterals.{envelopes_on_literals}
+use Rattle.soap_envelope.proofs.ScopeFacts.{or-or, uri-append}
+use Rattle.soap_envelope.specs.Body.{in_scope, is_missing, is_usual, missing, needed, placed, put}
+use Rattle.soap_envelope.specs.Scopes.{Declaration, Scope, is_bound, undeclared_uri, uri_in, uri_of}
+use Rattle.soap_envelope.specs.{Body.put_all, Body.unusual, Made.reply_scope, Names.soap}
+use Rattle.soap_envelope.specs.{Versions.namespace, declared.versions.Addressing.Addressing}
 
 -- what declarations say of a prefix
 none-in : (o : Option (List ℕ)) → is_some o ≡ false → o ≡ None
@@ -21,14 +21,6 @@ none-in (Some u) h = absurd cc
 
 lacks : (ds : List Declaration) (p : List ℕ) → has ds p ≡ false → uri_in ds p ≡ None
 lacks ds p h = none-in (uri_in ds p) h
-
-uri-append : (xs ys : List Declaration) (p : List ℕ)
-    → uri_in (xs ++ ys) p ≡ option_or (uri_in xs p) (uri_in ys p)
-uri-append [] ys p = refl
-uri-append (x ∷ xs) ys p = elim (cases_Bool (bytes_eq x.prefix p)) [
-  | inl is ↦ rw is refl
-  | inr other ↦ rw other (uri-append xs ys p)
-]
 
 uri-placed : (o : Ordering) (d e : Declaration) (more behind : List Declaration) (p : List ℕ)
     → o ≡ order d.prefix e.prefix → uri_in behind p ≡ uri_in (d ∷ more) p
@@ -90,16 +82,12 @@ in-scope (layer ∷ outer) p a =
     uri-put_all layer (in_scope outer) p r.0
     ∙ ap (option_or (uri_in layer p)) (in-scope outer p r.1)
 
-or-again : (a b c : Option (List ℕ)) → option_or a (option_or b c) ≡ option_or (option_or a b) c
-or-again None b c = refl
-or-again (Some u) b c = refl
-
 uri-known : (scope : Scope) (p : List ℕ)
     → uri_of scope p ≡ option_or (known scope p) (undeclared_uri p)
 uri-known [] p = refl
 uri-known (layer ∷ outer) p =
     ap (option_or (uri_in layer p)) (uri-known outer p)
-    ∙ or-again (uri_in layer p) (known outer p) (undeclared_uri p)
+    ∙ or-or (uri_in layer p) (known outer p) (undeclared_uri p)
 
 -- what every reply declares it means there
 usual-uri : (version : Addressing) (d : Declaration) → is_usual version d ≡ true

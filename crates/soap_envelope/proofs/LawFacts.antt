@@ -1,34 +1,29 @@
 -- What replies and faults are seen as.
-use Rattle.soap_envelope.specs.declared.versions.Addressing.{Addressing}
-use Rattle.std.proofs.Common.{◌≡◌, ℕ, ◌+◌, true, List, [], ◌∷◌, ◌++◌, length, drop, slice_get, Some}
-use Rattle.std.proofs.Common.{None, Ok, Err, codes, Option, Result, option_map, flat_map, sym, refl}
-use Rattle.std.proofs.Common.{ap, ◌∙◌, append_assoc, arith, length-append}
-use Rattle.std.{proofs.lemmas.Bool.and_parts, specs.List.list_all}
-use Rattle.nbfx_values.specs.{declared.content.Item.Item, Items.is_valid_item}
-use Rattle.nbfx_values.specs.declared.content.Item.TheVariants.{Close, Start, Text}
-use Rattle.soap_envelope.specs.{declared.parts.Parts.Parts, Seen.BodyStands}
-use Rattle.soap_envelope.specs.declared.refusals.SoapFault.{SoapFault, TheVariants.BadNames}
-use Rattle.soap_envelope.specs.declared.report.{FaultReport.FaultReport, Sub.Sub}
-use Rattle.soap_envelope.specs.BadNames.{bad_name, first_bad_name}
-use Rattle.soap_envelope.specs.Body.{behind_head, body_items, needed, self_standing}
-use Rattle.soap_envelope.specs.Children.{children_from, is_start}
+use Rattle.std.proofs.Common.{List, None, Ok, Some, [], ap, append_assoc, arith, codes, drop}
+use Rattle.std.proofs.Common.{flat_map, length, length-append, option_map, refl, slice_get, sym}
+use Rattle.std.proofs.Common.{true, ℕ, ◌++◌, ◌+◌, ◌∙◌, ◌∷◌, ◌≡◌}
+use Rattle.std.proofs.lemmas.Bool.{and_parts}
+use Rattle.std.specs.List.{list_all}
+use Rattle.nbfx_values.specs.declared.content.Item.TheVariants.{Close, Text}
+use Rattle.nbfx_values.specs.{Documents.IsDocument, Items.is_valid_item, declared.content.Item.Item}
+use Rattle.soap_envelope.proofs.Contents.{body-content, view-stands}
+use Rattle.soap_envelope.proofs.{BodyScope.body-scope, FaultPlaces.fault-content}
+use Rattle.soap_envelope.proofs.{MadeParts.get-behind, MadeView.made-viewed}
+use Rattle.soap_envelope.proofs.{OnLiterals.envelopes_on_literals, Standing.content-stands}
 use Rattle.soap_envelope.specs.Faults.{code_text, fault_body, reason_items, sub_texts}
 use Rattle.soap_envelope.specs.Faults.{subcode_items, value_items}
-use Rattle.soap_envelope.specs.{Headers.counted_at, Headers.first_counted, Made.action_seen}
-use Rattle.soap_envelope.specs.{Made.blocks_seen, Versions.fault_action}
-use Rattle.soap_envelope.specs.declared.versions.Addressing.TheVariants.{V10, V200408}
+use Rattle.soap_envelope.specs.Headers.{counted_at, first_counted}
 use Rattle.soap_envelope.specs.Laws.{BodiesStand, FaultsAreViewed, RelatesAreKept, RepliesAreViewed}
-use Rattle.soap_envelope.specs.{Made.reply_scope, Made.StandsInReplies, Scopes.Scope, Scopes.within}
-use Rattle.soap_envelope.specs.Making.{action_block, addressing_start, ending, is_valid_text}
-use Rattle.soap_envelope.specs.Making.{IsContent, middle, opening, response_action, soap_start}
-use Rattle.soap_envelope.specs.Parts.{name_by, parts_of, root_scope, wrong_name, wrong_root}
-use Rattle.soap_envelope.specs.{declared.blocks.Block.Block, Making.reply_items, View.texts_at}
-use Rattle.soap_envelope.specs.View.{header_fault, texts_in, unless, View, view, viewed, viewed_by}
-use Rattle.soap_envelope.proofs.Contents.{body-content, view-stands}
-use Rattle.soap_envelope.proofs.{FaultPlaces.fault-content, MadeParts.get-behind}
-use Rattle.soap_envelope.proofs.{BodyScope.body-scope, GoodNames.good-names}
-use Rattle.soap_envelope.proofs.{MadeView.made-viewed, OnLiterals.envelopes_on_literals}
-use Rattle.soap_envelope.proofs.Standing.{standing-good}
+use Rattle.soap_envelope.specs.Made.{StandsInReplies, action_seen, blocks_seen, reply_scope}
+use Rattle.soap_envelope.specs.Making.{IsContent, action_block, addressing_start, ending}
+use Rattle.soap_envelope.specs.Making.{is_valid_text, middle, opening, reply_items, response_action}
+use Rattle.soap_envelope.specs.View.{View, texts_at, texts_in, view}
+use Rattle.soap_envelope.specs.declared.versions.Addressing.TheVariants.{V10, V200408}
+use Rattle.soap_envelope.specs.{BadNames.first_bad_name, Body.behind_head, Children.children_from}
+use Rattle.soap_envelope.specs.{Making.soap_start, Parts.root_scope, Scopes.within, Seen.BodyStands}
+use Rattle.soap_envelope.specs.{Versions.fault_action, declared.blocks.Block.Block}
+use Rattle.soap_envelope.specs.{declared.report.FaultReport.FaultReport, declared.report.Sub.Sub}
+use Rattle.soap_envelope.specs.{declared.versions.Addressing.Addressing}
 use Rattle.soap_envelope.specs.declared.report.Sub.TheVariants as sub
 
 pub replies_are_viewed : RepliesAreViewed
@@ -36,23 +31,22 @@ replies_are_viewed version action relates body texts content named =
     made-viewed version (response_action action) relates [] body texts content named
 
 -- the content of its Body has good names in any reply
-body-named : (doc : List Item) (v : View) → view doc ≡ Ok v → StandsInReplies v.version v.body
-body-named doc v h at =
+body-named : (doc : List Item) (v : View) → IsDocument doc → view doc ≡ Ok v
+    → StandsInReplies v.version v.body
+body-named doc v document h at =
     let stands : BodyStands doc v = rw h at (view-stands doc) in
     let scope = within doc v.body_at (root_scope doc) in
     let content = behind_head (drop (v.body_at + 1) doc) in
-    let body = body-scope doc v h in
-    let other = reply_scope v.version in
+    let body = body-scope doc v document h in
     rw stands.content
-    (good-names other at (self_standing (needed v.version scope) (Some 0) content)
-    (standing-good v.version scope content body.reach body.good))
+    ((content-stands v.version scope content body.reach body.good).0 at)
 
 pub bodies_stand : BodiesStand
 bodies_stand doc v action relates document h texts =
     let stands : BodyStands doc v = rw h at (view-stands doc) in
     let content : IsContent v.body =
     rw stands.content (body-content v.version doc v.body_at document stands.starts) in
-    replies_are_viewed v.version action relates v.body texts content (body-named doc v h)
+    replies_are_viewed v.version action relates v.body texts content (body-named doc v document h)
 
 -- texts up to an end, after a front
 texts-there : (all before texts rest : List Item) (at : ℕ)
@@ -113,10 +107,7 @@ fault-named version report at = by report.sub (code_text report.code)
         ∷ (value_items code ++ (subcode_items (sub_texts s) ++ (Close ∷ [])))
         ++ (reason_items report.reason ++ (Close ∷ [])))) ≡ None
     by sub.None code = refl
-    by sub.HeaderRequired code = refl
-    by sub.ActionNotSupported code = refl
-    by sub.OnlyAnonymous code = refl
-    by sub.InvalidCardinality code = refl
+    by s code = refl
 
 pub faults_are_viewed : FaultsAreViewed
 faults_are_viewed version report relates texts utf8 =

@@ -1,22 +1,21 @@
 -- The names of replies and faults are good.
-use Rattle.soap_envelope.specs.declared.versions.Addressing.{Addressing}
-use Rattle.std.proofs.Common.{◌≡◌, ℕ, ◌+◌, Bool, true, false, List, [], ◌∷◌, ◌++◌, length, is_some}
-use Rattle.std.proofs.Common.{if◌then◌else◌, Some, None, Option, flat_map, refl, ap, ◌∙◌}
-use Rattle.std.proofs.{Common.append_assoc, Common.arith, lemmas.Bool.and_parts}
+use Rattle.std.proofs.Common.{Bool, List, None, Option, Some, [], ap, append_assoc, arith, false}
+use Rattle.std.proofs.Common.{flat_map, if◌then◌else◌, is_some, length, refl, true, ℕ, ◌++◌, ◌+◌}
+use Rattle.std.proofs.{Common.◌∙◌, Common.◌∷◌, Common.◌≡◌, lemmas.Bool.and_parts}
 use Rattle.std.specs.{List.list_all, Option.option_or}
-use Rattle.nbfx_values.proofs.Positions.{passed}
-use Rattle.nbfx_values.specs.declared.content.Item.{Item, TheVariants.Text, TheVariants.Xmlns}
-use Rattle.nbfx_values.specs.declared.content.Item.TheVariants.{Array, Attr, Close, Comment, Start}
-use Rattle.nbfx_values.specs.{declared.position.Position.TheVariants.Within, Items.is_valid_item}
-use Rattle.soap_envelope.specs.BadNames.{bad_attribute, bad_in_head, bad_name, first_bad_name}
-use Rattle.soap_envelope.specs.{BadNames.is_good_array, Scopes.uri_in}
-use Rattle.soap_envelope.specs.{Body.behind_head, Qualified.Name}
-use Rattle.soap_envelope.specs.{Faults.not_understood_block, Making.relates_block}
-use Rattle.soap_envelope.specs.Made.{reply_scope, StandsInReplies}
-use Rattle.soap_envelope.specs.Making.{ending, envelope_items, is_valid_text, IsContent, middle}
-use Rattle.soap_envelope.specs.Scopes.{around, Declaration, declaration, declared, is_bound, Scope}
+use Rattle.nbfx_values.specs.declared.content.Item.TheVariants.{Array, Attr, Close, Start, Text}
+use Rattle.nbfx_values.specs.{Items.is_valid_item, declared.content.Item.Item}
+use Rattle.nbfx_values.specs.{declared.content.Item.TheVariants.Xmlns}
+use Rattle.nbfx_values.specs.{declared.position.Position.TheVariants.Within}
 use Rattle.soap_envelope.proofs.Nesting.{declared-inside, nowhere}
 use Rattle.soap_envelope.proofs.OnLiterals.{envelopes_on_literals}
+use Rattle.soap_envelope.specs.BadNames.{bad_attribute, bad_in_head, bad_name, first_bad_name}
+use Rattle.soap_envelope.specs.Made.{StandsInReplies, reply_scope}
+use Rattle.soap_envelope.specs.Making.{IsContent, ending, envelope_items, is_valid_text, middle}
+use Rattle.soap_envelope.specs.Scopes.{Declaration, Scope, around, declaration, declared, is_bound}
+use Rattle.soap_envelope.specs.{BadNames.is_good_array, Body.behind_head}
+use Rattle.soap_envelope.specs.{Faults.not_understood_block, Making.relates_block, Qualified.Name}
+use Rattle.soap_envelope.specs.{Scopes.uri_in, declared.versions.Addressing.Addressing}
 
 -- the scope after items
 abbrev behind : Scope → List Item → Scope
@@ -40,18 +39,13 @@ unless_bad false other at h = absurd cc
 -- an element's attributes end where items do
 attributes-inside : (scope : Scope) (xs ys : List Item) (before : List Declaration) (at : ℕ)
     → bad_attribute scope before at (xs ++ Close ∷ ys) ≡ bad_attribute scope before at xs
-attributes-inside scope [] ys before at = refl
 attributes-inside scope (Xmlns p u ∷ xs) ys before at =
     ap (λ o. if is_some (uri_in before p) then Some at else o)
     (attributes-inside scope xs ys (before ++ declaration p u ∷ []) (at + 1))
 attributes-inside scope (Attr p l v ∷ xs) ys before at =
     ap (λ o. if is_bound scope p then o else Some at)
     (attributes-inside scope xs ys before (at + 1))
-attributes-inside scope (Start p l ∷ xs) ys before at = refl
-attributes-inside scope (Text v ∷ xs) ys before at = refl
-attributes-inside scope (Comment v ∷ xs) ys before at = refl
-attributes-inside scope (Array v ∷ xs) ys before at = refl
-attributes-inside scope (Close ∷ xs) ys before at = refl
+attributes-inside scope xs ys before at = refl
 
 -- items whose names are good, before an end
 pub names-inside : (xs ys : List Item) (scope : Scope) (at : ℕ)
@@ -75,16 +69,7 @@ names-inside (Array a ∷ xs) ys scope at h =
 names-inside (Close ∷ xs) ys scope at h =
     names-inside xs ys (around scope) (at + 1) h
     ∙ ap (λ k. first_bad_name (behind (around scope) xs) k (Close ∷ ys)) (omega arith)
-names-inside (Xmlns p u ∷ xs) ys scope at h =
-    names-inside xs ys scope (at + 1) h
-    ∙ ap (λ k. first_bad_name (behind scope xs) k (Close ∷ ys)) (omega arith)
-names-inside (Attr p l v ∷ xs) ys scope at h =
-    names-inside xs ys scope (at + 1) h
-    ∙ ap (λ k. first_bad_name (behind scope xs) k (Close ∷ ys)) (omega arith)
-names-inside (Text v ∷ xs) ys scope at h =
-    names-inside xs ys scope (at + 1) h
-    ∙ ap (λ k. first_bad_name (behind scope xs) k (Close ∷ ys)) (omega arith)
-names-inside (Comment v ∷ xs) ys scope at h =
+names-inside (x ∷ xs) ys scope at h =
     names-inside xs ys scope (at + 1) h
     ∙ ap (λ k. first_bad_name (behind scope xs) k (Close ∷ ys)) (omega arith)
 
@@ -95,21 +80,9 @@ pub record BeginsWithContent (xs ys : List Item) : Type 0 where
   pub head : behind_head (xs ++ Close ∷ ys) ≡ xs ++ Close ∷ ys
 
 pub begins-with-content : (xs ys : List Item) → IsContent xs → BeginsWithContent xs ys
-begins-with-content [] ys h = record { declares = refl; attributes = λ scope at. refl; head = refl }
-begins-with-content (Start p l ∷ xs) ys h =
-    record { declares = refl; attributes = λ scope at. refl; head = refl }
-begins-with-content (Text v ∷ xs) ys h =
-    record { declares = refl; attributes = λ scope at. refl; head = refl }
-begins-with-content (Comment v ∷ xs) ys h =
-    record { declares = refl; attributes = λ scope at. refl; head = refl }
-begins-with-content (Array v ∷ xs) ys h =
-    record { declares = refl; attributes = λ scope at. refl; head = refl }
-begins-with-content (Close ∷ xs) ys h =
-    record { declares = refl; attributes = λ scope at. refl; head = refl }
-begins-with-content (Xmlns p u ∷ xs) ys h =
-    absurd (nowhere xs 0 false (passed (is_valid_item (Xmlns p u)) None xs (Within 0 false) h).1)
-begins-with-content (Attr p l v ∷ xs) ys h =
-    absurd (nowhere xs 0 false (passed (is_valid_item (Attr p l v)) None xs (Within 0 false) h).1)
+begins-with-content (Xmlns p u ∷ xs) ys h = absurd (nowhere (Xmlns p u) xs (Within 0 false) h)
+begins-with-content (Attr p l v ∷ xs) ys h = absurd (nowhere (Attr p l v) xs (Within 0 false) h)
+begins-with-content xs ys h = record { declares = refl; attributes = λ scope at. refl; head = refl }
 
 -- from the end of Header on
 tail-named : (version : Addressing) (body : List Item) → IsContent body

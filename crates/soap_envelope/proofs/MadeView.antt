@@ -1,39 +1,38 @@
 -- The blocks of a reply's Header, and its view.
-use Rattle.soap_envelope.specs.declared.versions.Addressing.{Addressing}
-use Rattle.std.proofs.Common.{◌≡◌, ℕ, ◌+◌, true, false, not, List, [], ◌∷◌, ◌++◌, length, drop}
-use Rattle.std.proofs.Common.{slice_get, Some, None, Ok, codes, filter, option_map, flat_map}
-use Rattle.std.proofs.Common.{option_and_then, sym, refl, ap, ◌∙◌, append_assoc, append-nil, arith}
-use Rattle.std.proofs.Common.{length-append, ◌⊎◌, inl, inr, bytes_eq}
-use Rattle.std.specs.{Prelude.⊤, List.list_all, Option.option_or}
-use Rattle.nbfx_values.specs.declared.{content.Item.Item, scalars.Scalar.TheVariants.Text as TextOf}
+use Rattle.std.proofs.Common.{List, None, Ok, Some, [], ap, append-nil, append_assoc, arith}
+use Rattle.std.proofs.Common.{bytes_eq, codes, drop, false, filter, flat_map, inl, inr, length}
+use Rattle.std.proofs.Common.{length-append, not, option_and_then, option_map, refl, slice_get, sym}
+use Rattle.std.proofs.Common.{true, ℕ, ◌++◌, ◌+◌, ◌∙◌, ◌∷◌, ◌≡◌, ◌⊎◌}
+use Rattle.std.proofs.lemmas.Slice.Eq.{bytes_eq-Decides}
+use Rattle.std.specs.{List.list_all, Option.option_or, Prelude.⊤}
 use Rattle.nbfx_values.specs.declared.content.Item.TheVariants.{Attr, Close, Text, Xmlns}
-use Rattle.nbfx_values.specs.declared.scalars.Value.TheVariants.{One}
-use Rattle.soap_envelope.specs.{declared.blocks.Block.Block, Qualified.Name}
-use Rattle.soap_envelope.specs.declared.refusals.SoapFault.TheVariants.{BadHeader, BadNames}
-use Rattle.soap_envelope.specs.declared.refusals.SoapFault.TheVariants.{RepeatedHeader}
-use Rattle.soap_envelope.specs.{Blocks.block_of, Blocks.blocks_among, Scopes.declared, Scopes.Scope}
-use Rattle.soap_envelope.specs.Body.{behind_head, body_items, needed, self_standing}
-use Rattle.soap_envelope.specs.Characters.{is_passed, text_of}
-use Rattle.soap_envelope.specs.Children.{children_from, close_from, is_start}
-use Rattle.soap_envelope.specs.{Faults.not_understood_block, Made.StandsInReplies}
-use Rattle.soap_envelope.specs.Headers.{bad_children, bad_content, bad_in_block, counted_at}
-use Rattle.soap_envelope.specs.Headers.{is_bad_content}
-use Rattle.soap_envelope.specs.Headers.{first_counted, repeated, repeated_behind}
-use Rattle.soap_envelope.specs.Names.{qualified_name, soap}
-use Rattle.soap_envelope.specs.declared.versions.Addressing.TheVariants.{V10, V200408}
-use Rattle.soap_envelope.specs.{Made.blocks_seen, Versions.namespace, Versions.version_of}
-use Rattle.soap_envelope.specs.Made.{action_seen, behind_names, behind_relates, made_view}
-use Rattle.soap_envelope.specs.Made.{name_seen, names_seen, relates_seen, reply_root, reply_scope}
-use Rattle.soap_envelope.specs.Making.{action_block, ending, is_valid_text, IsContent, middle}
-use Rattle.soap_envelope.specs.Making.{envelope_items, opening, relates_block, soap_start}
-use Rattle.soap_envelope.specs.Parts.{kept_children, parts_of, root_scope, wrong_root}
-use Rattle.soap_envelope.specs.View.{address_in, blocks_of, fault_among, header_fault, viewed_by}
-use Rattle.soap_envelope.specs.View.{texts_at, unless, View, view, viewed, viewed_in}
+use Rattle.nbfx_values.specs.declared.scalars.Scalar.TheVariants.{Text as TextOf}
+use Rattle.nbfx_values.specs.{declared.content.Item.Item, declared.scalars.Value.TheVariants.One}
 use Rattle.soap_envelope.proofs.MadeNames.{begins-with-content, made-named}
 use Rattle.soap_envelope.proofs.MadeParts.{behind-body, drop-behind, front, get-behind, items}
 use Rattle.soap_envelope.proofs.MadeParts.{parts-there, texts-nested}
 use Rattle.soap_envelope.proofs.Nesting.{children-inside, close-inside, leads-nested}
 use Rattle.soap_envelope.proofs.{Nesting.standing-inside, OnLiterals.envelopes_on_literals}
+use Rattle.soap_envelope.specs.Body.{behind_head, body_items, needed, self_standing}
+use Rattle.soap_envelope.specs.Children.{children_from, close_from, is_start}
+use Rattle.soap_envelope.specs.Headers.{bad_children, bad_content, bad_in_block, counted_at}
+use Rattle.soap_envelope.specs.Headers.{first_counted, is_bad_content, repeated, repeated_behind}
+use Rattle.soap_envelope.specs.Made.{StandsInReplies, action_seen, behind_names, behind_relates}
+use Rattle.soap_envelope.specs.Made.{blocks_seen, made_view, name_seen, names_seen, relates_seen}
+use Rattle.soap_envelope.specs.Making.{IsContent, action_block, ending, envelope_items}
+use Rattle.soap_envelope.specs.Making.{is_valid_text, middle, opening, relates_block, soap_start}
+use Rattle.soap_envelope.specs.Parts.{kept_children, parts_of, root_scope, wrong_root}
+use Rattle.soap_envelope.specs.View.{View, address_in, blocks_of, fault_among, header_fault}
+use Rattle.soap_envelope.specs.View.{texts_at, unless, view, viewed, viewed_by, viewed_in}
+use Rattle.soap_envelope.specs.declared.refusals.SoapFault.TheVariants.{BadHeader, BadNames}
+use Rattle.soap_envelope.specs.declared.refusals.SoapFault.TheVariants.{RepeatedHeader}
+use Rattle.soap_envelope.specs.declared.versions.Addressing.TheVariants.{V10, V200408}
+use Rattle.soap_envelope.specs.{Blocks.block_of, Blocks.blocks_among, Characters.is_passed}
+use Rattle.soap_envelope.specs.{Characters.text_of, Faults.not_understood_block, Made.reply_root}
+use Rattle.soap_envelope.specs.{Made.reply_scope, Names.qualified_name, Names.soap, Qualified.Name}
+use Rattle.soap_envelope.specs.{Scopes.Scope, Scopes.declared, Versions.namespace}
+use Rattle.soap_envelope.specs.{Versions.version_of, declared.blocks.Block.Block}
+use Rattle.soap_envelope.specs.{declared.versions.Addressing.Addressing}
 
 -- a block begins at a place, and nothing is wrong with it in a version
 record IsBlock (version : Addressing) (items : List Item) (scope : Scope) (at : ℕ) (b : Block) :
@@ -56,16 +55,14 @@ module _ (version : Addressing) (items : List Item) (scope : Scope) where
   kept-all [] [] h = refl
   kept-all (at ∷ more) (b ∷ bs) (first, others) =
       rw first.kept (ap (λ l. at ∷ l) (kept-all more bs others))
-  kept-all [] (b ∷ bs) h = absurd h
-  kept-all (at ∷ more) [] h = absurd h
+  kept-all places bs h = absurd h
 
   blocks-all : (places : List ℕ) (bs : List Block) → AreBlocks places bs
       → blocks_among items scope places ≡ bs
   blocks-all [] [] h = refl
   blocks-all (at ∷ more) (b ∷ bs) (first, others) =
       rw (first.start, first.block) (ap (λ l. b ∷ l) (blocks-all more bs others))
-  blocks-all [] (b ∷ bs) h = absurd h
-  blocks-all (at ∷ more) [] h = absurd h
+  blocks-all places bs h = absurd h
 
   none-bad : (places : List ℕ) (bs : List Block) → AreBlocks places bs
       → bad_children items scope places ≡ None
@@ -75,24 +72,21 @@ module _ (version : Addressing) (items : List Item) (scope : Scope) where
       (ap (λ o. option_or o (bad_children items scope more))
       (ap (bad_in_block items scope) first.block ∙ first.good)
       ∙ none-bad more bs others)
-  none-bad [] (b ∷ bs) h = absurd h
-  none-bad (at ∷ more) [] h = absurd h
+  none-bad places bs h = absurd h
 
   none-bad-content : (places : List ℕ) (bs : List Block) → AreBlocks places bs
       → bad_content version items scope bs ≡ None
   none-bad-content [] [] h = refl
   none-bad-content (at ∷ more) (b ∷ bs) (first, others) =
       rw first.content (none-bad-content more bs others)
-  none-bad-content [] (b ∷ bs) h = absurd h
-  none-bad-content (at ∷ more) [] h = absurd h
+  none-bad-content places bs h = absurd h
 
   both-blocks : (places others : List ℕ) (bs cs : List Block) → AreBlocks places bs
       → AreBlocks others cs → AreBlocks (places ++ others) (bs ++ cs)
   both-blocks [] others [] cs h k = k
   both-blocks (at ∷ more) others (b ∷ bs) cs (first, h) k =
       (first, both-blocks more others bs cs h k)
-  both-blocks [] others (b ∷ bs) cs h k = absurd h
-  both-blocks (at ∷ more) others [] cs h k = absurd h
+  both-blocks places others bs cs h k = absurd h
 
 -- the places of the blocks after Action
 abbrev relates_places : List Item → List ℕ
@@ -123,54 +117,45 @@ relates-children (Text v ∷ texts) tail h =
     ∙ ap (λ n. children_from (Some 0) n tail) (omega arith))
 relates-children (x ∷ texts) tail h = absurd cc
 
+-- a version's namespace isn't SOAP's
+not-soap : (version : Addressing) → bytes_eq soap (namespace version) ≡ false
+unfolding envelopes_on_literals
+not-soap V10 = refl
+not-soap V200408 = refl
+
+own-name : (version : Addressing) → bytes_eq (namespace version) (namespace version) ≡ true
+own-name version = (bytes_eq-Decides (namespace version) (namespace version)).1 refl
+
 -- of these blocks none but Action counts, and none is repeated
 names-uncounted : (version : Addressing) (local : List ℕ) (names : List Name) (at : ℕ)
     → first_counted version local (names_seen at names) ≡ None
-unfolding envelopes_on_literals
 names-uncounted version local [] at = refl
-names-uncounted V10 local (name ∷ names) at = names-uncounted V10 local names (at + 4)
-names-uncounted V200408 local (name ∷ names) at = names-uncounted V200408 local names (at + 4)
+names-uncounted version local (name ∷ names) at =
+    rw (not-soap version) (names-uncounted version local names (at + 4))
 
 names-unrepeated : (version : Addressing) (before : List Block) (names : List Name) (at : ℕ)
     → repeated_behind version before (names_seen at names) ≡ None
-unfolding envelopes_on_literals
 names-unrepeated version before [] at = refl
-names-unrepeated V10 before (name ∷ names) at =
-    names-unrepeated V10 (before ++ name_seen at ∷ []) names (at + 4)
-names-unrepeated V200408 before (name ∷ names) at =
-    names-unrepeated V200408 (before ++ name_seen at ∷ []) names (at + 4)
+names-unrepeated version before (name ∷ names) at =
+    rw (not-soap version) (names-unrepeated version (before ++ name_seen at ∷ []) names (at + 4))
 
 unrepeated : (version : Addressing) (relates : List Item) (names : List Name)
     → repeated version (blocks_seen version relates names) ≡ None
-unfolding envelopes_on_literals
-unrepeated V10 [] names = names-unrepeated V10 (action_seen V10 ∷ []) names 8
-unrepeated V200408 [] names = names-unrepeated V200408 (action_seen V200408 ∷ []) names 8
-unrepeated V10 (text ∷ texts) names =
-    names-unrepeated V10 (action_seen V10 ∷ relates_seen V10 (text ∷ texts)) names
-    (behind_relates (text ∷ texts))
-unrepeated V200408 (text ∷ texts) names =
-    names-unrepeated V200408 (action_seen V200408 ∷ relates_seen V200408 (text ∷ texts)) names
-    (behind_relates (text ∷ texts))
+unrepeated version [] names =
+    rw (own-name version) (names-unrepeated version (action_seen version ∷ []) names 8)
+unrepeated version (text ∷ texts) names =
+    rw (own-name version)
+    (names-unrepeated version (action_seen version ∷ relates_seen version (text ∷ texts)) names
+    (behind_relates (text ∷ texts)))
 
-uncounted-reply : (version : Addressing) (relates : List Item) (names : List Name)
-    → first_counted version (codes "ReplyTo") (blocks_seen version relates names) ≡ None
-unfolding envelopes_on_literals
-uncounted-reply V10 [] names = names-uncounted V10 (codes "ReplyTo") names 8
-uncounted-reply V200408 [] names = names-uncounted V200408 (codes "ReplyTo") names 8
-uncounted-reply V10 (text ∷ texts) names =
-    names-uncounted V10 (codes "ReplyTo") names (behind_relates (text ∷ texts))
-uncounted-reply V200408 (text ∷ texts) names =
-    names-uncounted V200408 (codes "ReplyTo") names (behind_relates (text ∷ texts))
-
-uncounted-message : (version : Addressing) (relates : List Item) (names : List Name)
-    → first_counted version (codes "MessageID") (blocks_seen version relates names) ≡ None
-unfolding envelopes_on_literals
-uncounted-message V10 [] names = names-uncounted V10 (codes "MessageID") names 8
-uncounted-message V200408 [] names = names-uncounted V200408 (codes "MessageID") names 8
-uncounted-message V10 (text ∷ texts) names =
-    names-uncounted V10 (codes "MessageID") names (behind_relates (text ∷ texts))
-uncounted-message V200408 (text ∷ texts) names =
-    names-uncounted V200408 (codes "MessageID") names (behind_relates (text ∷ texts))
+uncounted : (version : Addressing) (local : List ℕ) (relates : List Item) (names : List Name)
+    → bytes_eq (codes "Action") local ≡ false → bytes_eq (codes "RelatesTo") local ≡ false
+    → first_counted version local (blocks_seen version relates names) ≡ None
+uncounted version local [] names action related =
+    rw (own-name version, action) (names-uncounted version local names 8)
+uncounted version local (text ∷ texts) names action related =
+    rw (own-name version, action, related)
+    (names-uncounted version local names (behind_relates (text ∷ texts)))
 
 -- the Action has the version, and counts
 action-first : (version : Addressing) (more : List Block)
@@ -190,11 +175,8 @@ content-free : (version : Addressing) (items : List Item) (scope : Scope) (b : B
     → (b.name ≡ qualified_name soap (codes "NotUnderstood"))
     ⊎ (b.name ≡ qualified_name (namespace version) (codes "RelatesTo")) → b.targeted ≡ true
     → is_bad_content version items scope b ≡ false
-unfolding envelopes_on_literals
-content-free V10 items scope b (inl is) targeted = rw (targeted, is) refl
-content-free V200408 items scope b (inl is) targeted = rw (targeted, is) refl
-content-free V10 items scope b (inr is) targeted = rw (targeted, is) refl
-content-free V200408 items scope b (inr is) targeted = rw (targeted, is) refl
+content-free version items scope b (inl is) targeted = rw (targeted, is, not-soap version) refl
+content-free version items scope b (inr is) targeted = rw (targeted, is, own-name version) refl
 
 -- the block of a name, where it stands after a front
 name-block : (version : Addressing) (all before more : List Item) (name : Name)
@@ -414,11 +396,11 @@ module _ (version : Addressing) (action : List ℕ) (relates : List Item) (names
         reply_address = option_map (text_of all)
             (option_and_then (address_in version all (reply_scope version))
             (option_map (λ (b : Block). b.from) r));
-      }) (uncounted-reply version relates names)
+      }) (uncounted version (codes "ReplyTo") relates names refl refl)
       ∙ ap (λ m. record (seen_with version blocks) {
         reply_address = None;
         message_id = texts_at all (option_map (λ (b : Block). b.from) m);
-      }) (uncounted-message version relates names)
+      }) (uncounted version (codes "MessageID") relates names refl refl)
       ∙ ap (λ b. record (seen_with version blocks) {
         reply_address = None;
         message_id = [];

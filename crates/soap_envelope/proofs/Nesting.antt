@@ -1,12 +1,12 @@
 -- Lists of items that close what they open, and nothing else.
-use Rattle.std.proofs.Common.{◌≡◌, ℕ, zero, suc, ◌+◌, Bool, true, false, List, [], ◌∷◌, ◌++◌}
-use Rattle.std.proofs.Common.{length, Some, None, Option, sym, refl, ap, ◌∙◌, arith}
+use Rattle.std.proofs.Common.{Bool, List, None, Option, Some, [], ap, arith, false, if◌then◌else◌}
+use Rattle.std.proofs.Common.{length, refl, suc, sym, true, zero, ℕ, ◌++◌, ◌+◌, ◌∙◌, ◌∷◌, ◌≡◌}
 use Rattle.std.proofs.Math.Dec.{eqb-suc-zero}
 use Rattle.nbfx_values.proofs.Positions.{passed, position_from-none}
-use Rattle.nbfx_values.specs.declared.content.Item.{Item, TheVariants.Text, TheVariants.Xmlns}
-use Rattle.nbfx_values.specs.declared.content.Item.TheVariants.{Array, Attr, Close, Comment, Start}
+use Rattle.nbfx_values.specs.declared.content.Item.TheVariants.{Attr, Close, Start, Xmlns}
 use Rattle.nbfx_values.specs.declared.position.Position.TheVariants.{After, Within}
 use Rattle.nbfx_values.specs.{Items.is_valid_item, Positions.position_from}
+use Rattle.nbfx_values.specs.{declared.content.Item.Item, declared.position.Position.Position}
 use Rattle.soap_envelope.specs.Body.{self_standing, standing_items}
 use Rattle.soap_envelope.specs.Children.{children_from, close_from, open_behind}
 use Rattle.soap_envelope.specs.Scopes.{declaration, declared}
@@ -18,12 +18,18 @@ nested None items = None
 nested (Some n) [] = Some n
 nested (Some n) (item ∷ more) = nested (open_behind n item) more
 
-pub nowhere : (xs : List Item) (m : ℕ) (b : Bool) → position_from None xs ≡ Some (Within m b) → ⊥
-nowhere xs m b h = let e : None ≡ Some (Within m b) = sym (position_from-none xs) ∙ h in cc
+-- an item that may not stand where it does leads nowhere
+pub nowhere : (x : Item) (xs : List Item) (s : Position)
+    → position_from (if is_valid_item x then None else None) xs ≡ Some s → ⊥
+nowhere x xs s h =
+    let e : None ≡ Some s =
+    sym (position_from-none xs) ∙ (passed (is_valid_item x) None xs s h).1 in
+    cc
 
-ended : (xs : List Item) (m : ℕ) (b : Bool) → position_from (Some After) xs ≡ Some (Within m b) → ⊥
+pub ended : (xs : List Item) (m : ℕ) (b : Bool)
+    → position_from (Some After) xs ≡ Some (Within m b) → ⊥
 ended [] m b h = cc
-ended (x ∷ xs) m b h = nowhere xs m b (passed (is_valid_item x) None xs (Within m b) h).1
+ended (x ∷ xs) m b h = nowhere x xs (Within m b) h
 
 -- what leads on within an element is nested so
 pub leads-nested : (xs : List Item) (n m : ℕ) (a b : Bool)
@@ -35,24 +41,16 @@ leads-nested (Start p l ∷ xs) n m a b h =
 leads-nested (Xmlns p u ∷ xs) n m true b h =
     leads-nested xs n m true b
     (passed (is_valid_item (Xmlns p u)) (Some (Within n true)) xs (Within m b) h).1
-leads-nested (Xmlns p u ∷ xs) n m false b h =
-    absurd (nowhere xs m b (passed (is_valid_item (Xmlns p u)) None xs (Within m b) h).1)
+leads-nested (Xmlns p u ∷ xs) n m false b h = absurd (nowhere (Xmlns p u) xs (Within m b) h)
 leads-nested (Attr p l v ∷ xs) n m true b h =
     leads-nested xs n m true b
     (passed (is_valid_item (Attr p l v)) (Some (Within n true)) xs (Within m b) h).1
-leads-nested (Attr p l v ∷ xs) n m false b h =
-    absurd (nowhere xs m b (passed (is_valid_item (Attr p l v)) None xs (Within m b) h).1)
-leads-nested (Text v ∷ xs) n m a b h =
-    leads-nested xs n m false b
-    (passed (is_valid_item (Text v)) (Some (Within n false)) xs (Within m b) h).1
-leads-nested (Comment v ∷ xs) n m a b h =
-    leads-nested xs n m false b
-    (passed (is_valid_item (Comment v)) (Some (Within n false)) xs (Within m b) h).1
-leads-nested (Array v ∷ xs) n m a b h =
-    leads-nested xs n m false b
-    (passed (is_valid_item (Array v)) (Some (Within n false)) xs (Within m b) h).1
+leads-nested (Attr p l v ∷ xs) n m false b h = absurd (nowhere (Attr p l v) xs (Within m b) h)
 leads-nested (Close ∷ xs) (suc n) m a b h = leads-nested xs n m false b h
 leads-nested (Close ∷ xs) zero m a b h = absurd (ended xs m b h)
+leads-nested (x ∷ xs) n m a b h =
+    leads-nested xs n m false b
+    (passed (is_valid_item x) (Some (Within n false)) xs (Within m b) h).1
 
 pub nested-append : (o : Option ℕ) (xs ys : List Item)
     → nested o (xs ++ ys) ≡ nested (nested o xs) ys
@@ -64,13 +62,9 @@ nested-append (Some n) (x ∷ xs) ys = nested-append (open_behind n x) xs ys
 deeper : (item : Item) (n k : ℕ) → open_behind n item ≡ Some k
     → open_behind (suc n) item ≡ Some (suc k)
 deeper (Start p l) n k h = let e : n + 1 ≡ k = cc in ap (λ i. Some i) (omega (arith, e))
-deeper (Xmlns p u) n k h = let e : n ≡ k = cc in ap (λ i. Some (suc i)) e
-deeper (Attr p l v) n k h = let e : n ≡ k = cc in ap (λ i. Some (suc i)) e
-deeper (Text v) n k h = let e : n ≡ k = cc in ap (λ i. Some (suc i)) e
-deeper (Comment v) n k h = let e : n ≡ k = cc in ap (λ i. Some (suc i)) e
-deeper (Array v) n k h = let e : n ≡ k = cc in ap (λ i. Some (suc i)) e
 deeper Close zero k h = absurd cc
 deeper Close (suc n) k h = let e : n ≡ k = cc in ap (λ i. Some (suc i)) e
+deeper item n k h = let e : n ≡ k = cc in ap (λ i. Some (suc i)) e
 
 -- the first item of nested ones goes on
 record GoesOn (n : ℕ) (item : Item) (xs : List Item) (m : ℕ) : Type 0 where
@@ -123,23 +117,13 @@ standing-inside (x ∷ xs) ys n m h =
   where
     as_it_is : (n : ℕ) (item : Item) (more : List Item)
         → standing_items [] n item more ≡ item ∷ []
-    as_it_is zero (Start p l) more = refl
-    as_it_is zero (Xmlns p u) more = refl
-    as_it_is zero (Attr p l v) more = refl
-    as_it_is zero (Text v) more = refl
-    as_it_is zero (Comment v) more = refl
-    as_it_is zero (Array v) more = refl
     as_it_is zero Close more = refl
+    as_it_is zero item more = refl
     as_it_is (suc n) item more = rw (eqb-suc-zero n) refl
 
 -- the declarations at the head of items are the same where an end comes after them
 pub declared-inside : (xs ys : List Item) → declared (xs ++ Close ∷ ys) ≡ declared xs
-declared-inside [] ys = refl
-declared-inside (Start p l ∷ xs) ys = refl
 declared-inside (Xmlns p u ∷ xs) ys =
     ap (λ l. declaration p u ∷ l) (declared-inside xs ys)
 declared-inside (Attr p l v ∷ xs) ys = declared-inside xs ys
-declared-inside (Text v ∷ xs) ys = refl
-declared-inside (Comment v ∷ xs) ys = refl
-declared-inside (Array v ∷ xs) ys = refl
-declared-inside (Close ∷ xs) ys = refl
+declared-inside xs ys = refl

@@ -1,20 +1,20 @@
 -- Where the items of replies and faults lead in a document.
-use Rattle.soap_envelope.specs.declared.versions.Addressing.{Addressing}
-use Rattle.std.proofs.Common.{◌≡◌, ℕ, zero, suc, Bool, true, false, List, [], ◌∷◌, ◌++◌, Some, None}
-use Rattle.std.proofs.Common.{Option, eqb, length, codes, sym, refl, ap, ◌∙◌, append_assoc}
-use Rattle.std.{proofs.lemmas.Bool.and_parts, specs.List.list_all, specs.Str.is_utf8}
-use Rattle.nbfx_values.proofs.Positions.{passed, position_from-append, position_from-none, stepped}
+use Rattle.std.proofs.Common.{Bool, List, Option, Some, [], ap, append_assoc, codes, eqb, false}
+use Rattle.std.proofs.Common.{length, refl, suc, true, zero, ℕ, ◌++◌, ◌∙◌, ◌∷◌, ◌≡◌}
+use Rattle.std.proofs.lemmas.Bool.{and_parts}
+use Rattle.std.specs.{List.list_all, Str.is_utf8}
+use Rattle.nbfx_values.proofs.Positions.{passed, position_from-append, stepped}
 use Rattle.nbfx_values.proofs.Walks.{position_of-document}
-use Rattle.nbfx_values.specs.declared.content.Item.{Item, TheVariants.Text, TheVariants.Xmlns}
-use Rattle.nbfx_values.specs.declared.content.Item.TheVariants.{Array, Attr, Close, Comment, Start}
-use Rattle.nbfx_values.specs.{declared.position.Position.Position, Items.is_valid_item}
+use Rattle.nbfx_values.specs.Positions.{position_from, position_of}
+use Rattle.nbfx_values.specs.declared.content.Item.TheVariants.{Attr, Close, Start, Text, Xmlns}
 use Rattle.nbfx_values.specs.declared.position.Position.TheVariants.{After, Before, Within}
-use Rattle.nbfx_values.specs.{Documents.IsDocument, Positions.position_of, Scalars.is_valid_value}
-use Rattle.nbfx_values.specs.Positions.{position_from}
+use Rattle.nbfx_values.specs.{Documents.IsDocument, Items.is_valid_item, Scalars.is_valid_value}
+use Rattle.nbfx_values.specs.{declared.content.Item.Item, declared.position.Position.Position}
+use Rattle.soap_envelope.proofs.{Nesting.ended, Nesting.nowhere, OnLiterals.envelopes_on_literals}
+use Rattle.soap_envelope.specs.Making.{action_block, addressing_start, ending, envelope_items}
+use Rattle.soap_envelope.specs.Making.{is_valid_text, middle, opening, relates_block, words}
 use Rattle.soap_envelope.specs.declared.versions.Addressing.TheVariants.{V10, V200408}
-use Rattle.soap_envelope.specs.Making.{action_block, ending, envelope_items, is_valid_text, middle}
-use Rattle.soap_envelope.specs.Making.{addressing_start, opening, relates_block, words}
-use Rattle.soap_envelope.proofs.OnLiterals.{envelopes_on_literals}
+use Rattle.soap_envelope.specs.declared.versions.Addressing.{Addressing}
 
 -- one element more around
 abbrev deeper : Position → Position
@@ -34,50 +34,26 @@ deeper-leads (Start p l ∷ xs) n m a b h =
 deeper-leads (Xmlns p u ∷ xs) n m true b h =
     let q = passed (is_valid_item (Xmlns p u)) (Some (Within n true)) xs (Within m b) h in
     stepped (Within (suc n) true) (Xmlns p u) xs q.0 ∙ deeper-leads xs n m true b q.1
-deeper-leads (Xmlns p u ∷ xs) n m false b h =
-    absurd (let e : None ≡ Some (Within m b) = sym (position_from-none xs) ∙
-    (passed (is_valid_item (Xmlns p u)) None xs (Within m b) h).1 in cc)
+deeper-leads (Xmlns p u ∷ xs) n m false b h = absurd (nowhere (Xmlns p u) xs (Within m b) h)
 deeper-leads (Attr p l v ∷ xs) n m true b h =
     let q = passed (is_valid_item (Attr p l v)) (Some (Within n true)) xs (Within m b) h in
     stepped (Within (suc n) true) (Attr p l v) xs q.0 ∙ deeper-leads xs n m true b q.1
-deeper-leads (Attr p l v ∷ xs) n m false b h =
-    absurd (let e : None ≡ Some (Within m b) = sym (position_from-none xs) ∙
-    (passed (is_valid_item (Attr p l v)) None xs (Within m b) h).1 in cc)
-deeper-leads (Text v ∷ xs) n m a b h =
-    let q = passed (is_valid_item (Text v)) (Some (Within n false)) xs (Within m b) h in
-    stepped (Within (suc n) a) (Text v) xs q.0 ∙ deeper-leads xs n m false b q.1
-deeper-leads (Comment v ∷ xs) n m a b h =
-    let q = passed (is_valid_item (Comment v)) (Some (Within n false)) xs (Within m b) h in
-    stepped (Within (suc n) a) (Comment v) xs q.0 ∙ deeper-leads xs n m false b q.1
-deeper-leads (Array v ∷ xs) n m a b h =
-    let q = passed (is_valid_item (Array v)) (Some (Within n false)) xs (Within m b) h in
-    stepped (Within (suc n) a) (Array v) xs q.0 ∙ deeper-leads xs n m false b q.1
+deeper-leads (Attr p l v ∷ xs) n m false b h = absurd (nowhere (Attr p l v) xs (Within m b) h)
 deeper-leads (Close ∷ xs) (suc n) m a b h = deeper-leads xs n m false b h
-deeper-leads (Close ∷ xs) zero m a b h = absurd (let e = behind-root xs m b h in e)
-  where
-    behind-root : (xs : List Item) (m : ℕ) (b : Bool) → position_from (Some After) xs
-        ≡ Some (Within m b) → ⊥
-    behind-root [] m b h = cc
-    behind-root (x ∷ xs) m b h = let q = passed (is_valid_item x) None xs (Within m b) h in let e :
-        None ≡ Some (Within m b) = sym (position_from-none xs) ∙ q.1 in cc
+deeper-leads (Close ∷ xs) zero m a b h = absurd (ended xs m b h)
+deeper-leads (x ∷ xs) n m a b h =
+    let q = passed (is_valid_item x) (Some (Within n false)) xs (Within m b) h in
+    stepped (Within (suc n) a) x xs q.0 ∙ deeper-leads xs n m false b q.1
 
 -- content leads on also right behind the beginning of its element
 pub content-leads : (xs : List Item) (n : ℕ) → position_from (Some (Within n false)) xs
     ≡ Some (Within n false)
     → (b : Bool) × (position_from (Some (Within n true)) xs ≡ Some (Within n b))
 content-leads [] n h = (true, refl)
-content-leads (Start p l ∷ xs) n h = (false, h)
-content-leads (Xmlns p u ∷ xs) n h =
-    absurd (let e : None ≡ Some (Within n false) = sym (position_from-none xs) ∙
-    (passed (is_valid_item (Xmlns p u)) None xs (Within n false) h).1 in cc)
-content-leads (Attr p l v ∷ xs) n h =
-    absurd (let e : None ≡ Some (Within n false) = sym (position_from-none xs) ∙
-    (passed (is_valid_item (Attr p l v)) None xs (Within n false) h).1 in cc)
-content-leads (Text v ∷ xs) n h = (false, h)
-content-leads (Comment v ∷ xs) n h = (false, h)
-content-leads (Array v ∷ xs) n h = (false, h)
+content-leads (Xmlns p u ∷ xs) n h = absurd (nowhere (Xmlns p u) xs (Within n false) h)
+content-leads (Attr p l v ∷ xs) n h = absurd (nowhere (Attr p l v) xs (Within n false) h)
 content-leads (Close ∷ xs) zero h = (false, h)
-content-leads (Close ∷ xs) (suc n) h = (false, h)
+content-leads xs n h = (false, h)
 
 -- texts lead nowhere else
 pub texts-lead : (xs : List Item) (n : ℕ) (a : Bool) → list_all is_valid_text xs ≡ true

@@ -1,14 +1,12 @@
 -- An envelope with blocks of any standard is a document.
-use Rattle.soap_envelope.specs.declared.versions.Addressing.{Addressing}
-use Rattle.std.proofs.Common.{◌≡◌, ℕ, true, false, Bool, List, ◌++◌, Some, refl}
-use Rattle.nbfx_values.{proofs.Walks.position_of-document, specs.Documents.IsDocument}
-use Rattle.nbfx_values.specs.declared.content.Item.{Item}
+use Rattle.std.proofs.Common.{List, Some, false, refl, true, ◌++◌}
+use Rattle.nbfx_values.proofs.Walks.{position_of-document}
 use Rattle.nbfx_values.specs.declared.position.Position.TheVariants.{After, Within}
-use Rattle.nbfx_values.specs.Positions.{position_from}
-use Rattle.soap_envelope.specs.Making.{ending, IsContent, middle}
-use Rattle.soap_envelope.specs.Plain.{plain_items}
+use Rattle.nbfx_values.specs.{Documents.IsDocument, declared.content.Item.Item}
 use Rattle.soap_envelope.proofs.OnLiterals.{envelopes_on_literals}
 use Rattle.soap_envelope.proofs.Places.{content-leads, deeper-leads, leads-on, opening-leads}
+use Rattle.soap_envelope.specs.Making.{IsContent, ending, middle}
+use Rattle.soap_envelope.specs.{Plain.plain_items, declared.versions.Addressing.Addressing}
 
 pub plain-document : (version : Addressing) (blocks body : List Item) → IsContent blocks
     → IsContent body

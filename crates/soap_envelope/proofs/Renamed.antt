@@ -69,9 +69,6 @@ module _ (f : List ℕ → List ℕ) (r : IsRenaming f) where
   of-element : (scope : Scope) (p : List ℕ) → element_uri (scopes scope) (f p) ≡ element_uri scope p
   of-element scope p = ap (λ o. unwrap_or o []) (uri scope p)
 
-  no-prefix : (p : List ℕ) → bytes_eq (f p) [] ≡ bytes_eq p []
-  no-prefix p = ap (bytes_eq (f p)) (sym r.none) ∙ same-prefix p []
-
   empty : (p : List ℕ) → (length (f p) == 0) ≡ (length p == 0)
   empty [] = ap (λ l. length l == 0) r.none
   empty (c ∷ p) = by (f (c ∷ p)) refl
@@ -86,14 +83,9 @@ module _ (f : List ℕ → List ℕ) (r : IsRenaming f) where
       rw (empty p) (ap (λ u. if length p == 0 then [] else u) (of-element scope p))
 
   declares : (xs : List Item) → declared (renamed f xs) ≡ layer (declared xs)
-  declares [] = refl
-  declares (Start p l ∷ xs) = refl
   declares (Xmlns p u ∷ xs) = ap (λ ds. declaration (f p) u ∷ ds) (declares xs)
   declares (Attr p l v ∷ xs) = declares xs
-  declares (Text v ∷ xs) = refl
-  declares (Comment v ∷ xs) = refl
-  declares (Array a ∷ xs) = refl
-  declares (Close ∷ xs) = refl
+  declares xs = refl
 
   declares-on : (xs : List AttrItem)
       → declared_on (map (renamed_part f) xs) ≡ layer (declared_on xs)
@@ -113,7 +105,6 @@ module _ (f : List ℕ → List ℕ) (r : IsRenaming f) where
   attribute-names : (scope : Scope) (before : List Declaration) (at : ℕ) (xs : List Item)
       → bad_attribute (scopes scope) (layer before) at (renamed f xs)
       ≡ bad_attribute scope before at xs
-  attribute-names scope before at [] = refl
   attribute-names scope before at (Xmlns p u ∷ xs) =
       rw (uri-in before p, one-more before p u)
       (ap (λ o. if is_some (uri_in before p) then Some at else o)
@@ -121,11 +112,7 @@ module _ (f : List ℕ → List ℕ) (r : IsRenaming f) where
   attribute-names scope before at (Attr p l v ∷ xs) =
       rw (bound scope p)
       (ap (λ o. if is_bound scope p then o else Some at) (attribute-names scope before (at + 1) xs))
-  attribute-names scope before at (Start p l ∷ xs) = refl
-  attribute-names scope before at (Text v ∷ xs) = refl
-  attribute-names scope before at (Comment v ∷ xs) = refl
-  attribute-names scope before at (Array a ∷ xs) = refl
-  attribute-names scope before at (Close ∷ xs) = refl
+  attribute-names scope before at xs = refl
 
   part-names : (scope : Scope) (before : List Declaration) (xs : List AttrItem)
       → are_good (scopes scope) (layer before) (map (renamed_part f) xs) ≡ are_good scope before xs
@@ -171,10 +158,7 @@ module _ (f : List ℕ → List ℕ) (r : IsRenaming f) where
   names scope at (Close ∷ xs) =
       ap (λ outer. first_bad_name outer (at + 1) (renamed f xs)) (around-same scope)
       ∙ names (around scope) (at + 1) xs
-  names scope at (Xmlns p u ∷ xs) = names scope (at + 1) xs
-  names scope at (Attr p l v ∷ xs) = names scope (at + 1) xs
-  names scope at (Text v ∷ xs) = names scope (at + 1) xs
-  names scope at (Comment v ∷ xs) = names scope (at + 1) xs
+  names scope at (x ∷ xs) = names scope (at + 1) xs
 
   parts-say : (scope : Scope) (xs : List AttrItem)
       → attributes_on (scopes scope) (map (renamed_part f) xs) ≡ attributes_on scope xs
@@ -191,11 +175,8 @@ module _ (f : List ℕ → List ℕ) (r : IsRenaming f) where
   says scope (Start p l) xs =
       ap (λ ds. Element (qualified_name (element_uri (ds ∷ scopes scope) (f p)) l)) (declares xs)
       ∙ ap (λ (u : List ℕ). Element (qualified_name u l)) (of-element (declared xs ∷ scope) p)
-  says scope (Xmlns p u) xs = refl
   says scope (Attr p l v) xs =
       ap (λ (u : List ℕ). Attribute (qualified_name u l) v) (of-attribute scope p)
-  says scope (Text v) xs = refl
-  says scope (Comment v) xs = refl
   says scope (Array a) xs =
       ap (λ ds. Arrays (qualified_name (element_uri (ds ∷ scopes scope) (f a.prefix)) a.local)
       (attributes_on (ds ∷ scopes scope) (map (renamed_part f) a.attrs)) a.kind a.values)
@@ -206,18 +187,14 @@ module _ (f : List ℕ → List ℕ) (r : IsRenaming f) where
       ∙ ap (λ attributes. Arrays
       (qualified_name (element_uri (declared_on a.attrs ∷ scope) a.prefix) a.local) attributes
       a.kind a.values) (parts-say (declared_on a.attrs ∷ scope) a.attrs)
-  says scope Close xs = refl
+  says scope x xs = refl
 
   behind : (scope : Scope) (x : Item) (xs : List Item)
       → scope_behind (scopes scope) (renamed_item f x) (renamed f xs)
       ≡ scopes (scope_behind scope x xs)
   behind scope (Start p l) xs = ap (λ ds. ds ∷ scopes scope) (declares xs)
-  behind scope (Xmlns p u) xs = refl
-  behind scope (Attr p l v) xs = refl
-  behind scope (Text v) xs = refl
-  behind scope (Comment v) xs = refl
-  behind scope (Array a) xs = refl
   behind scope Close xs = around-same scope
+  behind scope x xs = refl
 
   all-says : (scope : Scope) (xs : List Item)
       → resolved_from (scopes scope) (renamed f xs) ≡ resolved_from scope xs

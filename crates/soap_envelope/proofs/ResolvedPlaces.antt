@@ -9,7 +9,7 @@ use Rattle.soap_envelope.specs.{declared.attributes.Found.Found, Children.open_b
 use Rattle.soap_envelope.specs.{Bindings.scope_to, Qualified.Name}
 use Rattle.soap_envelope.specs.Blocks.{found, is_soap_attribute, soap_attribute, soap_attribute_of}
 use Rattle.soap_envelope.specs.Children.{children_from, children_of, is_child, is_start}
-use Rattle.soap_envelope.specs.Parts.{element_name, name_by}
+use Rattle.soap_envelope.specs.Parts.{element_name, is_some_name, name_by, wrong_name}
 use Rattle.soap_envelope.specs.Resolved.{Attribute, Declares, Element, Resolved, resolved}
 use Rattle.soap_envelope.specs.Resolved.{resolved_from, scope_behind}
 use Rattle.soap_envelope.specs.Scopes.{around, declared, Scope, within}
@@ -35,30 +35,27 @@ named _ = None
 name-at : (scope : Scope) (k : ℕ) (xs : List Item)
     → name_by (declared (drop (suc k) xs) ∷ scope_to scope k xs) (slice_get xs k)
     ≡ named (slice_get (resolved_from scope xs) k)
-name-at scope zero [] = refl
-name-at scope (suc k) [] = refl
-name-at scope zero (Start p l ∷ xs) = refl
-name-at scope zero (Xmlns p u ∷ xs) = refl
-name-at scope zero (Attr p l v ∷ xs) = refl
-name-at scope zero (Text v ∷ xs) = refl
-name-at scope zero (Comment v ∷ xs) = refl
-name-at scope zero (Array a ∷ xs) = refl
-name-at scope zero (Close ∷ xs) = refl
 name-at scope (suc k) (x ∷ xs) = name-at (scope_behind scope x xs) k xs
+name-at scope zero (Close ∷ xs) = refl
+name-at scope k xs = refl
+
+-- where an element of some name, or a root that isn't wrong, begins
+pub named-starts : (scope : Scope) (u l : List ℕ) (o : Option Item)
+    → is_some_name u l (name_by scope o) ≡ true → is_start o ≡ true
+named-starts scope u l (Some (Start p k)) h = refl
+named-starts scope u l o h = absurd cc
+
+pub root-starts : (scope : Scope) (o : Option Item) → wrong_name (name_by scope o) ≡ None
+    → is_start o ≡ true
+root-starts scope (Some (Start p l)) h = refl
+root-starts scope o h = absurd cc
 
 -- into an element
 into : (scope : Scope) (k : ℕ) (xs : List Item) → is_start (slice_get xs k) ≡ true
     → scope_to scope (suc k) xs ≡ declared (drop (suc k) xs) ∷ scope_to scope k xs
-into scope zero [] h = absurd cc
-into scope (suc k) [] h = absurd cc
-into scope zero (Start p l ∷ xs) h = refl
-into scope zero (Xmlns p u ∷ xs) h = absurd cc
-into scope zero (Attr p l v ∷ xs) h = absurd cc
-into scope zero (Text v ∷ xs) h = absurd cc
-into scope zero (Comment v ∷ xs) h = absurd cc
-into scope zero (Array a ∷ xs) h = absurd cc
-into scope zero (Close ∷ xs) h = absurd cc
 into scope (suc k) (x ∷ xs) h = into (scope_behind scope x xs) k xs h
+into scope zero (Start p l ∷ xs) h = refl
+into scope k xs h = absurd cc
 
 pub drop-resolved : (scope : Scope) (k : ℕ) (xs : List Item)
     → drop k (resolved_from scope xs) ≡ resolved_from (scope_to scope k xs) (drop k xs)
@@ -77,16 +74,11 @@ attribute_in name at _ = None
 
 attribute-resolved : (scope : Scope) (name : List ℕ) (at : ℕ) (xs : List Item)
     → soap_attribute scope name at xs ≡ attribute_in name at (resolved_from scope xs)
-attribute-resolved scope name at [] = refl
 attribute-resolved scope name at (Xmlns p u ∷ xs) = attribute-resolved scope name (at + 1) xs
 attribute-resolved scope name at (Attr p l v ∷ xs) =
     ap (λ o. if is_soap_attribute scope name p l then Some (found at v) else o)
     (attribute-resolved scope name (at + 1) xs)
-attribute-resolved scope name at (Start p l ∷ xs) = refl
-attribute-resolved scope name at (Text v ∷ xs) = refl
-attribute-resolved scope name at (Comment v ∷ xs) = refl
-attribute-resolved scope name at (Array a ∷ xs) = refl
-attribute-resolved scope name at (Close ∷ xs) = refl
+attribute-resolved scope name at xs = refl
 
 -- what holds of each of places
 abbrev pub Each : (ℕ → Type 0) → List ℕ → Type 0
@@ -107,14 +99,10 @@ unwinds : (n m : ℕ) (scope : Scope) (x : Item) (xs : List Item) → open_behin
 unwinds n m scope (Start p l) xs h =
     let e : n + 1 ≡ m = cc in
     ap (λ k. unwound k (declared xs ∷ scope)) (sym e) ∙ rw add-one refl
-unwinds n m scope (Xmlns p u) xs h = let e : n ≡ m = cc in ap (λ k. unwound k scope) (sym e)
-unwinds n m scope (Attr p l v) xs h = let e : n ≡ m = cc in ap (λ k. unwound k scope) (sym e)
-unwinds n m scope (Text v) xs h = let e : n ≡ m = cc in ap (λ k. unwound k scope) (sym e)
-unwinds n m scope (Comment v) xs h = let e : n ≡ m = cc in ap (λ k. unwound k scope) (sym e)
-unwinds n m scope (Array a) xs h = let e : n ≡ m = cc in ap (λ k. unwound k scope) (sym e)
 unwinds zero m scope Close xs h = absurd cc
 unwinds (suc n) m scope Close xs h =
     let e : n ≡ m = cc in ap (λ k. unwound k (around scope)) (sym e)
+unwinds n m scope x xs h = let e : n ≡ m = cc in ap (λ k. unwound k scope) (sym e)
 
 -- a child stands within its parent's declarations, so many elements around
 abbrev Within : Scope → (n at : ℕ) → List Item → ℕ → Type 0

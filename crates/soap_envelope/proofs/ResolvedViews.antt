@@ -1,37 +1,35 @@
 -- Documents that are resolved to the same names, item by item, have the same view but for Body.
-use Rattle.soap_envelope.specs.declared.versions.Addressing.{Addressing}
-use Rattle.std.proofs.Common.{◌≡◌, ℕ, ◌+◌, Bool, true, not, ◌&&◌, List, [], ◌∷◌, map, drop}
-use Rattle.std.proofs.Common.{slice_get, Some, None, Ok, codes, filter, Option, Result, option_map}
-use Rattle.std.proofs.Common.{option_to_list, flat_map, option_and_then, sym, refl, ap, ◌∙◌, subst}
-use Rattle.std.proofs.{Common.inl, Common.inr, Math.Path.fun_ext}
-use Rattle.std.proofs.lemmas.{Bool.cases_Bool, Option.slice_get-map}
+use Rattle.std.proofs.Common.{Bool, List, None, Ok, Option, Result, Some, [], ap, codes, drop}
+use Rattle.std.proofs.Common.{filter, flat_map, inl, inr, map, not, option_and_then, option_map}
+use Rattle.std.proofs.Common.{option_to_list, refl, slice_get, subst, sym, true, ℕ, ◌&&◌, ◌+◌, ◌∙◌}
+use Rattle.std.proofs.Common.{◌∷◌, ◌≡◌}
+use Rattle.std.proofs.{Math.Path.fun_ext, lemmas.Bool.cases_Bool, lemmas.Option.slice_get-map}
 use Rattle.std.specs.{List.list_all, Option.option_or}
-use Rattle.nbfx_values.specs.declared.content.Item.{Item, TheVariants.Text, TheVariants.Xmlns}
-use Rattle.nbfx_values.specs.declared.content.Item.TheVariants.{Array, Attr, Close, Comment, Start}
-use Rattle.soap_envelope.specs.declared.{blocks.Block.Block, parts.Parts.Parts}
-use Rattle.soap_envelope.specs.declared.refusals.SoapFault.{SoapFault, TheVariants.RepeatedHeader}
-use Rattle.soap_envelope.specs.declared.refusals.SoapFault.TheVariants.{BadHeader, BadNames}
-use Rattle.soap_envelope.specs.{BadNames.bad_name, Laws.NamesAreAll, Resolved.resolved}
-use Rattle.soap_envelope.specs.{Bindings.scope_to, Characters.text_of, Scopes.Scope, Scopes.within}
+use Rattle.nbfx_values.specs.declared.content.Item.{Item}
+use Rattle.soap_envelope.proofs.Bare.{all-bare, bare, bare_of, children-bare, closes-bare}
+use Rattle.soap_envelope.proofs.ResolvedPlaces.{Each, attribute-known, attribute_in, children-stand}
+use Rattle.soap_envelope.proofs.ResolvedPlaces.{each-map, element-known, named, named-starts}
+use Rattle.soap_envelope.proofs.{Bare.seen-alike, ResolvedPlaces.root-starts}
 use Rattle.soap_envelope.specs.Blocks.{block_of, blocks_among, soap_attribute_of}
 use Rattle.soap_envelope.specs.Characters.{characters_of, has_plain_content, is_passed, is_plain}
 use Rattle.soap_envelope.specs.Children.{children_of, close_of, is_start}
 use Rattle.soap_envelope.specs.Headers.{addresses, bad_child, bad_children, bad_content}
-use Rattle.soap_envelope.specs.Headers.{bad_in_block, counted_at, earlier}
-use Rattle.soap_envelope.specs.Headers.{counts_as, is_address, is_bad_content, only, repeated}
-use Rattle.soap_envelope.specs.{Names.soap, Parts.wrong_name, Parts.wrong_root}
-use Rattle.soap_envelope.specs.Versions.{namespace, version_of}
+use Rattle.soap_envelope.specs.Headers.{bad_in_block, counted_at, counts_as, earlier, is_address}
+use Rattle.soap_envelope.specs.Headers.{is_bad_content, only, repeated}
 use Rattle.soap_envelope.specs.Parts.{element_name, is_element, is_some_name, kept_children}
-use Rattle.soap_envelope.specs.Parts.{name_by, parts_among, parts_behind, parts_of, root_scope}
-use Rattle.soap_envelope.specs.Renaming.{headed, headed_by}
-use Rattle.soap_envelope.specs.View.{address_in, blocks_of, fault_among, viewed_in, header_children}
-use Rattle.soap_envelope.specs.View.{header_fault}
-use Rattle.soap_envelope.specs.View.{header_scope, reply_address_at, text_item, texts_at, texts_of}
-use Rattle.soap_envelope.specs.View.{unless, View, viewed, viewed_by}
-use Rattle.soap_envelope.proofs.Bare.{all-bare, bare, bare_of, characters-by, children-bare}
-use Rattle.soap_envelope.proofs.Bare.{closes-bare, passed-by, plain-by, start-by, text-by}
-use Rattle.soap_envelope.proofs.ResolvedPlaces.{attribute-known, attribute_in, children-stand, Each}
-use Rattle.soap_envelope.proofs.ResolvedPlaces.{each-map, element-known, named}
+use Rattle.soap_envelope.specs.Parts.{parts_among, parts_behind, parts_of, root_scope, wrong_name}
+use Rattle.soap_envelope.specs.View.{View, address_in, blocks_of, fault_among, header_children}
+use Rattle.soap_envelope.specs.View.{header_fault, header_scope, reply_address_at, text_item}
+use Rattle.soap_envelope.specs.View.{texts_at, texts_of, unless, viewed, viewed_by, viewed_in}
+use Rattle.soap_envelope.specs.declared.refusals.SoapFault.TheVariants.{BadHeader, BadNames}
+use Rattle.soap_envelope.specs.declared.refusals.SoapFault.TheVariants.{RepeatedHeader}
+use Rattle.soap_envelope.specs.{BadNames.bad_name, Bindings.scope_to, Characters.text_of}
+use Rattle.soap_envelope.specs.{Laws.NamesAreAll, Names.soap, Parts.wrong_root, Renaming.headed}
+use Rattle.soap_envelope.specs.{Renaming.headed_by, Resolved.resolved, Scopes.Scope, Scopes.within}
+use Rattle.soap_envelope.specs.{Versions.namespace, Versions.version_of}
+use Rattle.soap_envelope.specs.{declared.blocks.Block.Block, declared.parts.Parts.Parts}
+use Rattle.soap_envelope.specs.{declared.refusals.SoapFault.SoapFault}
+use Rattle.soap_envelope.specs.{declared.versions.Addressing.Addressing}
 
 -- what holds of each of places, by two facts, in a filter, and of filters by tests that agree
 each-both : (P Q : ℕ → Type 0) (cs : List ℕ) → Each P cs → Each Q cs → Each (λ c. P c × Q c) cs
@@ -53,29 +51,6 @@ filter-alike f g (c ∷ cs) h = elim (cases_Bool (g c)) [
   | inr other ↦ rw (h.0, other) (filter-alike f g cs h.1)
 ]
 
--- where an element of some name begins
-element-begins : (scope : Scope) (u l : List ℕ) (o : Option Item)
-    → is_some_name u l (name_by scope o) ≡ true → is_start o ≡ true
-element-begins scope u l None h = absurd cc
-element-begins scope u l (Some (Start p k)) h = refl
-element-begins scope u l (Some (Xmlns p k)) h = absurd cc
-element-begins scope u l (Some (Attr p k v)) h = absurd cc
-element-begins scope u l (Some (Text v)) h = absurd cc
-element-begins scope u l (Some (Comment v)) h = absurd cc
-element-begins scope u l (Some (Array a)) h = absurd cc
-element-begins scope u l (Some Close) h = absurd cc
-
-root-begins : (scope : Scope) (o : Option Item) → wrong_name (name_by scope o) ≡ None
-    → is_start o ≡ true
-root-begins scope None h = absurd cc
-root-begins scope (Some (Start p k)) h = refl
-root-begins scope (Some (Xmlns p k)) h = absurd cc
-root-begins scope (Some (Attr p k v)) h = absurd cc
-root-begins scope (Some (Text v)) h = absurd cc
-root-begins scope (Some (Comment v)) h = absurd cc
-root-begins scope (Some (Array a)) h = absurd cc
-root-begins scope (Some Close) h = absurd cc
-
 headed-unless : (o : Option SoapFault) (a b : Result View SoapFault)
     → headed_by a ≡ headed_by b → headed_by (unless o a) ≡ headed_by (unless o b)
 headed-unless None a b h = h
@@ -91,9 +66,13 @@ module _ (items other : List Item) (alike : resolved items ≡ resolved other) w
       sym (slice_get-map bare items c) ∙ ap (λ l. slice_get l c) bares
       ∙ slice_get-map bare other c
 
+  seen : {X : Type 0} (f : Option Item → X)
+      → ((o : Option Item) → f (option_map bare o) ≡ f o) → (c : ℕ)
+      → f (slice_get items c) ≡ f (slice_get other c)
+  seen f same c = sym (same (slice_get items c)) ∙ ap f (there c) ∙ same (slice_get other c)
+
   starts : (c : ℕ) → is_start (slice_get items c) ≡ is_start (slice_get other c)
-  starts c = sym (start-by (slice_get items c)) ∙ ap is_start (there c)
-      ∙ start-by (slice_get other c)
+  starts = seen is_start (λ o. (seen-alike o).start)
 
   children : (p : ℕ) → children_of items p ≡ children_of other p
   children p = sym (children-bare items p) ∙ ap (λ l. children_of l p) bares
@@ -105,29 +84,26 @@ module _ (items other : List Item) (alike : resolved items ≡ resolved other) w
   kept : (p : ℕ) → kept_children items p ≡ kept_children other p
   kept p =
       ap (λ t. filter t (children_of items p))
-      (fun_ext (λ (c : ℕ). ap not (sym (passed-by (slice_get items c))
-      ∙ ap is_passed (there c) ∙ passed-by (slice_get other c))))
+      (fun_ext (seen (λ o. not (is_passed o)) (λ o. ap not (seen-alike o).passed)))
       ∙ ap (filter (λ (c : ℕ). not (is_passed (slice_get other c)))) (children p)
 
   plain : (p : ℕ) → has_plain_content items p ≡ has_plain_content other p
   plain p =
       ap (λ t. list_all t (children_of items p))
-      (fun_ext (λ (c : ℕ). sym (plain-by (slice_get items c)) ∙ ap is_plain (there c)
-      ∙ plain-by (slice_get other c)))
+      (fun_ext (seen is_plain (λ o. (seen-alike o).plain)))
       ∙ ap (list_all (λ (c : ℕ). is_plain (slice_get other c))) (children p)
 
   characters : (p : ℕ) → text_of items p ≡ text_of other p
   characters p =
       ap (λ t. flat_map t (children_of items p))
-      (fun_ext (λ (c : ℕ). sym (characters-by (slice_get items c)) ∙ ap characters_of (there c)
-      ∙ characters-by (slice_get other c)))
+      (fun_ext (seen characters_of (λ o. (seen-alike o).characters)))
       ∙ ap (flat_map (λ (c : ℕ). characters_of (slice_get other c))) (children p)
 
   texts : (p : ℕ) → texts_of items p ≡ texts_of other p
   texts p =
       ap (λ t. flat_map t (children_of items p))
-      (fun_ext (λ (c : ℕ). ap option_to_list (sym (text-by (slice_get items c))
-      ∙ ap text_item (there c) ∙ text-by (slice_get other c))))
+      (fun_ext (seen (λ o. option_to_list (text_item o)) (λ o. ap option_to_list
+      (seen-alike o).text)))
       ∙ ap (flat_map (λ (c : ℕ). option_to_list (text_item (slice_get other c)))) (children p)
 
   texts-at : (o : Option ℕ) → texts_at items o ≡ texts_at other o
@@ -408,7 +384,7 @@ module _ (items other : List Item) (alike : resolved items ≡ resolved other) w
       let e = elements root other_root soap (codes "Header") c h.0 in
       elim (cases_Bool (is_element items root soap (codes "Header") c)) [
         | inl is ↦
-            let begun = element-begins (within items c root) soap (codes "Header")
+            let begun = named-starts (within items c root) soap (codes "Header")
             (slice_get items c) is in
             rw (is, sym e ∙ is) (behind-header (Some c) (h.0, begun) cs h.1)
         | inr none ↦ rw (none, sym e ∙ none) (behind-header None tt (c ∷ cs) h)
@@ -432,7 +408,7 @@ module _ (items other : List Item) (alike : resolved items ≡ resolved other) w
       by : (o : Option SoapFault) → wrong_root items ≡ o
           → headed_by (unless o (viewed_by items (parts_of items)))
           ≡ headed_by (unless o (viewed_by other (parts_of other)))
-      by None k = of-parts (root-begins (within items 0 []) (slice_get items 0) k)
+      by None k = of-parts (root-starts (within items 0 []) (slice_get items 0) k)
       by (Some fault) k = refl
 
 pub names_are_all : NamesAreAll

@@ -15,21 +15,14 @@ use Rattle.soap_envelope.proofs.{BindingFacts.newest-more, Lists.drop-at}
 
 -- nothing is declared behind the head
 pub declared-end : (items : List Item) → declared (drop (head_len items) items) ≡ []
-declared-end [] = refl
-declared-end (Start p l ∷ more) = refl
 declared-end (Xmlns p u ∷ more) = rw add-one (declared-end more)
 declared-end (Attr p l v ∷ more) = rw add-one (declared-end more)
-declared-end (Text v ∷ more) = refl
-declared-end (Comment v ∷ more) = refl
-declared-end (Array v ∷ more) = refl
-declared-end (Close ∷ more) = refl
+declared-end items = refl
 
 -- one item more of the head
 pub declared-at : (items : List Item) (k : ℕ) (item : Item) → k < head_len items
     → item ≡ get_or items k item
     → declared (drop k items) ≡ declared_by item ++ declared (drop (k + 1) items)
-declared-at [] k item h e = absurd (omega arith)
-declared-at (Start p l ∷ more) k item h e = absurd (omega arith)
 declared-at (Xmlns p u ∷ more) zero item h e = let is : item ≡ Xmlns p u = e in rw is refl
 declared-at (Xmlns p u ∷ more) (suc k) item h e =
     let step : suc k + 1 ≡ suc (k + 1) = omega arith in
@@ -38,10 +31,7 @@ declared-at (Attr p l v ∷ more) zero item h e = let is : item ≡ Attr p l v =
 declared-at (Attr p l v ∷ more) (suc k) item h e =
     let step : suc k + 1 ≡ suc (k + 1) = omega arith in
     rw step (declared-at more k item (omega arith) e)
-declared-at (Text v ∷ more) k item h e = absurd (omega arith)
-declared-at (Comment v ∷ more) k item h e = absurd (omega arith)
-declared-at (Array v ∷ more) k item h e = absurd (omega arith)
-declared-at (Close ∷ more) k item h e = absurd (omega arith)
+declared-at items k item h e = absurd (omega arith)
 
 -- one attribute more
 pub declared_on-at : (xs : List AttrItem) (k : ℕ) (x : AttrItem) → k < length xs
@@ -117,7 +107,7 @@ closed-layers marks left mark ds kept e is =
     let all : reverse marks ≡ mark ∷ reverse left = ap reverse e ∙ newest-more left mark in
     rw (all, is) refl
 
-uri-append : (xs ys : List Declaration) (q : List ℕ)
+pub uri-append : (xs ys : List Declaration) (q : List ℕ)
     → uri_in (xs ++ ys) q ≡ option_or (uri_in xs q) (uri_in ys q)
 uri-append [] ys q = refl
 uri-append (d ∷ xs) ys q = elim (cases_Bool (bytes_eq d.prefix q)) [
@@ -125,7 +115,8 @@ uri-append (d ∷ xs) ys q = elim (cases_Bool (bytes_eq d.prefix q)) [
   | inr other ↦ rw other (uri-append xs ys q)
 ]
 
-or-or : {X : Type 0} (a b c : Option X) → option_or a (option_or b c) ≡ option_or (option_or a b) c
+pub or-or : {X : Type 0} (a b c : Option X)
+    → option_or a (option_or b c) ≡ option_or (option_or a b) c
 or-or None b c = refl
 or-or (Some x) b c = refl
 

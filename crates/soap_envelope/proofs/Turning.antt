@@ -1,9 +1,8 @@
 -- Items that go from the front of a ring to its end, with the declarations that children need.
-use Rattle.std.proofs.Common.{◌≡◌, ℕ, zero, suc, ◌+◌, ◌-◌, ◌<◌, ◌≤◌, List, [], ◌∷◌, ◌++◌, length}
-use Rattle.std.proofs.Common.{map, take, drop, Some, None, Option, IfSome, sym, refl, ap, ◌∙◌, arith}
-use Rattle.std.proofs.Common.{append_assoc, length-drop}
-use Rattle.nbfx_values.specs.declared.content.Item.{Item, TheVariants.Text, TheVariants.Xmlns}
-use Rattle.nbfx_values.specs.declared.content.Item.TheVariants.{Array, Attr, Close, Comment, Start}
+use Rattle.std.proofs.Common.{IfSome, List, None, Option, Some, [], ap, append_assoc, arith, drop}
+use Rattle.std.proofs.Common.{length, length-drop, map, refl, suc, sym, take, zero, ℕ, ◌++◌, ◌+◌}
+use Rattle.std.proofs.Common.{◌-◌, ◌<◌, ◌∙◌, ◌∷◌, ◌≡◌, ◌≤◌}
+use Rattle.nbfx_values.specs.{declared.content.Item.Item, declared.content.Item.TheVariants.Close}
 use Rattle.soap_envelope.specs.Body.{open_after, self_standing, turned_items, xmlns_of}
 use Rattle.soap_envelope.specs.Scopes.{Declaration, declared}
 
@@ -40,14 +39,9 @@ head-of (x ∷ xs) (suc i) h =
 few-after : (inner : Option ℕ) (item : Item) (i : ℕ) → IfSome inner (λ n. n ≤ i)
     → IfSome (open_after inner item) (λ n. n ≤ i + 1)
 few-after None item i h = tt
-few-after (Some n) (Start p l) i h = omega (arith, h)
-few-after (Some n) (Xmlns p u) i h = omega (arith, h)
-few-after (Some n) (Attr p l v) i h = omega (arith, h)
-few-after (Some n) (Text v) i h = omega (arith, h)
-few-after (Some n) (Comment v) i h = omega (arith, h)
-few-after (Some n) (Array v) i h = omega (arith, h)
 few-after (Some zero) Close i h = tt
 few-after (Some (suc n)) Close i h = omega (arith, h)
+few-after (Some n) item i h = omega (arith, h)
 
 module _ (needs : List Declaration) (items : List Item) (i : ℕ) (inner : Option ℕ)
     (ring : List Item) (t : IsTurned needs items i inner ring) (count : ℕ)
@@ -66,7 +60,8 @@ module _ (needs : List Declaration) (items : List Item) (i : ℕ) (inner : Optio
       let same_left : left ≡ more ++ t.put = cc in
       let ahead : take (count - i - 1) left ≡ more =
       ap (take (count - i - 1)) same_left
-      ∙ take-before more t.put (count - i - 1) (omega (arith, all, here, length-drop (i + 1) items)) in
+      ∙ take-before more t.put (count - i - 1)
+      (omega (arith, all, here, length-drop (i + 1) items)) in
       let turned = turned_items needs inner item more in
       record {
         put = t.put ++ turned;

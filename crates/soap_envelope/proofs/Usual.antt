@@ -1,10 +1,10 @@
--- Where the root and Body declare nothing but what every reply does, children need no declaration.
-use Rattle.soap_envelope.specs.declared.versions.Addressing.{Addressing}
-use Rattle.std.proofs.Common.{◌≡◌, Bool, true, not, List, [], ◌∷◌, filter, nat_cmp, Ordering, Less}
-use Rattle.std.proofs.{Common.Equal, Common.Greater, Common.refl, lemmas.Bool.and_parts}
+-- What holds of declarations holds of them in scope; and where the root and Body declare nothing
+-- but what every reply does, children need no declaration.
+use Rattle.std.proofs.Common.{Bool, Equal, Greater, Less, List, Ordering, [], filter, nat_cmp, not}
+use Rattle.std.proofs.{Common.refl, Common.true, Common.◌∷◌, Common.◌≡◌, lemmas.Bool.and_parts}
 use Rattle.std.specs.{Cmp.Lexicographic.slice_cmp, List.list_all}
 use Rattle.soap_envelope.specs.Body.{is_usual, needed, placed, put, put_all}
-use Rattle.soap_envelope.specs.Scopes.{Declaration}
+use Rattle.soap_envelope.specs.{Scopes.Declaration, declared.versions.Addressing.Addressing}
 
 all-placed : (p : Declaration → Bool) (o : Ordering) (d e : Declaration)
     (more behind : List Declaration)
@@ -14,14 +14,14 @@ all-placed p Less d e more behind h k b = rw h k
 all-placed p Equal d e more behind h k b = rw h (and_parts (p e) (list_all p more) k).1
 all-placed p Greater d e more behind h k b = rw (and_parts (p e) (list_all p more) k).0 b
 
-all-put : (p : Declaration → Bool) (d : Declaration) (ds : List Declaration)
+pub all-put : (p : Declaration → Bool) (d : Declaration) (ds : List Declaration)
     → p d ≡ true → list_all p ds ≡ true → list_all p (put d ds) ≡ true
 all-put p d [] h k = rw h refl
 all-put p d (e ∷ more) h k =
     all-placed p (slice_cmp nat_cmp d.prefix e.prefix) d e more (put d more) h k
     (all-put p d more h (and_parts (p e) (list_all p more) k).1)
 
-all-put-all : (p : Declaration → Bool) (ds others : List Declaration)
+pub all-put-all : (p : Declaration → Bool) (ds others : List Declaration)
     → list_all p ds ≡ true → list_all p others ≡ true → list_all p (put_all ds others) ≡ true
 all-put-all p [] others h k = k
 all-put-all p (d ∷ more) others h k =

@@ -1,46 +1,39 @@
 -- Worked cases: the view of literal documents.
-use Rattle.std.proofs.Common.{◌≡◌, ℕ, Bool, true, false, List, [], ◌∷◌, ◌++◌, map, pos, Some, None}
-use Rattle.std.proofs.Common.{Ok, Err, codes, Option, Result, refl}
-use Rattle.nbfx_values.specs.declared.content.AttrItem.TheVariants.{Xmlns as DeclaresOn}
-use Rattle.nbfx_values.specs.declared.content.Item.{Item, TheVariants.Xmlns}
-use Rattle.nbfx_values.specs.declared.content.Item.TheVariants.{Attr, Close, Comment, Start, Text}
+use Prim.Native.String.{String}
+use Rattle.std.proofs.Common.{Bool, Err, List, None, Ok, Option, Result, Some, [], codes, false}
+use Rattle.std.proofs.Common.{map, pos, refl, true, ℕ, ◌++◌, ◌∷◌, ◌≡◌}
+use Rattle.nbfx_values.specs.declared.content.Item.TheVariants.{Close, Text}
 use Rattle.nbfx_values.specs.declared.scalars.Scalar.TheVariants.{Float, Number, QName, Truth}
-use Rattle.nbfx_values.specs.declared.scalars.{Scalar.TheVariants.UniqueId, Value.TheVariants.One}
-use Rattle.soap_envelope.specs.declared.versions.Addressing.TheVariants.{V10}
-use Rattle.soap_envelope.specs.declared.{blocks.Block.Block, refusals.SoapFault.SoapFault}
-use Rattle.soap_envelope.specs.{Fitting.fits, Qualified.Name, View.View, View.view}
-use Rattle.soap_envelope.specs.Names.{addressing, qualified_name, role_next, role_ultimate_receiver}
-use Rattle.soap_envelope.specs.Names.{soap, xml_namespace}
-use Rattle.soap_envelope.proofs.Documents.{a, action, array, attribute, echo, enveloped, identified}
-use Rattle.soap_envelope.proofs.Documents.{identifier, message, must, role, s, with_blocks}
-use Rattle.soap_envelope.proofs.Documents.{with_body, words, x}
+use Rattle.nbfx_values.specs.{declared.content.Item.Item, declared.scalars.Value.TheVariants.One}
+use Rattle.soap_envelope.proofs.Documents.{a, action, array, attribute, binds, called, declares_on}
+use Rattle.soap_envelope.proofs.Documents.{echo, enveloped, identified, message, must, next, note}
+use Rattle.soap_envelope.proofs.Documents.{role, s, some, start, valued, with_blocks, with_body}
+use Rattle.soap_envelope.proofs.Documents.{words, words_of, x, xmlns}
 use Rattle.soap_envelope.proofs.OnLiterals.{envelopes_on_literals}
+use Rattle.soap_envelope.specs.Names.{addressing, qualified_name, soap, xml_namespace}
+use Rattle.soap_envelope.specs.{Fitting.fits, Qualified.Name, View.View, View.view}
+use Rattle.soap_envelope.specs.{declared.blocks.Block.Block, declared.refusals.SoapFault.SoapFault}
+use Rattle.soap_envelope.specs.{declared.versions.Addressing.TheVariants.V10}
+
+-- a targeted block of addressing's
+abbrev block_at : String → Bool → (from to : ℕ) → Block
+block_at local must_understand from to = record {
+  name = qualified_name addressing (codes local);
+  must_understand = must_understand;
+  targeted = true;
+  from = from;
+  to = to;
+}
 
 -- an envelope as WCF sends them
 an_echo : view echo ≡ Ok (record {
-  blocks =
-      record {
-        name = qualified_name addressing (codes "Action");
-        must_understand = true;
-        targeted =
-            true;
-        from = 4;
-        to = 7;
-      }
-      ∷ record {
-        name = qualified_name addressing (codes "MessageID");
-        must_understand = false;
-        targeted = true;
-        from = 8;
-        to = 10;
-      }
-      ∷ [];
+  blocks = block_at "Action" true 4 7 ∷ block_at "MessageID" false 8 10 ∷ [];
   version = V10;
-  action = Some (codes "urn:echo");
+  action = some "urn:echo";
   reply_address = None;
-  message_id = Text (One (UniqueId identifier)) ∷ [];
+  message_id = identified;
   body_at = 12;
-  body = Start [] (codes "x") ∷ words (codes "hi") ∷ Close ∷ [];
+  body = start "" "x" ∷ words "hi" ∷ Close ∷ [];
 })
 unfolding envelopes_on_literals
 an_echo = refl
@@ -65,57 +58,39 @@ abbrev flags : View → List (Bool × Bool)
 flags v = map (λ (b : Block). (b.must_understand, b.targeted)) v.blocks
 
 abbrev pub block : List Item → List Item
-block inner = with_blocks (a (codes "Sec") inner)
+block inner = with_blocks (a "Sec" inner)
 
 abbrev pub flagged : List (List Item × List (Bool × Bool))
-flagged =
-    (block [], (false, true) ∷ [])
-    ∷ (block (must (codes "1") ∷ []), (true, true) ∷ [])
-    ∷ (block (must (codes "true") ∷ []), (true, true) ∷ [])
-    ∷ (block (must (codes "0") ∷ []), (false, true) ∷ [])
-    ∷ (block (must (codes "false") ∷ []), (false, true) ∷ [])
-    ∷ (block (Attr (codes "s") (codes "mustUnderstand") (One (Truth true)) ∷ []), (true, true) ∷ [])
-    ∷ (block (must (codes "1") ∷ must (codes "TRUE") ∷ []), (true, true) ∷ [])
-    ∷ (block (attribute [] (codes "mustUnderstand") (codes "1") ∷ []), (false, true) ∷ [])
-    ∷ (block (attribute (codes "a") (codes "mustUnderstand") (codes "1") ∷ []), (false, true) ∷ [])
-    ∷ (block (attribute [] (codes "mustUnderstand") (codes "TRUE") ∷ []), (false, true) ∷ [])
+flagged = (block [], (false, true) ∷ [])
+    ∷ (block (must "1" ∷ []), (true, true) ∷ [])
+    ∷ (block (must "true" ∷ []), (true, true) ∷ [])
+    ∷ (block (must "0" ∷ []), (false, true) ∷ [])
+    ∷ (block (must "false" ∷ []), (false, true) ∷ [])
+    ∷ (block (valued "s" "mustUnderstand" (Truth true) ∷ []), (true, true) ∷ [])
+    ∷ (block (must "1" ∷ must "TRUE" ∷ []), (true, true) ∷ [])
+    ∷ (block (attribute "" "mustUnderstand" "1" ∷ []), (false, true) ∷ [])
+    ∷ (block (attribute "a" "mustUnderstand" "1" ∷ []), (false, true) ∷ [])
+    ∷ (block (attribute "" "mustUnderstand" "TRUE" ∷ []), (false, true) ∷ [])
+    ∷ (block (valued "s" "mustUnderstand" (Truth false) ∷ []), (false, true) ∷ [])
+    ∷ (block (binds "" soap ∷ attribute "" "mustUnderstand" "1" ∷ []), (false, true) ∷ [])
+    ∷ (block (attribute "p" "mustUnderstand" "1" ∷ binds "p" soap ∷ []), (true, true) ∷ [])
+    ∷ (block (role "" ∷ []), (false, true) ∷ [])
+    ∷ (block (role " " ∷ []), (false, false) ∷ [])
+    ∷ (block (attribute "a" "role" "urn:other" ∷ []), (false, true) ∷ [])
+    ∷ (block (attribute "" "role" "urn:other" ∷ []), (false, true) ∷ [])
+    ∷ (block (must "1" ∷ role "urn:other" ∷ []), (true, false) ∷ [])
+    ∷ (block (role next ∷ []), (false, true) ∷ [])
     ∷ (
-      block (Attr (codes "s") (codes "mustUnderstand") (One (Truth false)) ∷ []),
-      (false, true) ∷ [],
-    )
-    ∷ (
-      block (Xmlns [] soap ∷ attribute [] (codes "mustUnderstand") (codes "1") ∷ []),
-      (false, true)
-          ∷ [],
-    )
-    ∷ (
-      block (attribute (codes "p") (codes "mustUnderstand") (codes "1") ∷ Xmlns (codes "p") soap
+      block (role "http://www.w3.org/2003/05/soap-envelope/role/ultimateReceiver"
           ∷ []),
-      (true, true) ∷ [],
-    )
-    ∷ (block (role [] ∷ []), (false, true) ∷ [])
-    ∷ (block (role (codes " ") ∷ []), (false, false) ∷ [])
-    ∷ (block (attribute (codes "a") (codes "role") (codes "urn:other") ∷ []), (false, true) ∷ [])
-    ∷ (block (attribute [] (codes "role") (codes "urn:other") ∷ []), (false, true) ∷ [])
-    ∷ (block (must (codes "1") ∷ role (codes "urn:other") ∷ []), (true, false) ∷ [])
-    ∷ (block (role role_next ∷ []), (false, true) ∷ [])
-    ∷ (block (role role_ultimate_receiver ∷ []), (false, true) ∷ [])
-    ∷ (
-      block (role (codes "http://www.w3.org/2003/05/soap-envelope/role/none") ∷ []),
-      (false, false)
-          ∷ [],
-    )
-    ∷ (block (role (codes "urn:other") ∷ role role_next ∷ []), (false, false) ∷ [])
-    ∷ (
-      block (role role_next ∷ Attr (codes "s") (codes "role") (One (Float 0)) ∷ []),
       (false, true) ∷ [],
     )
-    ∷ (
-      with_blocks (a (codes "RelatesTo") [] ++ a (codes "RelatesTo") []),
-      (false, true) ∷ (false, true) ∷ [],
-    )
-    ∷ (with_blocks (a (codes "RelatesTo") (x [])), (false, true) ∷ [])
-    ∷ (with_blocks (s (codes "Action") [] ++ action), (false, true) ∷ (true, true) ∷ [])
+    ∷ (block (role "http://www.w3.org/2003/05/soap-envelope/role/none" ∷ []), (false, false) ∷ [])
+    ∷ (block (role "urn:other" ∷ role next ∷ []), (false, false) ∷ [])
+    ∷ (block (role next ∷ valued "s" "role" (Float 0) ∷ []), (false, true) ∷ [])
+    ∷ (with_blocks (a "RelatesTo" [] ++ a "RelatesTo" []), (false, true) ∷ (false, true) ∷ [])
+    ∷ (with_blocks (a "RelatesTo" (x [])), (false, true) ∷ [])
+    ∷ (with_blocks (s "Action" [] ++ action), (false, true) ∷ (true, true) ∷ [])
     ∷ []
 
 flags_of_blocks : AllTold flags flagged
@@ -128,35 +103,25 @@ flags_of_blocks = refl
 abbrev names : View → List Name
 names v = map (λ (b : Block). b.name) v.blocks
 
-abbrev q : List ℕ → List Item → List Item
-q uri inner = Start (codes "q") (codes "x") ∷ Xmlns (codes "q") uri ∷ (inner ++ Close ∷ [])
+abbrev q : String → List Item → List Item
+q uri inner = start "q" "x" ∷ xmlns "q" uri ∷ (inner ++ Close ∷ [])
 
 abbrev xml : List Item → List Item
-xml inner = Start (codes "xml") (codes "x") ∷ (inner ++ Close ∷ [])
+xml inner = start "xml" "x" ∷ (inner ++ Close ∷ [])
 
 abbrev pub named : List (List Item × List Name)
-named = (
-  with_blocks (q (codes "urn:q") (q (codes "urn:r") [])),
-  qualified_name (codes "urn:q") (codes "x") ∷ [],
-)
+named = (with_blocks (q "urn:q" (q "urn:r" [])), called "urn:q" "x" ∷ [])
     ∷ (
-      with_blocks (Xmlns (codes "q") (codes "urn:q") ∷ Start (codes "q") (codes "x") ∷ Close
-          ∷ q (codes "urn:r") [] ++ Start (codes "q") (codes "y") ∷ Close ∷ []),
-      qualified_name (codes "urn:q") (codes "x") ∷ qualified_name (codes "urn:r") (codes "x")
-          ∷ qualified_name (codes "urn:q") (codes "y") ∷ [],
+      with_blocks (xmlns "q" "urn:q" ∷ start "q" "x" ∷ Close ∷ q "urn:r" [] ++ start "q" "y"
+          ∷ Close ∷ []),
+      called "urn:q" "x" ∷ called "urn:r" "x" ∷ called "urn:q" "y" ∷ [],
     )
+    ∷ (with_blocks (xmlns "" "urn:d" ∷ x []), called "urn:d" "x" ∷ [])
+    ∷ (with_blocks (a "To" []), qualified_name addressing (codes "To") ∷ [])
+    ∷ (with_blocks (xmlns "a" "urn:a" ∷ a "Action" []), called "urn:a" "Action" ∷ [])
     ∷ (
-      with_blocks (Xmlns [] (codes "urn:d") ∷ x []),
-      qualified_name (codes "urn:d") (codes "x") ∷ [],
-    )
-    ∷ (with_blocks (a (codes "To") []), qualified_name addressing (codes "To") ∷ [])
-    ∷ (
-      with_blocks (Xmlns (codes "a") (codes "urn:a") ∷ a (codes "Action") []),
-      qualified_name (codes "urn:a") (codes "Action") ∷ [],
-    )
-    ∷ (
-      with_blocks (xml [] ++ xml (Xmlns (codes "xml") (codes "urn:q") ∷ [])),
-      qualified_name xml_namespace (codes "x") ∷ qualified_name (codes "urn:q") (codes "x") ∷ [],
+      with_blocks (xml [] ++ xml (xmlns "xml" "urn:q" ∷ [])),
+      qualified_name xml_namespace (codes "x") ∷ called "urn:q" "x" ∷ [],
     )
     ∷ []
 
@@ -166,30 +131,17 @@ names_of_blocks = refl
 
 -- the action: the first that is targeted, its texts joined, nothing trimmed
 abbrev acting : List Item → List Item
-acting inner = with_blocks (a (codes "Action") inner)
+acting inner = with_blocks (a "Action" inner)
 
 abbrev pub acted : List (List Item × Option (List ℕ))
-acted =
-    (with_blocks [], None)
+acted = (with_blocks [], None)
     ∷ (with_body [], None)
     ∷ (acting [], Some [])
-    ∷ (
-      acting (words (codes " a") ∷ Comment (codes "b") ∷ Text (One (Number (pos 1))) ∷ []),
-      Some
-          (codes " a1"),
-    )
-    ∷ (acting (role (codes "urn:other") ∷ words (codes "b") ∷ []), None)
-    ∷ (
-      with_blocks (a (codes "Action") (role (codes "urn:other") ∷ words (codes "b") ∷ [])
-          ++ action),
-      Some (codes "urn:echo"),
-    )
-    ∷ (
-      with_blocks (a (codes "Action") (role (codes "urn:other") ∷ x []) ++ action),
-      Some
-          (codes "urn:echo"),
-    )
-    ∷ (with_blocks (s (codes "Action") (words (codes "b") ∷ [])), None)
+    ∷ (acting (words " a" ∷ note "b" ∷ Text (One (Number (pos 1))) ∷ []), some " a1")
+    ∷ (acting (role "urn:other" ∷ words "b" ∷ []), None)
+    ∷ (with_blocks (a "Action" (role "urn:other" ∷ words "b" ∷ []) ++ action), some "urn:echo")
+    ∷ (with_blocks (a "Action" (role "urn:other" ∷ x []) ++ action), some "urn:echo")
+    ∷ (with_blocks (s "Action" (words "b" ∷ [])), None)
     ∷ []
 
 actions : AllTold (λ v. v.action) acted
@@ -198,38 +150,27 @@ actions = refl
 
 -- the texts of the first MessageID that is targeted, as they stand, and not what is between them
 abbrev elsewhere : List Item → List Item
-elsewhere inner = role (codes "urn:other") ∷ inner
+elsewhere inner = role "urn:other" ∷ inner
 
 abbrev naming : List Item → List Item
-naming inner = with_blocks (a (codes "MessageID") inner)
+naming inner = with_blocks (a "MessageID" inner)
 
 abbrev pub identifying : List (List Item × List Item)
-identifying =
-    (with_blocks [], [])
+identifying = (with_blocks [], [])
     ∷ (with_body [], [])
     ∷ (naming [], [])
-    ∷ (naming (Comment (codes "b") ∷ []), [])
+    ∷ (naming (note "b" ∷ []), [])
     ∷ (with_blocks message, identified)
+    ∷ (naming (words "b" ∷ words " c" ∷ []), words "b" ∷ words " c" ∷ [])
     ∷ (
-      naming (words (codes "b") ∷ words (codes " c") ∷ []),
-      words (codes "b") ∷ words (codes " c") ∷ [],
+      naming (note "" ∷ words "b" ∷ note "c" ∷ Text (One (Number (pos 1))) ∷ []),
+      words "b" ∷ Text (One (Number (pos 1))) ∷ [],
     )
-    ∷ (
-      naming (Comment [] ∷ words (codes "b") ∷ Comment (codes "c") ∷ Text (One (Number (pos 1)))
-          ∷ []),
-      words (codes "b") ∷ Text (One (Number (pos 1))) ∷ [],
-    )
-    ∷ (naming (elsewhere (words (codes "b") ∷ [])), [])
-    ∷ (
-      with_blocks (a (codes "MessageID") (elsewhere (words (codes "b") ∷ [])) ++ message),
-      identified,
-    )
-    ∷ (
-      with_blocks (message ++ a (codes "MessageID") (elsewhere (words (codes "b") ∷ []))),
-      identified,
-    )
-    ∷ (with_blocks (s (codes "MessageID") identified), [])
-    ∷ (with_blocks (a (codes "RelatesTo") identified), [])
+    ∷ (naming (elsewhere (words "b" ∷ [])), [])
+    ∷ (with_blocks (a "MessageID" (elsewhere (words "b" ∷ [])) ++ message), identified)
+    ∷ (with_blocks (message ++ a "MessageID" (elsewhere (words "b" ∷ []))), identified)
+    ∷ (with_blocks (s "MessageID" identified), [])
+    ∷ (with_blocks (a "RelatesTo" identified), [])
     ∷ []
 
 message_ids : AllTold (λ v. v.message_id) identifying
@@ -238,46 +179,30 @@ message_ids = refl
 
 -- the reply address: the only Address of characters alone
 abbrev replying : List Item → List Item
-replying inner = with_blocks (a (codes "ReplyTo") inner)
+replying inner = with_blocks (a "ReplyTo" inner)
 
 abbrev pub replied : List (List Item × Option (List ℕ))
-replied =
-    (with_blocks [], None)
-    ∷ (replying (a (codes "Address") []), Some [])
-    ∷ (replying (a (codes "Address") (Comment (codes "a") ∷ [])), Some [])
-    ∷ (replying (elsewhere (a (codes "Address") (words (codes "urn:a") ∷ []))), None)
+replied = (with_blocks [], None)
+    ∷ (replying (a "Address" []), Some [])
+    ∷ (replying (a "Address" (note "a" ∷ [])), Some [])
+    ∷ (replying (elsewhere (a "Address" (words "urn:a" ∷ []))), None)
     ∷ (
-      with_blocks (a (codes "ReplyTo") (elsewhere (a (codes "Address") (words (codes "b") ∷ [])))
-          ++ a (codes "ReplyTo") (a (codes "Address") (words (codes "urn:a") ∷ []))),
-      Some (codes "urn:a"),
+      with_blocks (a "ReplyTo" (elsewhere (a "Address" (words "b" ∷ [])))
+          ++ a "ReplyTo" (a "Address" (words "urn:a" ∷ []))),
+      some "urn:a",
     )
     ∷ (
-      replying (a (codes "Address") (Text (One (Float 0)) ∷ [])
-          ++ a (codes "Address") (words (codes "urn:a") ∷ [])),
-      Some (codes "urn:a"),
+      replying (a "Address" (Text (One (Float 0)) ∷ []) ++ a "Address" (words "urn:a" ∷ [])),
+      some "urn:a",
     )
+    ∷ (replying (a "Address" (words "urn:" ∷ note "" ∷ words "a" ∷ [])), some "urn:a")
+    ∷ (with_blocks (a "ReplyTo" (role "urn:other" ∷ [])), None)
+    ∷ (replying (a "Address" (words "urn:a" ∷ [])), some "urn:a")
+    ∷ (replying (x [] ++ a "Address" (words "urn:a" ∷ []) ++ words "z" ∷ []), some "urn:a")
+    ∷ (replying (a "Address" (x []) ++ a "Address" (words "urn:a" ∷ [])), some "urn:a")
     ∷ (
-      replying (a (codes "Address") (words (codes "urn:") ∷ Comment [] ∷ words (codes "a") ∷ [])),
-      Some (codes "urn:a"),
-    )
-    ∷ (
-      with_blocks (a (codes "ReplyTo") (role (codes "urn:other") ∷ [])),
-      None,
-    )
-    ∷ (replying (a (codes "Address") (words (codes "urn:a") ∷ [])), Some (codes "urn:a"))
-    ∷ (
-      replying (x [] ++ a (codes "Address") (words (codes "urn:a") ∷ []) ++ words (codes "z")
-          ∷ []),
-      Some (codes "urn:a"),
-    )
-    ∷ (
-      replying (a (codes "Address") (x []) ++ a (codes "Address") (words (codes "urn:a") ∷ [])),
-      Some (codes "urn:a"),
-    )
-    ∷ (
-      replying (Start (codes "q") (codes "Address") ∷ Xmlns (codes "q") addressing
-          ∷ words (codes "urn:a") ∷ Close ∷ []),
-      Some (codes "urn:a"),
+      replying (start "q" "Address" ∷ binds "q" addressing ∷ words "urn:a" ∷ Close ∷ []),
+      some "urn:a",
     )
     ∷ []
 
@@ -287,29 +212,19 @@ reply_addresses = refl
 
 -- blocks that may stand once are no repetition where one isn't targeted, nor is one of SOAP's
 abbrev pub single : List (List Item × List (Bool × Bool))
-single = (
-  with_blocks (a (codes "To") (elsewhere []) ++ a (codes "To") []),
-  (false, false) ∷ (false, true) ∷ [],
-)
+single = (with_blocks (a "To" (elsewhere []) ++ a "To" []), (false, false) ∷ (false, true) ∷ [])
+    ∷ (with_blocks (a "To" [] ++ a "To" (elsewhere [])), (false, true) ∷ (false, false) ∷ [])
     ∷ (
-      with_blocks (a (codes "To") [] ++ a (codes "To") (elsewhere [])),
-      (false, true) ∷ (false, false) ∷ [],
-    )
-    ∷ (
-      with_blocks (a (codes "To") (elsewhere []) ++ a (codes "To") (elsewhere [])),
+      with_blocks (a "To" (elsewhere []) ++ a "To" (elsewhere [])),
       (false, false) ∷ (false, false) ∷ [],
     )
+    ∷ (with_blocks (a "MessageID" (elsewhere []) ++ message), (false, false) ∷ (false, true) ∷ [])
     ∷ (
-      with_blocks (a (codes "MessageID") (elsewhere []) ++ message),
-      (false, false) ∷ (false, true) ∷ [],
-    )
-    ∷ (
-      with_blocks (a (codes "ReplyTo") (a (codes "Address") [])
-          ++ a (codes "ReplyTo") (elsewhere [])),
+      with_blocks (a "ReplyTo" (a "Address" []) ++ a "ReplyTo" (elsewhere [])),
       (false, true) ∷ (false, false) ∷ [],
     )
     ∷ (
-      with_blocks (s (codes "To") [] ++ a (codes "To") [] ++ s (codes "To") []),
+      with_blocks (s "To" [] ++ a "To" [] ++ s "To" []),
       (false, true) ∷ (false, true) ∷ (false, true) ∷ [],
     )
     ∷ []
@@ -321,31 +236,21 @@ single_blocks = refl
 -- what may stand about, and other prefixes for the same namespaces
 abbrev pub about : List (List Item × List Item)
 about = (
-  enveloped (words (codes " ") ∷ s (codes "Header") [] ++ Comment [] ∷ s (codes "Body") []
-      ++ words (0x0D ∷ 0x0A ∷ 0x09 ∷ []) ∷ []),
+  enveloped (words " " ∷ s "Header" [] ++ note "" ∷ s "Body" [] ++ words_of (0x0D ∷ 0x0A ∷ 0x09
+      ∷ []) ∷ []),
   [],
 )
-    ∷ (enveloped (words [] ∷ Comment (codes "hi") ∷ s (codes "Body") []), [])
-    ∷ (with_blocks (Comment [] ∷ words [] ∷ action ++ words (codes " ") ∷ []), [])
+    ∷ (enveloped (words "" ∷ note "hi" ∷ s "Body" []), [])
+    ∷ (with_blocks (note "" ∷ words "" ∷ action ++ words " " ∷ []), [])
     ∷ (
-      Start [] (codes "Envelope") ∷ Xmlns [] soap ∷ Start [] (codes "Body") ∷ words (codes "hi")
-          ∷ Close ∷ Close ∷ [],
-      words (codes "hi") ∷ [],
+      start "" "Envelope" ∷ binds "" soap ∷ start "" "Body" ∷ words "hi" ∷ Close ∷ Close ∷ [],
+      words "hi" ∷ [],
     )
+    ∷ (start "e" "Envelope" ∷ binds "e" soap ∷ start "e" "Body" ∷ Close ∷ Close ∷ [], [])
+    ∷ (with_body (x (attribute "xml" "lang" "en" ∷ [])), x (attribute "xml" "lang" "en" ∷ []))
     ∷ (
-      Start (codes "e") (codes "Envelope") ∷ Xmlns (codes "e") soap ∷ Start (codes "e")
-          (codes "Body") ∷ Close ∷ Close ∷ [],
-      [],
-    )
-    ∷ (
-      with_body (x (attribute (codes "xml") (codes "lang") (codes "en") ∷ [])),
-      x
-          (attribute (codes "xml") (codes "lang") (codes "en") ∷ []),
-    )
-    ∷ (
-      with_body (x (attribute (codes "q") (codes "k") [] ∷ Xmlns (codes "q") [] ∷ [])),
-      x
-          (attribute (codes "q") (codes "k") [] ∷ Xmlns (codes "q") [] ∷ []),
+      with_body (x (attribute "q" "k" "" ∷ xmlns "q" "" ∷ [])),
+      x (attribute "q" "k" "" ∷ xmlns "q" "" ∷ []),
     )
     ∷ (
       with_body (x (Text (One (QName 1 (codes "x"))) ∷ [])),
@@ -359,71 +264,61 @@ passed = refl
 
 -- the declarations that children of Body need, by the order of their prefixes
 abbrev pub declaring : List Item → List Item
-declaring inner =
-    s (codes "Envelope")
-    (Xmlns (codes "s") soap ∷ Xmlns (codes "z") (codes "urn:z") ∷ Xmlns (codes "a") (codes "urn:a")
-    ∷ s (codes "Body") (Xmlns (codes "b") (codes "urn:b") ∷ Xmlns [] (codes "urn:d") ∷ inner))
+declaring inner = s "Envelope"
+    (binds "s" soap ∷ xmlns "z" "urn:z" ∷ xmlns "a" "urn:a"
+    ∷ s "Body" (xmlns "b" "urn:b" ∷ xmlns "" "urn:d" ∷ inner))
 
 abbrev pub contents : List (List Item × List Item)
-contents =
-    (declaring [], [])
-    ∷ (with_body (attribute [] (codes "id") (codes "b") ∷ x []), x [])
-    ∷ (with_body (Xmlns [] [] ∷ x []), x (Xmlns [] [] ∷ []))
+contents = (declaring [], [])
+    ∷ (with_body (attribute "" "id" "b" ∷ x []), x [])
+    ∷ (with_body (xmlns "" "" ∷ x []), x (xmlns "" "" ∷ []))
     ∷ (
-      with_body (Xmlns (codes "ba") [] ∷ Xmlns (codes "b") [] ∷ Xmlns (codes "B") [] ∷ x []),
-      x (Xmlns (codes "B") [] ∷ Xmlns (codes "b") [] ∷ Xmlns (codes "ba") [] ∷ []),
+      with_body (xmlns "ba" "" ∷ xmlns "b" "" ∷ xmlns "B" "" ∷ x []),
+      x (xmlns "B" "" ∷ xmlns "b" "" ∷ xmlns "ba" "" ∷ []),
+    )
+    ∷ (enveloped (s "Header" (xmlns "q" "" ∷ []) ++ s "Body" (x [] ++ x [])), x [] ++ x [])
+    ∷ (
+      enveloped (s "Body" (binds "b" addressing ∷ (x [] ++ x []))),
+      x (binds "b" addressing ∷ []) ++ x (binds "b" addressing ∷ []),
+    )
+    ∷ (declaring (words "hi" ∷ note "" ∷ []), words "hi" ∷ note "" ∷ [])
+    ∷ (
+      with_body (binds "s" soap ∷ binds "a" soap ∷ x (xmlns "b" "" ∷ [])),
+      x (binds "a" soap ∷ xmlns "b" "" ∷ []),
     )
     ∷ (
-      enveloped (s (codes "Header") (Xmlns (codes "q") [] ∷ []) ++ s (codes "Body") (x [] ++ x [])),
-      x [] ++ x [],
-    )
-    ∷ (
-      enveloped (s (codes "Body") (Xmlns (codes "b") addressing ∷ (x [] ++ x []))),
-      x (Xmlns (codes "b") addressing ∷ []) ++ x (Xmlns (codes "b") addressing ∷ []),
-    )
-    ∷ (declaring (words (codes "hi") ∷ Comment [] ∷ []), words (codes "hi") ∷ Comment [] ∷ [])
-    ∷ (
-      with_body (Xmlns (codes "s") soap ∷ Xmlns (codes "a") soap ∷ x (Xmlns (codes "b") [] ∷ [])),
-      x (Xmlns (codes "a") soap ∷ Xmlns (codes "b") [] ∷ []),
-    )
-    ∷ (
-      with_body (Xmlns (codes "r") (codes "urn:r") ∷ Xmlns (codes "q") (codes "urn:q")
-          ∷ x (Xmlns (codes "q") [] ∷ Xmlns (codes "p") [] ∷ x []) ++ x (Xmlns (codes "r") [] ∷
-          [])),
-      x (Xmlns (codes "r") (codes "urn:r") ∷ Xmlns (codes "q") [] ∷ Xmlns (codes "p") [] ∷ x [])
-          ++ x (Xmlns (codes "q") (codes "urn:q") ∷ Xmlns (codes "r") [] ∷ []),
+      with_body (xmlns "r" "urn:r" ∷ xmlns "q" "urn:q" ∷ x (xmlns "q" "" ∷ xmlns "p" "" ∷ x [])
+          ++ x (xmlns "r" "" ∷ [])),
+      x (xmlns "r" "urn:r" ∷ xmlns "q" "" ∷ xmlns "p" "" ∷ x []) ++ x (xmlns "q" "urn:q"
+          ∷ xmlns "r" "" ∷ []),
     )
     ∷ (
       declaring (x (x [])),
-      Start [] (codes "x") ∷ Xmlns [] (codes "urn:d") ∷ Xmlns (codes "a") (codes "urn:a")
-          ∷ Xmlns (codes "b") (codes "urn:b")
-          ∷ Xmlns (codes "z") (codes "urn:z") ∷ (x [] ++ Close ∷ []),
+      start "" "x" ∷ xmlns "" "urn:d" ∷ xmlns "a" "urn:a" ∷ xmlns "b" "urn:b" ∷ xmlns "z" "urn:z"
+          ∷ (x [] ++ Close ∷ []),
     )
     ∷ (
-      declaring (x (Xmlns (codes "b") (codes "urn:c") ∷ words (codes "hi") ∷ [])),
-      Start [] (codes "x") ∷ Xmlns [] (codes "urn:d") ∷ Xmlns (codes "a") (codes "urn:a")
-          ∷ Xmlns (codes "z") (codes "urn:z")
-          ∷ Xmlns (codes "b") (codes "urn:c") ∷ words (codes "hi") ∷ Close ∷ [],
+      declaring (x (xmlns "b" "urn:c" ∷ words "hi" ∷ [])),
+      start "" "x" ∷ xmlns "" "urn:d" ∷ xmlns "a" "urn:a" ∷ xmlns "z" "urn:z" ∷ xmlns "b" "urn:c"
+          ∷ words "hi" ∷ Close ∷ [],
     )
     ∷ (
-      declaring (array [] (DeclaresOn (codes "a") [] ∷ []) ∷ []),
-      array [] (DeclaresOn [] (codes "urn:d") ∷ DeclaresOn (codes "b") (codes "urn:b")
-          ∷ DeclaresOn (codes "z") (codes "urn:z") ∷ DeclaresOn (codes "a") [] ∷ []) ∷ [],
+      declaring (array "" (declares_on "a" "" ∷ []) ∷ []),
+      array "" (declares_on "" "urn:d" ∷ declares_on "b" "urn:b" ∷ declares_on "z" "urn:z"
+          ∷ declares_on "a" "" ∷ []) ∷ [],
     )
     ∷ (
-      s (codes "Envelope") (Xmlns (codes "s") soap ∷ Xmlns (codes "q") (codes "urn:q")
-          ∷ s (codes "Body") (Xmlns (codes "q") (codes "urn:r") ∷ x [])),
-      x (Xmlns (codes "q") (codes "urn:r") ∷ []),
+      s "Envelope" (binds "s" soap ∷ xmlns "q" "urn:q" ∷ s "Body" (xmlns "q" "urn:r" ∷ x [])),
+      x (xmlns "q" "urn:r" ∷ []),
     )
     ∷ (
-      s (codes "Envelope") (Xmlns (codes "s") soap ∷ Xmlns (codes "xml") (codes "urn:q")
-          ∷ s (codes "Body") (x [])),
-      x (Xmlns (codes "xml") (codes "urn:q") ∷ []),
+      s "Envelope" (binds "s" soap ∷ xmlns "xml" "urn:q" ∷ s "Body" (x [])),
+      x (xmlns "xml" "urn:q" ∷ []),
     )
     ∷ (
-      Start (codes "e") (codes "Envelope") ∷ Xmlns (codes "e") soap ∷ Xmlns (codes "s")
-          (codes "urn:s") ∷ Start (codes "e") (codes "Body") ∷ (x [] ++ Close ∷ Close ∷ []),
-      x (Xmlns (codes "e") soap ∷ Xmlns (codes "s") (codes "urn:s") ∷ []),
+      start "e" "Envelope" ∷ binds "e" soap ∷ xmlns "s" "urn:s" ∷ start "e" "Body" ∷ (x [] ++ Close
+          ∷ Close ∷ []),
+      x (binds "e" soap ∷ xmlns "s" "urn:s" ∷ []),
     )
     ∷ []
 

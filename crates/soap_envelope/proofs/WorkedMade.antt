@@ -1,4 +1,5 @@
 -- Worked cases: replies and faults, item by item, and which names a fault reports.
+use Prim.Native.String.{String}
 use Rattle.soap_envelope.specs.declared.versions.Addressing.TheVariants.{V10}
 use Rattle.std.proofs.Common.{◌≡◌, ℕ, true, false, List, [], ◌∷◌, ◌++◌, map, Ok, Err, codes, Result}
 use Rattle.{std.proofs.Common.refl, nbfx_values.specs.declared.content.Item.Item}
@@ -11,10 +12,10 @@ use Rattle.soap_envelope.specs.{declared.report.FaultReport.FaultReport, Faults.
 use Rattle.soap_envelope.specs.{Making.reply_items, Understanding.not_understood}
 use Rattle.soap_envelope.specs.{Names.addressing, Names.qualified_name, View.View, View.view}
 use Rattle.soap_envelope.specs.Versions.{understood as understood_names}
-use Rattle.soap_envelope.proofs.Documents.{a, acting, action, addressing_action, attribute, echo}
-use Rattle.soap_envelope.proofs.Documents.{enveloped, fault, hi, identified, message, must, related}
-use Rattle.soap_envelope.proofs.Documents.{reply, role, s, secured, soap_action, subcode}
-use Rattle.soap_envelope.proofs.Documents.{with_blocks, words}
+use Rattle.soap_envelope.proofs.Documents.{a, acting, action, addressing_action, called, echo}
+use Rattle.soap_envelope.proofs.Documents.{enveloped, fault, hi, identified, invalid, message, must}
+use Rattle.soap_envelope.proofs.Documents.{next, related, reply, role, s, secured, soap_action}
+use Rattle.soap_envelope.proofs.Documents.{start, subcode, unknown, why, with_blocks, words}
 use Rattle.soap_envelope.proofs.OnLiterals.{envelopes_on_literals}
 use Rattle.soap_envelope.specs.declared.report.Sub.TheVariants as sub
 
@@ -23,30 +24,23 @@ abbrev Row : Type 0
 Row = List ℕ × List Item × List Item × List Item
 
 abbrev AllReplied : List Row → Type 0
-AllReplied rows =
-    map (λ (r : Row). reply_items V10 r.0 r.1 r.2) rows ≡ map (λ (r : Row). r.3) rows
+AllReplied rows = map (λ (r : Row). reply_items V10 r.0 r.1 r.2) rows ≡ map (λ (r : Row). r.3) rows
 
 replies : AllReplied (
-    (codes "urn:echo", identified, hi, reply (codes "urn:echoResponse") hi)
+    (codes "urn:echo", identified, hi, reply "urn:echoResponse" hi)
     ∷ (
       codes "urn:echo",
       identified,
-      Start [] (codes "reply") ∷ words (codes "ok") ∷ Close ∷ [],
-      reply (codes "urn:echoResponse") (Start [] (codes "reply") ∷ words (codes "ok") ∷ Close ∷ []),
+      start "" "reply" ∷ words "ok" ∷ Close ∷ [],
+      reply "urn:echoResponse" (start "" "reply" ∷ words "ok" ∷ Close ∷ []),
     )
-    ∷ (
-      [],
-      [],
-      [],
-      enveloped (s (codes "Header") (acting (codes "Response")) ++ s (codes "Body") []),
-    )
+    ∷ ([], [], [], enveloped (s "Header" (acting "Response") ++ s "Body" []))
     ∷ (
       codes "urn:a",
-      words (codes "b") ∷ words (codes "c") ∷ [],
+      words "b" ∷ words "c" ∷ [],
       [],
-      enveloped (s (codes "Header") (acting (codes "urn:aResponse")
-          ++ a (codes "RelatesTo") (words (codes "b") ∷ words (codes "c") ∷ []))
-          ++ s (codes "Body") []),
+      enveloped (s "Header" (acting "urn:aResponse" ++ a "RelatesTo" (words "b" ∷ words "c" ∷ []))
+          ++ s "Body" []),
     )
     ∷ [])
 unfolding envelopes_on_literals
@@ -61,73 +55,42 @@ AllReported rows =
     map (λ (r : FaultRow). fault_items V10 r.0 r.1) rows ≡ map (λ (r : FaultRow). r.2) rows
 
 sec : Name
-sec = qualified_name (codes "urn:t") (codes "Sec")
+sec = called "urn:t" "Sec"
 
 -- each code and each subcode; the names that weren't understood, in order
 faults : AllReported ((
-  record { code = MustUnderstand; sub = sub.None; reason = codes "why"; names = sec ∷ [] },
+  why MustUnderstand sub.None (sec ∷ []),
   identified,
-  fault soap_action
-      (related ++ s (codes "NotUnderstood")
-      (Xmlns (codes "n") (codes "urn:t") ∷ attribute [] (codes "qname") (codes "n:Sec") ∷ []))
-      (codes "s:MustUnderstand") [] (codes "why"),
+  fault soap_action (related ++ unknown "urn:t" "n:Sec") "s:MustUnderstand" [] "why",
 )
     ∷ (
-      record {
-        code = MustUnderstand;
-        sub = sub.None;
-        reason = [];
-        names = qualified_name [] (codes "k") ∷ sec ∷ [];
-      },
+      record (why MustUnderstand sub.None (called "" "k" ∷ sec ∷ [])) { reason = [] },
       [],
-      fault soap_action
-          (s (codes "NotUnderstood")
-          (Xmlns (codes "n") [] ∷ attribute [] (codes "qname") (codes "n:k") ∷ [])
-          ++ s (codes "NotUnderstood")
-          (Xmlns (codes "n") (codes "urn:t") ∷ attribute [] (codes "qname") (codes "n:Sec") ∷ []))
-          (codes "s:MustUnderstand") [] [],
+      fault soap_action (unknown "" "n:k" ++ unknown "urn:t" "n:Sec") "s:MustUnderstand" [] "",
+    )
+    ∷ (why VersionMismatch sub.None [], [], fault soap_action [] "s:VersionMismatch" [] "why")
+    ∷ (why Receiver sub.None [], identified, fault soap_action related "s:Receiver" [] "why")
+    ∷ (why Sender sub.None [], [], fault soap_action [] "s:Sender" [] "why")
+    ∷ (
+      why Sender sub.HeaderRequired [],
+      identified,
+      fault addressing_action related "s:Sender" (subcode "a:MessageAddressingHeaderRequired" [])
+          "why",
     )
     ∷ (
-      record { code = VersionMismatch; sub = sub.None; reason = codes "why"; names = [] },
+      why Sender sub.ActionNotSupported [],
+      identified,
+      fault addressing_action related "s:Sender" (subcode "a:ActionNotSupported" []) "why",
+    )
+    ∷ (
+      why Sender sub.OnlyAnonymous [],
+      identified,
+      fault addressing_action related "s:Sender" (invalid "a:OnlyAnonymousAddressSupported") "why",
+    )
+    ∷ (
+      why Sender sub.InvalidCardinality [],
       [],
-      fault soap_action [] (codes "s:VersionMismatch") [] (codes "why"),
-    )
-    ∷ (
-      record { code = Receiver; sub = sub.None; reason = codes "why"; names = [] },
-      identified,
-      fault soap_action related (codes "s:Receiver") [] (codes "why"),
-    )
-    ∷ (
-      record { code = Sender; sub = sub.None; reason = codes "why"; names = [] },
-      [],
-      fault soap_action [] (codes "s:Sender") [] (codes "why"),
-    )
-    ∷ (
-      record { code = Sender; sub = sub.HeaderRequired; reason = codes "why"; names = [] },
-      identified,
-      fault addressing_action related (codes "s:Sender")
-          (subcode (codes "a:MessageAddressingHeaderRequired") []) (codes "why"),
-    )
-    ∷ (
-      record { code = Sender; sub = sub.ActionNotSupported; reason = codes "why"; names = [] },
-      identified,
-      fault addressing_action related (codes "s:Sender")
-          (subcode (codes "a:ActionNotSupported") []) (codes "why"),
-    )
-    ∷ (
-      record { code = Sender; sub = sub.OnlyAnonymous; reason = codes "why"; names = [] },
-      identified,
-      fault addressing_action related (codes "s:Sender")
-          (subcode (codes "a:InvalidAddressingHeader")
-          (subcode (codes "a:OnlyAnonymousAddressSupported") []))
-          (codes "why"),
-    )
-    ∷ (
-      record { code = Sender; sub = sub.InvalidCardinality; reason = codes "why"; names = [] },
-      [],
-      fault addressing_action [] (codes "s:Sender")
-          (subcode (codes "a:InvalidAddressingHeader") (subcode (codes "a:InvalidCardinality") []))
-          (codes "why"),
+      fault addressing_action [] "s:Sender" (invalid "a:InvalidCardinality") "why",
     )
     ∷ [])
 unfolding envelopes_on_literals sec
@@ -145,22 +108,18 @@ abbrev names_in : List Name → Result (List Name) SoapFault
 names_in names = Ok names
 
 abbrev AllUnderstood : List Understood → Type 0
-AllUnderstood rows =
-    map (λ (r : Understood). foreign r.0 (view r.1)) rows
+AllUnderstood rows = map (λ (r : Understood). foreign r.0 (view r.1)) rows
     ≡ map (λ (r : Understood). names_in r.2) rows
 
-none : List ℕ
-none = codes "http://www.w3.org/2003/05/soap-envelope/role/none"
-
-next : List ℕ
-next = codes "http://www.w3.org/2003/05/soap-envelope/role/next"
+none : String
+none = "http://www.w3.org/2003/05/soap-envelope/role/none"
 
 -- the blocks of addressing that servers know, and a request with a block more before MessageID
 abbrev five : List Name
 five = understood_names V10
 
 abbrev request : List Item → List Item
-request block = enveloped (s (codes "Header") (action ++ block ++ message) ++ s (codes "Body") hi)
+request block = enveloped (s "Header" (action ++ block ++ message) ++ s "Body" hi)
 
 -- a block that isn't known, that is, that isn't for this node, that need not be; two of one name
 understood : AllUnderstood (
@@ -169,25 +128,20 @@ understood : AllUnderstood (
     ∷ ([], with_blocks (secured (role next ∷ []) ++ message), sec ∷ [])
     ∷ (sec ∷ [], with_blocks (secured (role next ∷ []) ++ message), [])
     ∷ ([], with_blocks (secured (role none ∷ []) ++ message), [])
-    ∷ ([], with_blocks (a (codes "Sec") (must (codes "0") ∷ []) ++ message), [])
+    ∷ ([], with_blocks (a "Sec" (must "0" ∷ []) ++ message), [])
     ∷ (sec ∷ [], echo, qualified_name addressing (codes "Action") ∷ [])
     ∷ (
       qualified_name addressing (codes "Action") ∷ [],
       with_blocks (secured [] ++ action ++ secured []),
       sec ∷ sec ∷ [],
     )
-    ∷ (
-      qualified_name (codes "urn:t") (codes "sec") ∷ qualified_name [] (codes "Sec") ∷ [],
-      with_blocks (secured []),
-      sec ∷ [],
-    )
+    ∷ (called "urn:t" "sec" ∷ called "" "Sec" ∷ [], with_blocks (secured []), sec ∷ [])
     ∷ [])
-unfolding envelopes_on_literals sec none next
+unfolding envelopes_on_literals sec none
 understood = refl
 
 -- what names count
-fitting : map (λ (q : ℕ × ℕ). names_fit (limits q.0 4 0 q.1 16 1)
-    (sec ∷ qualified_name [] (codes "k") ∷ []))
+fitting : map (λ (q : ℕ × ℕ). names_fit (limits q.0 4 0 q.1 16 1) (sec ∷ called "" "k" ∷ []))
     ((18, 9) ∷ (17, 9) ∷ (18, 8) ∷ [])
     ≡ true ∷ false ∷ false ∷ []
 unfolding sec

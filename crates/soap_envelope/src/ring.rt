@@ -80,6 +80,7 @@ fn declare_on(alloc: Global, needs: &[Declared<'_>], array: &mut ArrayItem) -> R
 }
 
 // A declaration.
+#[inline(always)]
 fn xmlns(alloc: Global, one: &Declared<'_>) -> Result<Item, Memory>
     ensures { IfOk result (λ item. item ≡ xmlns_of (kept one.now)) }
 {
@@ -100,6 +101,7 @@ pub(crate) fn xmlns_items(alloc: Global, declarations: &[Declared<'_>]) -> Resul
 }
 
 // Puts an item at the end of a ring.
+#[inline(always)]
 fn put_last(ring: &mut VecDeque<Item>, item: Item) -> Result<(), Memory>
     ensures { OnOk result (ring.new.items ≡ ring.old.items ++ item ∷ []) }
 {
