@@ -93,12 +93,12 @@ fn plain_ones(bytes: &[u8]) -> usize
     bytes.iter().take_while(|byte| is_plain(**byte)).count()
 }
 
-/// How many bytes at the front a quoted text shows as they are. Most texts are short, and are
-/// counted byte by byte.
+/// How many bytes at the front a quoted text shows as they are. Where few are left, as behind most
+/// names, they are counted byte by byte.
 pub fn plain_count(bytes: &[u8]) -> usize
     ensures { result ≡ length (take_while is_plain bytes.now) }
 {
-    if bytes.len() < 64 {
+    if bytes.len() < 24 {
         return plain_ones(bytes);
     }
     let eights = plain_eights(bytes);
