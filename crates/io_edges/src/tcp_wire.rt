@@ -1,11 +1,13 @@
 //! A wire over the system's TCP sockets.
 
-ghost use Rattle.std.specs.Prelude.{◌≡◌, ◌<◌, ◌≤◌, ◌+◌, ◌^◌, true, false, None, IsErr, OnErr, OnOk, IfOk, IfSome, IsSome};
+ghost use Rattle.std.specs.Prelude.{◌≡◌, ◌<◌, ◌≤◌, ◌+◌, ◌^◌, true, false, None, IsErr, OnErr, OnOk};
+ghost use Rattle.std.specs.Prelude.{IfOk, IfSome, IsSome};
 ghost use Rattle.io_edges.specs.Faults.{CountsOne};
 ghost use Rattle.io_edges.specs.Adapters.{read_faults};
 ghost use Rattle.io_edges.specs.Wires.{added_up};
 ghost use Rattle.std.specs.IoError.{error_kind, raw_os_error};
-ghost use Rattle.io_edges.specs.Tcp.{has_ended, sink_faults, wire_out, wire_faults, wire_end_faults, wire_retried, is_gone, Lacks, Retries};
+ghost use Rattle.io_edges.specs.Tcp.{has_ended, sink_faults, is_gone, Lacks, Retries};
+ghost use Rattle.io_edges.specs.Tcp.{wire_out, wire_faults, wire_end_faults, wire_retried};
 
 use crate::wire::Wire;
 use crate::{Failed, ReadSource, TcpSink};
@@ -30,13 +32,13 @@ pub struct TcpWire<R: Net> {
     retried: u64,
 }
 
-// How often an accept is tried again at most, and the milliseconds before it is where the system has
+// How often a call is tried again at most, and the milliseconds before it is where the system has
 // run out of something. That is a minute.
 const MOST_RETRIES: u32 = 1_200;
 
 const PAUSE: u64 = 50;
 
-// Why an accept is tried again.
+// Why a call is tried again.
 #[derive(Clone, Copy, Debug, PartialEq, Eq)]
 enum Retry {
     // The peer was gone before its connection was accepted. The next one may be there.
@@ -63,7 +65,7 @@ fn lacks(code: Option<i32>) -> bool
     code == Some(12) || code == Some(23) || code == Some(24) || code == Some(105)
 }
 
-// Whether an accept that failed so is tried again.
+// Whether a call that failed so is tried again.
 fn retry_of(error: &io::Error) -> Option<Retry>
     ensures { Retries (error_kind error.now) (raw_os_error error.now) result }
 {
@@ -76,17 +78,19 @@ fn retry_of(error: &io::Error) -> Option<Retry>
     None
 }
 
-// The next connection of a listener. The count rises with each try that failed and isn't the last.
-fn next_of<R: Clock, L: OpenListener>(
+// Makes a call, and again where it failed for a while or for one connection's sake. The count rises
+// with each try that failed and isn't the last.
+fn tried_again<R: Clock, T, F: Fn() -> io::Result<T>>(
     rt: &R,
-    listener: &L,
+    call: F,
     retried: &mut u64,
-) -> io::Result<L::Stream>
+) -> io::Result<T>
+    requires { F.IsAlwaysCallable call }
     ensures { (retried.old ≤ retried.new) × (retried.new ≤ retried.old + 1200) }
 {
     for tried in 0..MOST_RETRIES {
-        match listener.accept() {
-            Ok((stream, _)) => return Ok(stream),
+        match call() {
+            Ok(got) => return Ok(got),
             Err(e) => match retry_of(&e) {
                 Some(Retry::AtOnce) => {}
                 Some(Retry::Later) => thread::sleep(rt, Duration::from_millis(PAUSE)),
@@ -95,7 +99,19 @@ fn next_of<R: Clock, L: OpenListener>(
         }
         *retried = retried.saturating_add(1);
     }
-    Ok(listener.accept()?.0)
+    call()
+}
+
+// The next connection of a listener.
+fn next_of<R: Clock, L: OpenListener>(
+    rt: &R,
+    listener: &L,
+    retried: &mut u64,
+) -> io::Result<L::Stream>
+    ensures { (retried.old ≤ retried.new) × (retried.new ≤ retried.old + 1200) }
+{
+    let (stream, _) = tried_again(rt, || listener.accept(), retried)?;
+    Ok(stream)
 }
 
 impl<R: Net> TcpWire<R> {
@@ -114,9 +130,10 @@ impl<R: Net> TcpWire<R> {
         }
     }
 
-    /// How many accepts were tried again, up to 2^64 - 1: at once where the peer was gone before its
-    /// connection was accepted (aborted or reset), and after 50 ms where the system had no descriptor
-    /// or no memory left for one more. One call tries 1,200 times more at most, and fails then.
+    /// How often an accept was tried again, up to 2^64 - 1: at once where the peer was gone before
+    /// its connection was accepted (aborted or reset), and after 50 ms where the system had no
+    /// descriptor or no memory left for the connection, or for the second of its two handles. One
+    /// call tries each 1,200 times more at most, and fails then.
     pub fn retried(&self) -> u64
         ensures { result ≡ wire_retried self.now }
     {
@@ -185,16 +202,17 @@ impl<R: Net> TcpWire<R> {
     }
 }
 
-// The two ends of a stream. Where the system can't send at once, it sends later.
+// The two ends of a stream, of which the second is another handle of it.
 fn ends_of<S: io::Read + io::Write + OpenStream + Drop>(
     stream: S,
+    other: io::Result<S>,
 ) -> io::Result<(ReadSource<S>, TcpSink<S>)>
     ensures { IfOk result (λ ends. (read_faults ends.0 ≡ 0) × (sink_faults ends.1 ≡ 0)
         × (has_ended ends.1 ≡ false)) }
 {
+    // Where the system can't send at once, it sends later.
     let _ = stream.set_nodelay(true);
-    let other = stream.try_clone()?;
-    Ok((ReadSource::new(stream), TcpSink::new(other)))
+    Ok((ReadSource::new(stream), TcpSink::new(other?)))
 }
 
 impl<R: Net + Clock> Wire for TcpWire<R>
@@ -229,10 +247,13 @@ where
         ensures counted { CountsOne (wire_faults self.old) (wire_faults self.new) (IsErr result) }
         ensures kept { wire_end_faults self.new ≡ wire_end_faults self.old }
         ensures retried { (wire_retried self.old ≤ wire_retried self.new)
-            × (wire_retried self.new ≤ wire_retried self.old + 1200) }
+            × (wire_retried self.new ≤ wire_retried self.old + 2400) }
     {
         let ends = match self.next_stream(place) {
-            Ok(stream) => ends_of(stream),
+            Ok(stream) => {
+                let other = tried_again(&self.rt, || stream.try_clone(), &mut self.retried);
+                ends_of(stream, other)
+            }
             Err(e) => Err(e),
         };
         Ok(Some(self.answer(ends)?))
@@ -252,7 +273,10 @@ where
         ensures kept { wire_end_faults self.new ≡ wire_end_faults self.old }
     {
         let ends = match TcpStream::connect(&self.rt, place) {
-            Ok(stream) => ends_of(stream),
+            Ok(stream) => {
+                let other = stream.try_clone();
+                ends_of(stream, other)
+            }
             Err(e) => Err(e),
         };
         self.answer(ends)

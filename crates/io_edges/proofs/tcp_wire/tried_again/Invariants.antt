@@ -1,5 +1,5 @@
 use Rattle.std.specs.Prelude.{◌≤◌, ◌+◌}
-use Rattle.io_edges.proofs.tcp_wire.next_of.Given as goal
+use Rattle.io_edges.proofs.tcp_wire.tried_again.Given as goal
 
 abbrev pub invariant-loop-tried : goal.invariant-loop-tried
 invariant-loop-tried g l =
