@@ -1,34 +1,26 @@
 -- Where lines lead that come behind others, and what that says of all bytes.
 use Rattle.std.proofs.Common.{◌≡◌, ℕ, ◌+◌, ◌-◌, ◌<◌, ◌≤◌, Bool, true, false, List, [], ◌∷◌, ◌++◌}
 use Rattle.std.proofs.Common.{length, take, if◌then◌else◌, nat_le, Some, None, Ok, Err, Option}
-use Rattle.std.proofs.Common.{Result, sym, refl, ap, ◌∙◌, subst, append_assoc, append-nil, arith}
+use Rattle.std.proofs.Common.{Result, sym, refl, ap, ◌∙◌, subst, arith}
 use Rattle.std.proofs.{Common.length-append, Common.le-leb, lemmas.Bool.lt-leb}
 use Rattle.std.proofs.Math.Seq.{take-append-add, take-append_seam}
 use Rattle.nbfx_values.specs.declared.content.Item.{Item}
 use Rattle.line_notation.specs.declared.reader.LineFault.{LineFault, TheVariants.Bad}
 use Rattle.line_notation.specs.{declared.reader.LineKind.LineKind, Between.IsUnrefused, Lines.cut}
-use Rattle.line_notation.specs.LineReaderState.{after, answer, answer_of, document_of}
-use Rattle.line_notation.specs.LineReaderState.{documents_from, documents_of, ends, failed, going}
+use Rattle.line_notation.specs.LineReaderState.{after, answer, answer_of, ends, failed, going}
 use Rattle.line_notation.specs.LineReaderState.{on, outcome, Placed, Standing, standing}
 use Rattle.line_notation.specs.LineReaderState.{standing_from, standing_of}
-use Rattle.document_lines.specs.declared.InputFault.{InputFault, TheVariants.TooLong}
+use Rattle.document_lines.specs.declared.InputFault.{InputFault}
+use Rattle.document_lines.specs.declared.InputFault.TheVariants.{Line, TooLong}
 use Rattle.document_lines.specs.Documents.{documents_in, documents_within, refusal_in, unless}
-use Rattle.document_lines.{specs.LineAnswers.IsWhy, proofs.Cutting.cut_append}
+use Rattle.line_streams.proofs.Cutting.{cut_append}
 
--- the documents of a line more
-documents_more_from : (z : Standing) (lines : List (List ℕ)) (line : List ℕ)
-    → documents_from z (lines ++ line ∷ [])
-    ≡ documents_from z lines ++ document_of (answer (standing_from z lines) line)
-documents_more_from z [] line = append-nil (document_of (answer z line))
-documents_more_from z (first ∷ lines) line =
-    ap (λ d. document_of (answer z first) ++ d) (documents_more_from (after z first) lines line)
-    ∙ sym (append_assoc (document_of (answer z first)) (documents_from (after z first) lines)
-    (document_of (answer (standing_from (after z first) lines) line)))
-
-pub documents_more : (lines : List (List ℕ)) (line : List ℕ)
-    → documents_of (lines ++ line ∷ [])
-    ≡ documents_of lines ++ document_of (answer (standing lines) line)
-documents_more lines line = documents_more_from (going 0 [] None) lines line
+-- this is why one of the lines of these bytes is refused
+pub record IsWhy (fault : InputFault) (p : List ℕ) : Type 0 where
+  pub number : ℕ
+  pub kind : LineKind
+  pub fault_is : fault ≡ Line number kind
+  pub stands : standing (cut p).0 ≡ failed (Bad number kind)
 
 -- a line that is refused is so for good
 refused_of : (n : ℕ) (o : Result Placed LineKind) (fault : LineFault) → answer_of n o ≡ Err fault
@@ -49,7 +41,7 @@ failed_stays : (fault : LineFault) (lines : List (List ℕ))
 failed_stays fault [] = refl
 failed_stays fault (line ∷ lines) = failed_stays fault lines
 
-from_append : (z : Standing) (lines more : List (List ℕ))
+pub from_append : (z : Standing) (lines more : List (List ℕ))
     → standing_from z (lines ++ more) ≡ standing_from (standing_from z lines) more
 from_append z [] more = refl
 from_append z (line ∷ lines) more = from_append (after z line) lines more
@@ -102,7 +94,7 @@ why_within quota fault p more why le = by_length (nat_le quota (length (p ++ mor
   by_length false is =
       if_false _ _ _ is ∙ refused (p ++ more) (why_stays fault p more why) _
 
-unrefused_none : (z : Standing) → IsUnrefused z → refusal_in z ≡ None
+pub unrefused_none : (z : Standing) → IsUnrefused z → refusal_in z ≡ None
 unrefused_none (failed fault) u = absurd u
 unrefused_none (going n items array) u = refl
 

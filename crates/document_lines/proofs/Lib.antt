@@ -1,8 +1,7 @@
 -- input of a few lines, by computation
 mod Worked
--- lines by their bytes, and where a search finds the end of one (src/reader.rt)
+-- lines by their bytes (src/reader.rt)
 pub mod Lines
-pub mod Finding
 -- where a line leads, and what an encoder of lines makes of it (src/line_encoder.rt)
 pub mod Standings
 pub mod Sending
@@ -15,11 +14,8 @@ pub mod Built
 pub mod Walking
 pub mod Written
 pub mod Fitting
--- bytes are cut at their line feeds, also where they came in pieces
-pub mod Cutting
 -- where lines lead that come behind others, and what that says of all bytes
 pub mod Leading
--- what a reader of a list has read behind a line, and what it says at the end (src/reading.rt)
-pub mod ListReaderFacts
--- what was taken of a source (src/taking.rt)
-pub mod TakingFacts
+-- what all lines bring one by one, and what was taken of a source (src/taking.rt)
+pub mod Stepping
+pub mod TakenSteps

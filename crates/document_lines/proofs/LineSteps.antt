@@ -27,7 +27,7 @@ use Rattle.document_lines.specs.DocumentReaderState.{StandsFor, UnitAnswers, Whe
 use Rattle.document_lines.specs.Input.{behind_line, completed_line, ending_fault, envelope_of}
 use Rattle.document_lines.specs.Input.{fault_of, line_at, lines_of_documents, payload_at}
 use Rattle.document_lines.specs.Input.{refused_line, Settings, Situation, start_of}
-use Rattle.document_lines.proofs.{Finding.IsLineEnd, Lines.short_enough}
+use Rattle.{line_streams.proofs.Finding.IsLineEnd, document_lines.proofs.Lines.short_enough}
 use Rattle.document_lines.proofs.Lines.{begun_no_feed, feed_whole, no_feed_begun, readable}
 use Rattle.line_notation.specs.declared.reader.LineFault.TheVariants as line_faults
 

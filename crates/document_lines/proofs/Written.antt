@@ -36,7 +36,7 @@ use Rattle.document_lines.specs.Input.{refused_line, Settings, Situation, start_
 use Rattle.document_lines.specs.Laws.{Explains, InputIsWritten, IsWritten, RefusesNoMemory}
 use Rattle.document_lines.specs.Refused.{HasNoDocument, IsBadLine, RefusesLine}
 use Rattle.document_lines.proofs.Built.{cuts, joined, lines_of, walk as envelopes_of}
-use Rattle.document_lines.proofs.Cutting.{behind_lines as behind_all, cut_append, free_cut}
+use Rattle.line_streams.proofs.Cutting.{behind_lines as behind_all, cut_append, free_cut}
 use Rattle.document_lines.proofs.Lines.{begun_no_feed, cut_line, readable, short_enough}
 use Rattle.document_lines.proofs.Walking.{at_quota, at_refusal, at_the_end, fills, goes_out}
 use Rattle.document_lines.proofs.Walking.{refuses, Stop, Walk, walk}

@@ -10,8 +10,7 @@ pub mod Laws
 pub mod Documents
 pub mod Files
 pub mod Taking
--- Private calls cite these: what a line is answered with (LineAnswers), what a reader of a list has
--- read so far (ListReaderState), and what was taken for it (Taken).
-pub mod LineAnswers
-pub mod ListReaderState
-pub mod Taken
+-- Private calls cite these: what lines bring, one by one (Steps), and where a reader of them stands
+-- (StepReaderState).
+pub mod Steps
+pub mod StepReaderState

@@ -5,7 +5,7 @@ ghost use Rattle.io_edges.specs.Faults.{CountsFaults, one_more};
 ghost use Rattle.document_lines.specs.Files.{Answers};
 
 use crate::InputFault;
-use crate::reading::{ListFault, read_documents};
+use crate::reading::{ListFault, read_lines};
 use io_edges::{Shelf, ShelfFault};
 use nbfx_values::Docs;
 use std::alloc::Global;
@@ -43,7 +43,7 @@ pub fn fetch_documents<F: Shelf>(
         Err(ShelfFault::Failed) => return Err(DocumentsFault::Failed),
         Err(ShelfFault::Memory) => return Err(DocumentsFault::Memory),
     };
-    match read_documents(alloc, &bytes) {
+    match read_lines(alloc, bytes) {
         Ok(docs) => Ok(docs),
         Err(ListFault::Refused(fault)) => Err(DocumentsFault::Refused(fault)),
         Err(ListFault::Memory) => Err(DocumentsFault::Memory),

@@ -16,23 +16,26 @@
 //! or the first refusal is the answer. Bytes that are as many as a quota are too long, unless a
 //! line before that is refused. [`read_documents`] reads bytes that are in memory, and
 //! [`fetch_documents`] those of a shelf's file, into a list. [`take_documents`] reads those of a
-//! source, in the pieces in which they come, and hands each document to a [`Keeper`] as soon as it
-//! is read: of the bytes it holds those of the unfinished line alone, and of the documents what the
-//! keeper keeps.
+//! source, by the loop of every command (`stream_loop`), and hands each document to a [`Keeper`] as
+//! soon as it is read: of the bytes it holds those of the unfinished line alone, and of the
+//! documents what the keeper keeps. There each line completes an event, which says what it did to
+//! the document that is being read (`specs/Steps`).
 //!
 //! `specs/Input` has the grammar, `specs/DocumentReaderState` which bytes a reader has read, and
-//! `specs/Laws` what holds by the definitions alone, which [`laws`] carries. Contracts of private
-//! calls on lists are in `specs/LineAnswers`.
+//! `specs/Laws` what holds by the definitions alone, which [`laws`] carries.
 #![tactic(auto)]
 
 mod envelope;
 mod fetching;
 mod keeper;
+mod keeping;
 pub mod laws;
 mod line_encoder;
 mod reader;
 mod reading;
 mod reading_end;
+mod step_reader;
+mod steps;
 mod taking;
 
 pub use envelope::Envelope;

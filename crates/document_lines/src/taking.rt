@@ -1,45 +1,42 @@
 //! Documents from the lines that a source gives.
 
-ghost use Rattle.std.specs.Prelude.{◌≡◌, ◌<◌, List, [], IfOk};
+ghost use Rattle.std.specs.Prelude.{◌≡◌, ◌<◌, ◌≤◌, ◌^◌, List, IfOk};
 ghost use Rattle.nbfx_values.specs.QuotasOf.{limits_of};
 ghost use Rattle.nbfx_values.specs.declared.content.Item.{Item};
 ghost use Rattle.stream_loop.specs.Edges.{input_at};
-ghost use Rattle.document_lines.specs.ListReaderState.{HasRead};
-ghost use Rattle.document_lines.specs.Taken.{TakesLines};
 ghost use Rattle.document_lines.specs.Taking.{TakesDocuments, of_kept};
 
 use crate::keeper::Keeper;
-use crate::reading::{ListFault, ListReader};
+use crate::keeping::Keeping;
+use crate::reading::ListFault;
+use crate::step_reader::StepReader;
 use io_edges::Source;
 use nbfx_values::Quotas;
 use std::alloc::Global;
-use stream_loop::InputBuffer;
+use stream_loop::{FollowEnding, follow_stream};
 
-// Takes lines from the source to their end, and has them read by a reader that has read none.
-fn take_lines<S: Source, D: Keeper>(
+/// Takes lines from the source to their end, of which so many bytes are too many, and hands each of
+/// their documents to the keeper.
+pub fn take_within<S: Source, D: Keeper>(
     alloc: Global,
-    reader: &mut ListReader<D>,
+    quota: u64,
+    mut keeper: D,
     source: &mut S,
-) -> Result<(), ListFault>
-    requires positive { 0 < reader.old.quota }
-    requires fresh { HasRead (D.kept reader.old.keeper) reader.old [] }
-    ensures takes { TakesLines (D.kept reader.old.keeper) reader.old.quota
+) -> Result<D, ListFault>
+    requires some { 0 < quota }
+    requires most { quota ≤ 2 ^ 63 }
+    ensures { (documents : List (List Item))
+        × TakesDocuments quota
         (input_at S.left S.taken S.faults S.empty_takes source.old)
-        (input_at S.left S.taken S.faults S.empty_takes source.new) reader.new result }
-    ensures quota { reader.new.quota ≡ reader.old.quota }
+        (input_at S.left S.taken S.faults S.empty_takes source.new) (of_kept documents result)
+        × IfOk result (D.kept keeper documents) }
 {
-    let Ok(mut buffer) = InputBuffer::new(alloc) else {
-        return Err(ListFault::Memory);
-    };
-    loop {
-        let Ok(n) = buffer.fill(source) else {
-            return Err(ListFault::ReadFault);
-        };
-        if n == 0 {
-            return Ok(());
-        }
-        reader.read_piece(buffer.bytes())?;
-        buffer.clear();
+    let mut reader = StepReader::new(alloc, quota);
+    match follow_stream(alloc, &mut reader, &mut Keeping, source, &mut keeper) {
+        FollowEnding::Judged(None) => Ok(keeper),
+        FollowEnding::Judged(Some(fault)) => Err(ListFault::Refused(fault)),
+        FollowEnding::ReadFault => Err(ListFault::ReadFault),
+        FollowEnding::Memory => Err(ListFault::Memory),
     }
 }
 
@@ -59,9 +56,5 @@ pub fn take_documents<S: Source, D: Keeper>(
         (input_at S.left S.taken S.faults S.empty_takes source.new) (of_kept documents result)
         × IfOk result (D.kept keeper documents) }
 {
-    let mut reader = ListReader::new(alloc, quotas.session, keeper);
-    match take_lines(alloc, &mut reader, source) {
-        Ok(()) => reader.finish(),
-        Err(fault) => Err(fault),
-    }
+    take_within(alloc, quotas.session, keeper, source)
 }

@@ -124,11 +124,13 @@ read-with : (keyword : Keyword) (argument line : List ℕ)
     → form_with argument keyword ≡ Some form → IsLine form line
 read-with keywords.Submit argument line is form e =
     let a = argued keywords.Submit argument line (quoted_in argument) (λ text. submits text false)
-    (λ text word. IsQuoted text word) is (λ text read. quoted-quoted_in text argument read) form e in
+    (λ text word. IsQuoted text word) is (λ text read. quoted-quoted_in text argument read) form
+    e in
     subst (λ (f : Form). IsLine f line) a.1 a.2
 read-with keywords.Last argument line is form e =
     let a = argued keywords.Last argument line (quoted_in argument) (λ text. submits text true)
-    (λ text word. IsQuoted text word) is (λ text read. quoted-quoted_in text argument read) form e in
+    (λ text word. IsQuoted text word) is (λ text read. quoted-quoted_in text argument read) form
+    e in
     subst (λ (f : Form). IsLine f line) a.1 a.2
 read-with keywords.Send argument line is form e =
     let a = argued keywords.Send argument line (number_in argument) sends

@@ -14,8 +14,10 @@ use Rattle.rehearsal.specs.declared.fault.HistoryFault.{TheVariants.Line}
 use Rattle.rehearsal.specs.declared.{played.Played.Played, player.Player.Player}
 use Rattle.rehearsal.specs.Forms.{acknowledges, arrives, body_of, delivers, event_of, event_said}
 use Rattle.rehearsal.specs.Forms.{Form, form_of, is_heard, sends, submission, submits}
-use Rattle.rehearsal.specs.History.{brought, played, Situation, situation_after, submitted_in}
-use Rattle.rehearsal.specs.HistoryReaderState.{LineAnswers, Plays}
+use Rattle.rehearsal.specs.History.{brought, history_rules, played, Settings, Situation}
+use Rattle.rehearsal.specs.History.{situation_after, submitted_in}
+use Rattle.rehearsal.specs.PlayerState.{Plays}
+use Rattle.line_streams.specs.LineStreamState.{LineAnswers}
 
 -- one text may stand in Body
 is-body : (text : List ℕ) → is_utf8 text ≡ true → IsBody (body_of text)
@@ -32,7 +34,8 @@ module _ (kept : Kept) (few : submitted_count kept.sender < 2 ^ 63 - 1) where
       → submission text last ≡ Ok event → MayHappen kept event
   submits-well text last event e = by_test (is_utf8 text) refl e where
     by_test : (v : Bool) → is_utf8 text ≡ v
-        → ◌≡◌ {A = Result Event LineKind} (if v then Ok (Submit (body_of text) last) else Err BadText)
+        → ◌≡◌ {A = Result Event LineKind} (if v then Ok (Submit (body_of text) last) else Err
+        BadText)
         (Ok event) → MayHappen kept event
     by_test true good e =
         subst (λ (said : Event). MayHappen kept said) (ok-same e)
@@ -83,8 +86,9 @@ module _ (z : Situation) (old : Player) (line : List ℕ) (plays : Plays z old) 
         (body : Option (List Item)) (counts : Counts) → next ≡ kept_after world event
         → body ≡ delivered_by world event → counts ≡ counts_of next → new.world ≡ Some next
         → new.lines ≡ old.lines + 1
-        → LineAnswers z line new (Ok (record { body = body; counts = counts }))
-    played-so e new next body counts next_is body_is counts_are there lines =
+        → (x : Settings) → LineAnswers (history_rules x) (λ behind. Plays behind new) z line
+        (Ok (record { body = body; counts = counts }))
+    played-so e new next body counts next_is body_is counts_are there lines x =
         let same = same-world in
         let next_so : next ≡ kept_after z.kept event
         = next_is ∙ ap (λ (k : Kept). kept_after k event) same in

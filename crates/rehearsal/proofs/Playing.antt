@@ -23,17 +23,19 @@ use Rattle.reliable_sequence.proofs.{EventFacts.one-more-at-most, RehearsalLaws.
 use Rattle.rehearsal.specs.declared.fault.HistoryFault.{HistoryFault, TheVariants.Line}
 use Rattle.rehearsal.specs.declared.fault.HistoryFault.TheVariants.{TooLong}
 use Rattle.rehearsal.specs.declared.{played.Played.Played, TheConstants.MOST_BYTES}
-use Rattle.rehearsal.specs.{Forms.event_of, Lines.end_refused, Lines.line_at, Lines.LineRules}
+use Rattle.line_streams.specs.LineRules.{end_refused, line_at, LineRules}
+use Rattle.rehearsal.specs.{Forms.event_of}
 use Rattle.rehearsal.specs.History.{brought as brought_by, delivered_if, delivered_line}
 use Rattle.rehearsal.specs.History.{delivered_lines, Explains, first_situation, history}
 use Rattle.rehearsal.specs.History.{AcceptedIsInForm, history_rules, InputIsPlayed, IsInForm, IsPlayed, last_line}
 use Rattle.rehearsal.specs.History.{no_counts, played, run_over, Settings, Situation, situation_after}
 use Rattle.rehearsal.specs.History.{told}
 use Rattle.rehearsal.specs.Laws.{PendingIsPlayed}
-use Rattle.rehearsal.proofs.{Cutting.free_cut, Happening.may-happen, LineFacts.begun_no_feed, LineFacts.cut_line}
-use Rattle.rehearsal.proofs.Walking.{all_lines, at_most, at_refusal, at_the_end, brought, cuts}
-use Rattle.rehearsal.proofs.Walking.{fills, goes_out, history_so, led_cut, lines_of, refuses, Stop}
-use Rattle.rehearsal.proofs.Walking.{total, Walk}
+use Rattle.line_streams.proofs.{Cutting.free_cut, LineFacts.begun_no_feed, LineFacts.cut_line}
+use Rattle.rehearsal.proofs.{Happening.may-happen}
+use Rattle.line_streams.proofs.Walking.{all_lines, at_most, at_refusal, at_the_end, brought, cuts}
+use Rattle.line_streams.proofs.Walking.{fills, goes_out, history_so, led_cut, lines_of, refuses, Stop}
+use Rattle.line_streams.proofs.Walking.{total, Walk}
 
 -- ---- the run over events
 
@@ -173,7 +175,8 @@ module _ (x : Settings) where
             inl (
               line,
               (cut (drop n w.rest)).0,
-              ap (λ (c : List (List ℕ) × List ℕ). c.0) (cut_line {R = HistoryFault} w.rest line n is),
+              ap (λ (c : List (List ℕ) × List ℕ). c.0) (cut_line {R = HistoryFault} w.rest line n
+                  is),
               said,
             ),
           )
@@ -278,7 +281,8 @@ module _ (x : Settings) where
     brought_so_far rest pending =
         sym (append-nil (events_of g bytes))
         ∙ sym (ap (λ (v : History Played HistoryFault). v.events) (pending_history g bytes pending))
-        ∙ ap (λ (v : History Played HistoryFault). v.events) (history_so rules bytes rest.fault rest.brings)
+        ∙ ap (λ (v : History Played HistoryFault). v.events) (history_so rules bytes rest.fault
+        rest.brings)
 
     so_far : Rest → IsPending g bytes
         → told_so_far g told bytes ≡ delivered_lines (run_over x r.events).delivered

@@ -111,7 +111,8 @@ submission-made None last text e = cc
 submission-made (Some given) last text e = by_test (is_utf8 given) e where
   by_test : (v : Bool)
       → ◌≡◌ {A = Result (List ℕ) LineKind} (if v then Ok given else Err BadText) (Ok text)
-      → ◌≡◌ {A = Result Event LineKind} (if v then Ok (Submit (body_of given) last) else Err BadText)
+      → ◌≡◌ {A = Result Event LineKind} (if v then Ok (Submit (body_of given) last)
+      else Err BadText)
       (Ok (Submit (body_of text) last))
   by_test true e =
       let same : given ≡ text = cc in

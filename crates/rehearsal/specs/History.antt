@@ -1,6 +1,6 @@
 -- A history as a stream of lines, what is told of it, and what is said of it at all its bytes.
 use Rattle.std.specs.Prelude.{◌≡◌, ℕ, ◌+◌, ◌<◌, ◌≤◌, ◌↔◌, ◌⊎◌, List, [], ◌∷◌, ◌++◌, length, map, take, codes}
-use Rattle.std.specs.Prelude.{decimal, flat_map, Some, None, Ok, Err, Option, Result}
+use Rattle.std.specs.Prelude.{decimal, flat_map, if◌then◌else◌, Some, None, Ok, Err, Option, Result}
 use Rattle.unit_streams.specs.{Grammar.Grammar, Judging.offence, Tellers.report, Tellers.Teller}
 use Rattle.nbfx_values.specs.declared.content.Item.{Item, TheVariants.Text as TextItem}
 use Rattle.nbfx_values.specs.declared.scalars.{Scalar.TheVariants.Text, Value.TheVariants.One}
@@ -13,7 +13,8 @@ use Rattle.reliable_sequence.specs.Rehearsal.{nothing_kept, Rehearsal, rehearsal
 use Rattle.rehearsal.specs.declared.fault.HistoryFault.{HistoryFault, TheVariants.Line}
 use Rattle.rehearsal.specs.declared.fault.HistoryFault.TheVariants.{TooLong}
 use Rattle.rehearsal.specs.declared.{played.Played.Played, TheConstants.MOST_BYTES}
-use Rattle.rehearsal.specs.{Forms.event_of, Lines.LineRules, Lines.lines_by}
+use Rattle.line_streams.specs.LineRules.{LineRules, lines_by}
+use Rattle.rehearsal.specs.{Forms.event_of}
 
 -- the sequence whose history it is
 pub record Settings : Type 0 where
@@ -48,7 +49,7 @@ abbrev pub history_rules : Settings → LineRules Situation Played HistoryFault
 history_rules x = record {
   start = first_situation x;
   brings = λ z line. brought z (event_of line);
-  cut_line = λ z. Line (z.lines + 1) NotALine;
+  at_end = λ within_line z. if within_line then Some (Line (z.lines + 1) NotALine) else None;
   most = MOST_BYTES;
   too_long = TooLong;
 }

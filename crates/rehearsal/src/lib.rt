@@ -10,9 +10,9 @@
 //! (`specs/History`): a function of all the bytes, whatever the pieces in which they come.
 //!
 //! A [`HistoryReader`] reads such input, and a [`HistoryReporter`] writes about it, both for the
-//! loop of `stream_loop`. `specs/Lines` has the grammar of any input whose lines each bring an
-//! event, `specs/HistoryReaderState` which bytes a reader has read. What is written of any input,
-//! in terms of the run over the events of its lines, is in [`laws`].
+//! loop of `stream_loop`. `line_streams` has the grammar of any input whose lines each bring an
+//! event, and its reader; `specs/HistoryReaderState` says which bytes a reader has read. What is
+//! written of any input, in terms of the run over the events of its lines, is in [`laws`].
 #![tactic(auto)]
 
 mod fault;

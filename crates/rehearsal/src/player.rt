@@ -20,11 +20,13 @@ pub struct Player {
     pub world: Option<World>,
     pub lines: u64,
     ghost few: { submitted_in world ≤ lines },
+    ghost low: { lines ≤ 2 ^ 62 },
 }
 
 impl Player {
-    ghost use Rattle.rehearsal.specs.History.{Situation};
-    ghost use Rattle.rehearsal.specs.HistoryReaderState.{LineAnswers, Plays};
+    ghost use Rattle.line_streams.specs.LineStreamState.{LineAnswers};
+    ghost use Rattle.rehearsal.specs.History.{Settings, Situation, history_rules};
+    ghost use Rattle.rehearsal.specs.PlayerState.{Plays};
 
     /// The player of a new world. It fails without memory for it.
     pub fn new(alloc: Global, identifier: &str, window: u32) -> Result<Player, Memory>
@@ -48,8 +50,8 @@ impl Player {
     /// where the line is refused, or without memory.
     pub fn play(&mut self, line: &[u8]) -> Result<Played, FeedFault<HistoryFault>>
         requires { self.old.lines < 2 ^ 62 }
-        ensures answers { (z : Situation) → Plays z self.old
-            → LineAnswers z line.now self.new result }
+        ensures answers { (x : Settings) (z : Situation) → Plays z self.old
+            → LineAnswers (history_rules x) (λ behind. Plays behind self.new) z line.now result }
         ensures few { self.new.lines ≤ self.old.lines + 1 }
     {
         let event = match event_in(self.alloc, line) {

@@ -1,41 +1,79 @@
 // A reader of a history, in any pieces.
-#![tactic(auto, unfolding(crate::specs::HistoryReaderState::StandsFor, crate::specs::HistoryReaderState::settings_of))]
+#![tactic(auto, unfolding(crate::specs::HistoryReaderState::StandsFor, crate::specs::HistoryReaderState::settings_of, crate::specs::HistoryReaderState::taken_of))]
 
-ghost use Rattle.std.specs.Prelude.{◌≡◌, ◌+◌, ◌<◌, ◌≤◌, ◌++◌, ℕ, List, [], Bool, false, IfErr, IfOk, OnOk, length};
+ghost use Rattle.std.specs.Prelude.{◌≡◌, ◌<◌, ◌≤◌, ◌^◌, ℕ, List, [], Bool, false, IfOk};
 ghost use Rattle.std.specs.List.{list_all};
 ghost use Rattle.soap_envelope.specs.Characters.{is_white};
-ghost use Rattle.rehearsal.specs.History.{Situation, history};
 
 use crate::MOST_BYTES;
 use crate::fault::HistoryFault;
 use crate::played::Played;
 use crate::player::Player;
 use line_notation::LineKind;
-use memchr::memchr;
+use line_streams::{LineEnd, LineStream};
 use std::alloc::Global;
 use stream_loop::{FeedFault, ReadingEnd};
 use unit_streams::Memory;
 
-const LINE_FEED: u8 = b'\n';
+/// The lines of the history of one sequence.
+#[derive(Drop)]
+pub struct HistoryLines<'s> {
+    /// The sequence's identifier.
+    pub identifier: &'s str,
+    /// Its window.
+    pub window: u32,
+    /// What plays the lines.
+    pub player: Player,
+}
+
+impl<'s> LineEnd for HistoryLines<'s> {
+    ghost use Rattle.rehearsal.specs.History.{Situation as Stand, history_rules};
+    ghost use Rattle.rehearsal.specs.PlayerState.{Plays, set_to};
+
+    type Event = Played;
+
+    type Refusal = HistoryFault;
+
+    ghost Situation = { Stand };
+
+    ghost rules = { λ lines. history_rules (set_to lines) };
+
+    ghost is_in = { λ lines z. Plays z lines.player };
+
+    ghost count = { λ lines. lines.player.lines };
+
+    ghost most_lines = { 2 ^ 62 };
+
+    fn line(&mut self, line: &[u8]) -> Result<Played, FeedFault<HistoryFault>> {
+        self.player.play(line)
+    }
+
+    fn fault_at_end(&self, within_line: bool) -> Option<HistoryFault> {
+        if !within_line {
+            return None;
+        }
+        let line = self.player.lines + 1;
+        let kind = LineKind::NotALine;
+        Some(HistoryFault::Line { line, kind })
+    }
+
+    fn too_long(&self) -> HistoryFault {
+        HistoryFault::TooLong
+    }
+
+    fn reuse(&mut self, _event: Played) {}
+}
 
 /// Reads the lines of a history, in whatever pieces their bytes come, and answers what each brings.
 /// It holds the bytes of the unfinished line, both ends of the sequence, and all documents that
 /// were sent between them.
 #[derive(Drop)]
 pub struct HistoryReader<'s> {
-    identifier: &'s str,
-    window: u32,
-    player: Player,
-    /// The bytes of the unfinished line.
-    begun: Vec<u8>,
-    /// How many bytes were read.
-    taken: u64,
-    ghost lines: { player.lines ≤ taken },
-    ghost within: { taken ≤ 1073741824 },
+    stream: LineStream<HistoryLines<'s>>,
 }
 
 impl<'s> HistoryReader<'s> {
-    ghost use Rattle.rehearsal.specs.HistoryReaderState.{LineAnswers, PieceAnswers, Plays, StandsFor, WhereItStands, settings_of};
+    ghost use Rattle.rehearsal.specs.HistoryReaderState.{StandsFor, settings_of};
 
     /// A reader before the first byte, of the history of the sequence with this identifier, which
     /// isn't blank, and this window, from 1 to 1,024. It fails without memory.
@@ -48,83 +86,14 @@ impl<'s> HistoryReader<'s> {
             ≡ record { identifier = identifier.entry.now; window = window }) }
     {
         let player = Player::new(alloc, identifier, window)?;
-        Ok(HistoryReader {
+        let lines = HistoryLines {
             identifier,
             window,
             player,
-            begun: Vec::new(alloc),
-            taken: 0,
+        };
+        Ok(HistoryReader {
+            stream: LineStream::new(alloc, lines, MOST_BYTES),
         })
-    }
-
-    // How many of so many bytes may be read.
-    fn room(&self, len: usize) -> usize
-        ensures within { result ≤ len }
-        ensures fits { self.now.taken + result ≤ MOST_BYTES }
-        ensures full { result < len → self.now.taken + result ≡ MOST_BYTES }
-    {
-        let left = MOST_BYTES - self.taken;
-        len.min(left as usize)
-    }
-
-    // Takes bytes of the unfinished line.
-    fn begin(&mut self, bytes: &[u8]) -> Result<(), Memory>
-        requires { self.old.taken + length bytes.now ≤ MOST_BYTES }
-        ensures begun { OnOk result (self.new.begun.items ≡ self.old.begun.items ++ bytes.now) }
-        ensures taken { self.new.taken ≡ self.old.taken + length bytes.now }
-        ensures player { self.new.player ≡ self.old.player }
-        ensures settings { settings_of self.new ≡ settings_of self.old }
-    {
-        self.taken += bytes.len() as u64;
-        match self.begun.extend_from_slice(bytes) {
-            Ok(()) => Ok(()),
-            Err(_) => Err(Memory),
-        }
-    }
-
-    // Plays the line that ends with these bytes, after which its line feed comes.
-    fn end_line(&mut self, bytes: &[u8]) -> Result<Played, FeedFault<HistoryFault>>
-        requires { self.old.taken + length bytes.now + 1 ≤ MOST_BYTES }
-        ensures answers { (z : Situation) → Plays z self.old.player
-            → LineAnswers z (self.old.begun.items ++ bytes.now) self.new.player result }
-        ensures begun { OnOk result (self.new.begun.items ≡ []) }
-        ensures taken { self.new.taken ≡ self.old.taken + length bytes.now + 1 }
-        ensures settings { settings_of self.new ≡ settings_of self.old }
-    {
-        self.taken += bytes.len() as u64 + 1;
-        if self.begun.is_empty() {
-            return self.player.play(bytes);
-        }
-        if self.begun.extend_from_slice(bytes).is_err() {
-            return Err(FeedFault::Memory);
-        }
-        let answer = self.player.play(&self.begun);
-        self.begun.clear();
-        answer
-    }
-
-    // Reads a piece, up to its first line feed or as far as may be.
-    fn read(&mut self, piece: &[u8]) -> Result<(usize, Option<Played>), FeedFault<HistoryFault>>
-        ensures answers { WhereItStands self.old (λ p.
-            PieceAnswers (settings_of self.old) p piece.now self.new result) }
-        ensures settings { settings_of self.new ≡ settings_of self.old }
-    {
-        let (within, _) = piece.split_at(self.room(piece.len()));
-        match memchr(LINE_FEED, within) {
-            Some(end) => {
-                let played = self.end_line(&within[..end])?;
-                Ok((end + 1, Some(played)))
-            }
-            None => {
-                let Ok(()) = self.begin(within) else {
-                    return Err(FeedFault::Memory);
-                };
-                if self.taken >= MOST_BYTES {
-                    return Err(FeedFault::Refused(HistoryFault::TooLong));
-                }
-                Ok((within.len(), None))
-            }
-        }
     }
 }
 
@@ -158,21 +127,18 @@ impl<'s> ReadingEnd for HistoryReader<'s> {
     ghost counts = { counts_taken };
 
     fn feed(&mut self, piece: &[u8]) -> Result<(usize, Option<Played>), FeedFault<HistoryFault>> {
-        self.read(piece)
+        self.stream.feed(piece)
     }
 
     fn end_of_input(&mut self) -> Result<(), HistoryFault> {
-        if self.begun.is_empty() {
-            return Ok(());
-        }
-        let line = self.player.lines + 1;
-        let kind = LineKind::NotALine;
-        Err(HistoryFault::Line { line, kind })
+        self.stream.end_of_input()
     }
 
     fn is_end(&self, _event: &Played) -> bool {
         false
     }
 
-    fn recycle(&mut self, _event: Played) {}
+    fn recycle(&mut self, event: Played) {
+        self.stream.recycle(event);
+    }
 }

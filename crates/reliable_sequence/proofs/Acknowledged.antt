@@ -61,7 +61,8 @@ module _ (s : Sent) (body : List Item) (last : Bool) (number : ℕ) where
       let narrow = le-leb number (submitted_count s) low in
       ap (λ (fits : Bool). nat_lt 0 number && (fits && is_none (body_of more number)))
       (wide ∙ sym narrow)
-      ∙ ap (λ o. nat_lt 0 number && (nat_le number (submitted_count s) && is_none o)) (same-body low)
+      ∙ ap (λ o. nat_lt 0 number && (nat_le number (submitted_count s) && is_none o))
+      (same-body low)
 
   -- the body's own
   none-own : number ≡ submitted_count s + 1 → is_acknowledged more number ≡ false
@@ -71,7 +72,8 @@ module _ (s : Sent) (body : List Item) (last : Bool) (number : ℕ) where
       new =
           let above : s.front < number = omega arith in
           let place : place_of s.front number ≡ length s.unacknowledged = omega arith in
-          ap (λ (old : Bool). if old then None else body_at more.unacknowledged (place_of s.front number))
+          ap (λ (old : Bool). if old then None else body_at more.unacknowledged
+          (place_of s.front number))
           (lt-leb number s.front above)
           ∙ ap (body_at more.unacknowledged) place ∙ behind s.unacknowledged body
 

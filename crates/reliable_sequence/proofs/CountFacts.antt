@@ -10,14 +10,17 @@ use Rattle.reliable_sequence.specs.Slots.{body_at, free_count, Slots}
 
 one-place-more : (slots : Slots) (k : ℕ) → k < length slots
     → free_count (take (suc k) slots)
-    ≡ (if is_none (body_at slots k) then free_count (take k slots) + 1 else free_count (take k slots))
+    ≡ (if is_none (body_at slots k) then free_count (take k slots) + 1
+    else free_count (take k slots))
 one-place-more [] k within = absurd (omega arith)
 one-place-more (None ∷ more) zero within = refl
 one-place-more (Some body ∷ more) zero within = refl
 one-place-more (None ∷ more) (suc k) within =
-    ap suc (one-place-more more k (omega arith)) ∙ go (is_none (body_at more k)) (free_count (take k more))
+    ap suc (one-place-more more k (omega arith)) ∙ go (is_none (body_at more k))
+    (free_count (take k more))
   where
-    go : (free : Bool) (n : ℕ) → suc (if free then n + 1 else n) ≡ (if free then suc n + 1 else suc n)
+    go : (free : Bool) (n : ℕ) → suc (if free then n + 1 else n)
+        ≡ (if free then suc n + 1 else suc n)
     go true n = omega arith
     go false n = refl
 one-place-more (Some body ∷ more) (suc k) within = one-place-more more k (omega arith)
@@ -61,7 +64,8 @@ among-behind s (suc k) within =
     ap (acknowledged_among s) here
     ∙ ap (λ (b : Bool). if b then acknowledged_among s (s.front + k) + 1
     else acknowledged_among s (s.front + k)) (behind-front s k (omega arith))
-    ∙ ap (λ (m : ℕ). if is_none (body_at slots k) then m + 1 else m) (among-behind s k (omega arith))
+    ∙ ap (λ (m : ℕ). if is_none (body_at slots k) then m + 1 else m)
+    (among-behind s k (omega arith))
     ∙ go (is_none (body_at slots k)) (free_count (take k slots))
     ∙ ap (λ (m : ℕ). s.front + m) (sym (one-place-more slots k (omega arith)))
   where
@@ -70,7 +74,8 @@ among-behind s (suc k) within =
     go true n = omega arith
     go false n = refl
 
-pub acknowledged-counted : (s : Sent) → acknowledged_count s ≡ acknowledged_among s (submitted_count s)
+pub acknowledged-counted : (s : Sent) → acknowledged_count s ≡ acknowledged_among s
+    (submitted_count s)
 acknowledged-counted s =
     let slots = s.unacknowledged in
     ap (λ (l : Slots). s.front + free_count l) (sym (take-length slots))

@@ -183,5 +183,6 @@ module _ (r : Received) (number : ℕ) (last : Bool) where
       go true had none = refl
       go false true none = refl
       go false false none =
-          rw (lt-ltb (r.delivered + r.window) number (leb-false number (r.delivered + r.window) none))
+          rw (lt-ltb (r.delivered + r.window) number (leb-false number (r.delivered + r.window)
+          none))
           refl

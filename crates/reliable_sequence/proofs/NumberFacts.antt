@@ -65,7 +65,8 @@ FreeAre P front slots =
     (place : ℕ) → place < length slots → body_at slots place ≡ None → P (front + place + 1)
 
 free-without : (P : ℕ → Type 0) (front : ℕ) (slots : Slots) (r : Range) → FreeAre P front slots
-    → ((number : ℕ) → is_within number r ≡ true → P number) → FreeAre P front (without front slots r)
+    → ((number : ℕ) → is_within number r ≡ true → P number) → FreeAre P front
+    (without front slots r)
 free-without P front slots r free within place below e =
     let long = length-freed slots (place_of front r.lower) (r.upper - front) in
     elim (free_at-freed slots (place_of front r.lower) (r.upper - front) place e) [
@@ -278,7 +279,8 @@ stays-free front slots ranges place free = go (body_at (without_all front slots 
     go (Some body) e = let kept = kept-without_all front slots ranges place body e in cc
 
 pub free-in : (front : ℕ) (slots : Slots) (ranges : List Range) (place : ℕ)
-    → is_in ranges (front + place + 1) ≡ true → body_at (without_all front slots ranges) place ≡ None
+    → is_in ranges (front + place + 1) ≡ true → body_at (without_all front slots ranges) place
+    ≡ None
 free-in front slots [] place e = cc
 free-in front slots (r ∷ more) place e =
     elim (either-true (is_within (front + place + 1) r) (is_in more (front + place + 1)) e) [

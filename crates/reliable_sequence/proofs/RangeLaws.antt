@@ -40,11 +40,13 @@ module _ (s : Sent) (ranges : List Range) (number : ℕ) where
         free =
             elim (cases_lt (s.front + leading_free left) number) [
               | inl behind ↦
-                  let here : leading_free left + place_of (s.front + leading_free left) number ≡ place =
+                  let here : leading_free left + place_of (s.front + leading_free left) number
+                  ≡ place =
                   omega arith in
                   inr (
                     behind,
-                    body_at-drop (leading_free left) left (place_of (s.front + leading_free left) number)
+                    body_at-drop (leading_free left) left (place_of (s.front + leading_free left)
+                        number)
                         ∙ ap (body_at left) here ∙ free,
                   )
               | inr passed ↦ inl passed
@@ -99,7 +101,8 @@ module _ (s : Sent) (ranges : List Range) (number : ℕ) where
 
       behind : s.front < number → number ≤ submitted_count s → 0 < number
           → (number ≤ s.front + leading_free left) ⊎ ((s.front + leading_free left < number)
-          × (body_at (drop (leading_free left) left) (place_of (s.front + leading_free left) number) ≡ None))
+          × (body_at (drop (leading_free left) left) (place_of (s.front + leading_free left) number)
+          ≡ None))
           → IsTrue (is_acknowledged s number) ⊎ ((0 < number) × IsTrue (is_in ranges number))
       behind above low some (inl passed) =
           counts above low (free_in_front left place (omega arith)) some
@@ -109,7 +112,8 @@ module _ (s : Sent) (ranges : List Range) (number : ℕ) where
           omega arith in
           counts above low
           (ap (body_at left) (sym here)
-          ∙ sym (body_at-drop (leading_free left) left (place_of (s.front + leading_free left) number))
+          ∙ sym (body_at-drop (leading_free left) left (place_of (s.front + leading_free left)
+          number))
           ∙ found.1)
           some
 

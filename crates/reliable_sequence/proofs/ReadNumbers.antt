@@ -51,7 +51,8 @@ reads-digits =
     ∙ digit-read (n / 10) (n % 10) rest (omega arith)
     ∙ ap Some parts)
 
-begun : (digits : List ℕ) → 48 < get_or digits 0 0 → number_in digits ≡ number_behind (Some 0) digits
+begun : (digits : List ℕ) → 48 < get_or digits 0 0
+    → number_in digits ≡ number_behind (Some 0) digits
 begun [] first = absurd (omega arith)
 begun (c ∷ more) first = rw (lt-ltb 48 c first) refl
 

@@ -34,7 +34,8 @@ same-at : (lists : List (List Range)) (one : List Range) (place : ℕ) → place
     → ranges_at (lists ++ one ∷ []) place ≡ ranges_at lists place
 same-at lists one place low =
     let there = within lists place low in
-    ap ranges_or_none (slice_get-push_before lists one place (ranges_at lists place) there ∙ sym there)
+    ap ranges_or_none (slice_get-push_before lists one place (ranges_at lists place) there
+    ∙ sym there)
 
 same-after : (lists : List (List Range)) (one : List Range) (places : List ℕ)
     → AreBelow (length lists) places
@@ -61,7 +62,8 @@ module _ (old new : List (List Range)) (one : List Range) (places : List ℕ)
   pub below-still : AreBelow (length new) places
   below-still =
       elim grown [
-        | inl same ↦ subst (λ (ls : List (List Range)). AreBelow (length ls) places) (sym same) below
+        | inl same ↦ subst (λ (ls : List (List Range)). AreBelow (length ls) places) (sym same)
+            below
         | inr more ↦
             let long = ap length more ∙ length-append old (one ∷ []) in
             below-more (length old) (length new) places (omega arith) below
@@ -77,7 +79,8 @@ module _ (old new : List (List Range)) (one : List Range) (places : List ℕ)
       ]
 
   module _ (place : ℕ) (there : slice_get new place ≡ Some one) where
-    pub one-more : map (ranges_at new) (places ++ place ∷ []) ≡ map (ranges_at old) places ++ one ∷ []
+    pub one-more : map (ranges_at new) (places ++ place ∷ [])
+        ≡ map (ranges_at old) places ++ one ∷ []
     one-more =
         map-append (ranges_at new) places (place ∷ [])
         ∙ ap (λ (l : List (List Range)). l ++ ranges_at new place ∷ []) same-still

@@ -93,14 +93,21 @@ module _ (identifier : List ℕ) (w : World) (s : IsSound w) where
   -- the rehearsal with another end
   abbrev with_receiving : Received → Rehearsal
   with_receiving r =
-      record (in_documents identifier w) { kept = record (in_documents identifier w).kept { receiver = r } }
+      record (in_documents identifier w) {
+        kept = record (in_documents identifier w).kept
+            { receiver = r };
+      }
 
   abbrev with_sending : Sent → Rehearsal
   with_sending end =
-      record (in_documents identifier w) { kept = record (in_documents identifier w).kept { sender = end } }
+      record (in_documents identifier w) {
+        kept = record (in_documents identifier w).kept
+            { sender = end };
+      }
 
   arrival : (sent : Option Data) → ((d : Data) → sent ≡ Some d → IsFit d)
-      → with_receiving (after_document identifier w.receiver (option_map (data_items identifier) sent))
+      → with_receiving (after_document identifier w.receiver (option_map (data_items identifier)
+      sent))
       ≡ in_documents identifier (after_arrival w sent)
   arrival None fits = refl
   arrival (Some d) fits =
@@ -220,7 +227,8 @@ module _ (identifier : List ℕ) (w : World) (s : IsSound w) where
       nothing-more (kept_after (in_documents identifier w).kept SendAck)
       ∙ ap (λ (acknowledgements : List (List Item)). record (in_documents identifier w) {
         kept = record (in_documents identifier w).kept { acknowledgements = acknowledgements };
-      }) (sym (map-append (ranges_items identifier) w.ranges_sent (received_ranges w.receiver ∷ [])))
+      }) (sym (map-append (ranges_items identifier) w.ranges_sent
+      (received_ranges w.receiver ∷ [])))
   rehearsed-as (Ack at) =
       nothing-more (kept_after (in_documents identifier w).kept (Ack at))
       ∙ ap (λ o. with_sending (after_ack identifier w.sender o))
@@ -235,7 +243,8 @@ module _ (identifier : List ℕ) (w : World) (s : IsSound w) where
       submission-sound body may.fits (omega arith) (submitted w.sender body last)
       (faithful-happens w s.faithful (Submit body last))
   sound-happens (Send number) may =
-      same-sound w (happens w (Send number)) s (faithful-happens w s.faithful (Send number)) refl refl
+      same-sound w (happens w (Send number)) s (faithful-happens w s.faithful (Send number)) refl
+      refl
   sound-happens (Hand at) may =
       let keeps = arrival-keeps (slice_get w.data_sent at) in
       same-sound w (happens w (Hand at)) s (faithful-happens w s.faithful (Hand at)) keeps.0 keeps.1
@@ -288,7 +297,8 @@ gone-on : (r : Rehearsal) (events : List Event) (event : Event)
 gone-on r [] event = refl
 gone-on r (first ∷ more) event = gone-on (rehearsed r first) more event
 
-reached-on : (identifier : List ℕ) (window : ℕ) (events : List Event) (k next : Kept) (event : Event)
+reached-on : (identifier : List ℕ) (window : ℕ) (events : List Event) (k next : Kept)
+    (event : Event)
     → MayGo (new_rehearsal identifier window) events
     → (rehearsal (new_rehearsal identifier window) events).kept ≡ k → MayHappen k event
     → kept_after k event ≡ next → next.identifier ≡ identifier → IsReached next
@@ -303,7 +313,8 @@ reached-on identifier window events k next event went here may is same =
       events = all;
       went = subst (λ (i : List ℕ). MayGo (new_rehearsal i window) all) (sym same)
           (go-on new events event went (subst (λ (b : Kept). MayHappen b event) (sym here) may));
-      here = subst (λ (i : List ℕ). (rehearsal (new_rehearsal i window) all).kept ≡ next) (sym same) there;
+      here = subst (λ (i : List ℕ). (rehearsal (new_rehearsal i window) all).kept ≡ next) (sym same)
+          there;
     }
 
 pub reached-new : (identifier : List ℕ) (window : ℕ)

@@ -81,7 +81,8 @@ pub freed_to_end : (slots : Slots) (from end : ℕ)
     → freed slots from (min end (length slots)) ≡ freed slots from end
 freed_to_end slots from end =
     elim (cases_lt end (length slots)) [
-      | inl less ↦ let same : min end (length slots) ≡ end = omega arith in ap (freed slots from) same
+      | inl less ↦
+          let same : min end (length slots) ≡ end = omega arith in ap (freed slots from) same
       | inr most ↦
           let same : min end (length slots) ≡ length slots = omega arith in
           ap (freed slots from) same ∙ freed_min slots from end (omega arith)
@@ -146,7 +147,8 @@ pub length-with_body : (slots : Slots) (at : ℕ) (body : List Item)
 length-with_body [] zero body = refl
 length-with_body [] (suc at) body = let more = length-with_body [] at body in omega arith
 length-with_body (slot ∷ more) zero body = omega arith
-length-with_body (slot ∷ more) (suc at) body = let rest = length-with_body more at body in omega arith
+length-with_body (slot ∷ more) (suc at) body =
+    let rest = length-with_body more at body in omega arith
 
 ends-behind : (slot : Option (List Item)) (more : Slots) → 0 < length more
     → ends_with_body (slot ∷ more) ≡ ends_with_body more

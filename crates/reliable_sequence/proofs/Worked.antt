@@ -192,7 +192,8 @@ told (Ok s) = Ok (s.front, numbers s)
 told (Err fault) = Err fault
 
 acknowledgements : map (λ ranges. told (acknowledged (of_six false) ranges))
-    ([] ∷ (range 1 4 ∷ []) ∷ (range 6 6 ∷ []) ∷ (range 1 1 ∷ range 4 6 ∷ []) ∷ (range 1 1 ∷ range 6 7 ∷ []) ∷ [])
+    ([] ∷ (range 1 4 ∷ []) ∷ (range 6 6 ∷ []) ∷ (range 1 1 ∷ range 4 6 ∷ [])
+    ∷ (range 1 1 ∷ range 6 7 ∷ []) ∷ [])
     ≡ (Ok (3, false ∷ true ∷ true ∷ false ∷ true ∷ false ∷ false ∷ [])
     ∷ Ok (5, false ∷ true ∷ true ∷ true ∷ true ∷ false ∷ false ∷ [])
     ∷ Ok (3, false ∷ true ∷ true ∷ false ∷ true ∷ true ∷ false ∷ [])

@@ -76,7 +76,10 @@ submitted-more bodies body d last s = record {
 
 module _ (w : World) (f : IsFaithful w) where
   faithful-submitted : (body : List Item) (last : Bool) → w.sender.closed ≡ false
-      → IsFaithful (record w { bodies = w.bodies ++ body ∷ []; sender = sent_with w.sender body last })
+      → IsFaithful (record w {
+        bodies = w.bodies ++ body ∷ [];
+        sender = sent_with w.sender body last;
+      })
   faithful-submitted body last still =
       let slots = w.sender.unacknowledged in
       let long = length-append w.bodies (body ∷ []) in
@@ -276,7 +279,8 @@ module _ (w : World) (f : IsFaithful w) where
           → IsFaithful (after_acknowledgement w ranges)
       go None e = f
       go (Some ranges) e =
-          subst (λ (above : Option ℕ). IsFaithful (with_sender w (acknowledged_unless above ranges w.sender)))
+          subst (λ (above : Option ℕ). IsFaithful (with_sender w (acknowledged_unless above ranges
+          w.sender)))
           (sym (ranges-accepted at ranges e))
           (acknowledged-are ranges (f.ranges_sent at ranges e))
 
@@ -332,8 +336,10 @@ module _ (w : World) (f : IsFaithful w) where
               (sym (get_or_from_slice_get w.bodies w.receiver.delivered body body next))
               ∙ sym step;
           held = λ place found e.
-              let same : w.receiver.delivered + suc place ≡ w.receiver.delivered + 1 + place = omega arith in
-              ap (slice_get w.bodies) (sym same) ∙ f.holds.held (suc place) found (at (suc place) ∙ e);
+              let same : w.receiver.delivered + suc place ≡ w.receiver.delivered + 1 + place = omega
+              arith in
+              ap (slice_get w.bodies) (sym same) ∙ f.holds.held (suc place) found (at (suc place)
+              ∙ e);
           few = omega arith;
           near = omega arith;
           last = f.holds.last;
@@ -352,7 +358,8 @@ module _ (w : World) (f : IsFaithful w) where
       none = record {
         keeps = f.keeps;
         holds =
-            subst (Holds w.bodies w.sender.closed w.receiver) (sym (append-nil w.delivered)) f.holds;
+            subst (Holds w.bodies w.sender.closed w.receiver) (sym (append-nil w.delivered))
+            f.holds;
         data_sent = f.data_sent;
         ranges_sent = f.ranges_sent;
       }

@@ -30,7 +30,8 @@ Below number (r ∷ more) = (r.upper ≤ number) × Below number more
 -- the first upper end that is above a number
 abbrev pub first_above : ℕ → List Range → Option ℕ
 first_above number [] = None
-first_above number (r ∷ more) = if nat_lt number r.upper then Some r.upper else first_above number more
+first_above number (r ∷ more) =
+    if nat_lt number r.upper then Some r.upper else first_above number more
 
 -- the range that ends in front of a place, where one has begun and the place is free, and this is
 -- the number before the place's

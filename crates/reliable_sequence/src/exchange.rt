@@ -38,9 +38,11 @@ impl Model for Exchange {
 
     ghost Value = { Kept };
 
-    ghost view = { λ e. kept_of e.identifier (world_of e.outgoing e.receipts.received e.bodies e.marks e.receipts.sent) };
+    ghost view = { λ e. kept_of e.identifier
+        (world_of e.outgoing e.receipts.received e.bodies e.marks e.receipts.sent) };
 
-    ghost invariant = { λ e. IsSound (world_of e.outgoing e.receipts.received e.bodies e.marks e.receipts.sent) };
+    ghost invariant = { λ e. IsSound
+        (world_of e.outgoing e.receipts.received e.bodies e.marks e.receipts.sent) };
 }
 
 // Submits a body, of which one copy is kept apart.

@@ -32,9 +32,15 @@ impl Model for Incoming {
 
     ghost Value = { Received };
 
-    ghost view = { λ i. record { window = i.window; delivered = i.delivered; held = i.held; last = i.last } };
+    ghost view = { λ i. record {
+      window = i.window;
+      delivered = i.delivered;
+      held = i.held;
+      last = i.last;
+    } };
 
-    ghost invariant = { λ i. (i.delivered + length i.held < 2 ^ 64) × IsTrue (ends_with_body i.held) };
+    ghost invariant = { λ i. (i.delivered + length i.held < 2 ^ 64)
+        × IsTrue (ends_with_body i.held) };
 }
 
 impl Incoming {

@@ -74,7 +74,8 @@ fn put_sequence(
     number: u64,
     last: bool,
 ) -> Result<(), Memory>
-    ensures { OnOk result (items.new ≡ items.old ++ spec.sequence_items identifier.now number last) }
+    ensures { OnOk result (items.new
+        ≡ items.old ++ spec.sequence_items identifier.now number last) }
 {
     put_block_start(alloc, items, "Sequence")?;
     put_attribute(alloc, items, "s", "mustUnderstand", numeral(1))?;

@@ -34,9 +34,15 @@ impl Model for Outgoing {
 
     ghost Value = { Sent };
 
-    ghost view = { λ o. record { window = o.window; front = o.front; unacknowledged = o.unacknowledged; closed = o.closed } };
+    ghost view = { λ o. record {
+      window = o.window;
+      front = o.front;
+      unacknowledged = o.unacknowledged;
+      closed = o.closed;
+    } };
 
-    ghost invariant = { λ o. IsWithinWindow o.window o.front o.unacknowledged × (o.acknowledged ≡ o.front + free_count o.unacknowledged) };
+    ghost invariant = { λ o. IsWithinWindow o.window o.front o.unacknowledged
+        × (o.acknowledged ≡ o.front + free_count o.unacknowledged) };
 }
 
 impl Outgoing {

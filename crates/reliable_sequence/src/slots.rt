@@ -107,7 +107,8 @@ impl Slots {
 
     // Puts a body behind the others and so many free places.
     fn push_far(&mut self, free: usize, body: Items) -> Result<(), Memory>
-        ensures pushed { OnOk result (self.new ≡ self.old ++ replicate free None ++ Some body ∷ []) }
+        ensures pushed { OnOk result (self.new
+            ≡ self.old ++ replicate free None ++ Some body ∷ []) }
         ensures kept { take (length self.old) self.new ≡ self.old }
     {
         self.push_free(free)?;

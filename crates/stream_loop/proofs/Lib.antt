@@ -27,6 +27,8 @@ pub mod Written
 pub mod Gathered
 pub mod Within
 pub mod Parts
+-- what was written of parts was written of the events for which they are due (specs/PartsDue)
+pub mod PartsDue
 -- how many bytes that is, and what it leaves of the counts of faults
 pub mod Amounts
 pub mod Counts

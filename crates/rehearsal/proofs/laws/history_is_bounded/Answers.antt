@@ -1,5 +1,6 @@
 use Rattle.std.proofs.Common.{lit<}
-use Rattle.rehearsal.{specs.History.history_rules, proofs.LineFacts.begins, proofs.LineFacts.bounded}
+use Rattle.rehearsal.specs.History.{history_rules}
+use Rattle.line_streams.proofs.LineFacts.{begins, bounded}
 use Rattle.rehearsal.proofs.laws.history_is_bounded.Goals as goal
 
 pub returns-clause-begins : goal.returns-clause-begins

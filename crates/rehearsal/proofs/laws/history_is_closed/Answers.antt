@@ -1,4 +1,4 @@
-use Rattle.rehearsal.{specs.History.history_rules, proofs.LineFacts.closes}
+use Rattle.{rehearsal.specs.History.history_rules, line_streams.proofs.LineFacts.closes}
 use Rattle.rehearsal.proofs.laws.history_is_closed.Goals as goal
 
 pub returns : goal.returns

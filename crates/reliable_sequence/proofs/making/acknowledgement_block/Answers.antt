@@ -8,4 +8,5 @@ pub returns-clause-content : goal.returns-clause-content
 returns-clause-content c =
     let made = rw c.new-block.ensures at c.in_ok-put_acknowledgement.ensures in
     subst IsContent (sym made)
-    (acknowledgement-content c.args.identifier.now c.args.ranges.now (is_utf8-from_IsUtf8 c.args.identifier.now c.utf8.identifier) c.requires)
+    (acknowledgement-content c.args.identifier.now c.args.ranges.now
+    (is_utf8-from_IsUtf8 c.args.identifier.now c.utf8.identifier) c.requires)

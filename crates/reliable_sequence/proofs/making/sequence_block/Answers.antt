@@ -8,5 +8,6 @@ pub returns-clause-content : goal.returns-clause-content
 returns-clause-content c =
     let made = rw c.new-block.ensures at c.in_ok-put_sequence.ensures in
     subst IsContent (sym made)
-    (sequence-content c.args.identifier.now c.args.number c.args.last (is_utf8-from_IsUtf8 c.args.identifier.now c.utf8.identifier)
+    (sequence-content c.args.identifier.now c.args.number c.args.last
+    (is_utf8-from_IsUtf8 c.args.identifier.now c.utf8.identifier)
     c.ranges.number.fits)

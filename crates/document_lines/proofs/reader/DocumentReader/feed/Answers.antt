@@ -32,7 +32,8 @@ module _ (piece : List ℕ) (used allowed : ℕ) where
       (let n = length-drop used piece in omega (arith, le, within, n))
 
 -- a piece that fits is used whole
-all_used : (allowed len session taken : ℕ) → allowed ≤ len → (allowed < len → session ≤ taken + allowed)
+all_used : (allowed len session taken : ℕ) → allowed ≤ len
+    → (allowed < len → session ≤ taken + allowed)
     → taken + allowed < session → allowed ≡ len
 all_used allowed len session taken within full short =
     elim (cases_lt allowed len) [
@@ -98,7 +99,8 @@ pub returns-in-Err-clause-answers : goal.returns-in-Err-clause-answers
 returns-in-Err-clause-answers c =
     let f : At-loop-used = (goal.at-returns-in-Err-clause-answers c).At-loop-used in
     λ p stands. rw c.fail.ensures.same (along_refused (x f) p (piece f) c.loop-used.self (used f)
-    (so_far f p stands) (here (piece f) (used f) (allowed f)) (behind (piece f) (used f) (allowed f))
+    (so_far f p stands) (here (piece f) (used f) (allowed f)) (behind (piece f) (used f)
+    (allowed f))
     (split (piece f) (used f) (allowed f)) c.unit.new.self c.in-Err.fault
     (unit_answers f c.unit.new.self (Err c.in-Err.fault) c.in-Err.ensures.answers p stands))
 

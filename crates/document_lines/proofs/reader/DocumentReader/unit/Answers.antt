@@ -1,6 +1,6 @@
 use Rattle.std.proofs.Common.{◌≤◌, length, Ok, Err, arith, length-take-le}
 use Rattle.document_lines.specs.DocumentReaderState.{settings_of}
-use Rattle.document_lines.proofs.Finding.{line_end, none_found}
+use Rattle.line_streams.proofs.Finding.{line_end, none_found}
 use Rattle.document_lines.proofs.LineSteps.{unit_begin, unit_line}
 use Rattle.document_lines.proofs.reader.DocumentReader.unit.Goals as goal
 

@@ -9,5 +9,6 @@ invariant_of-next c =
     let same = delivered-next e.outgoing e.receipts.received e.bodies e.marks e.receipts.sent
     c.deliver-body.new.self.received c.deliver-body.new.self.sent c.deliver-body.ensures.sent
     c.deliver-body.ensures.received in
-    sound-next e.identifier (world_of e.outgoing e.receipts.received e.bodies e.marks e.receipts.sent) c.self.invariant
+    sound-next e.identifier (world_of e.outgoing e.receipts.received e.bodies e.marks
+    e.receipts.sent) c.self.invariant
     Deliver tt _ same

@@ -9,7 +9,8 @@ invariant_of-result c =
     let e = c.self.inside in
     let same = heard-next e.outgoing e.receipts.received e.bodies e.marks e.receipts.sent
     c.args.at c.hand_back.new.outgoing c.hand_back.ensures in
-    sound-next e.identifier (world_of e.outgoing e.receipts.received e.bodies e.marks e.receipts.sent) c.self.invariant
+    sound-next e.identifier (world_of e.outgoing e.receipts.received e.bodies e.marks
+    e.receipts.sent) c.self.invariant
     (Ack c.args.at) tt _ same
 
 pub returns : goal.returns
@@ -17,6 +18,7 @@ returns c =
     let e = c.self.inside in
     let same = heard-next e.outgoing e.receipts.received e.bodies e.marks e.receipts.sent
     c.args.at c.hand_back.new.outgoing c.hand_back.ensures in
-    kept-next e.identifier (world_of e.outgoing e.receipts.received e.bodies e.marks e.receipts.sent) c.self.invariant
+    kept-next e.identifier (world_of e.outgoing e.receipts.received e.bodies e.marks
+    e.receipts.sent) c.self.invariant
     (Ack c.args.at) tt _ same
     ∙ ap (λ (k : Kept). kept_after k (Ack c.args.at)) c.self.view_is

@@ -10,7 +10,8 @@ invariant_of-result c =
     let same = handed-next e.outgoing e.receipts.received e.bodies e.marks e.receipts.sent
     c.args.at c.hand_over.new.receipts.received c.hand_over.new.receipts.sent
     c.hand_over.ensures.sent c.in_ok-hand_over.ensures.received in
-    sound-next e.identifier (world_of e.outgoing e.receipts.received e.bodies e.marks e.receipts.sent) c.self.invariant
+    sound-next e.identifier (world_of e.outgoing e.receipts.received e.bodies e.marks
+    e.receipts.sent) c.self.invariant
     (Hand c.args.at) tt _ same
 
 pub returns : goal.returns
@@ -19,6 +20,7 @@ returns c =
     let same = handed-next e.outgoing e.receipts.received e.bodies e.marks e.receipts.sent
     c.args.at c.hand_over.new.receipts.received c.hand_over.new.receipts.sent
     c.hand_over.ensures.sent c.in_ok-hand_over.ensures.received in
-    kept-next e.identifier (world_of e.outgoing e.receipts.received e.bodies e.marks e.receipts.sent) c.self.invariant
+    kept-next e.identifier (world_of e.outgoing e.receipts.received e.bodies e.marks
+    e.receipts.sent) c.self.invariant
     (Hand c.args.at) tt _ same
     ∙ ap (λ (k : Kept). kept_after k (Hand c.args.at)) c.self.view_is

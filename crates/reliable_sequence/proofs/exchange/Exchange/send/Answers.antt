@@ -9,7 +9,8 @@ invariant_of-result c =
     let e = c.self.inside in
     let same = sent-next e.outgoing e.receipts.received e.bodies e.marks e.receipts.sent
     c.self.invariant c.args.number c.send.new.marks c.in_ok-send.ensures in
-    sound-next e.identifier (world_of e.outgoing e.receipts.received e.bodies e.marks e.receipts.sent) c.self.invariant
+    sound-next e.identifier (world_of e.outgoing e.receipts.received e.bodies e.marks
+    e.receipts.sent) c.self.invariant
     (Send c.args.number) tt _ same
 
 pub returns : goal.returns
@@ -17,6 +18,7 @@ returns c =
     let e = c.self.inside in
     let same = sent-next e.outgoing e.receipts.received e.bodies e.marks e.receipts.sent
     c.self.invariant c.args.number c.send.new.marks c.in_ok-send.ensures in
-    kept-next e.identifier (world_of e.outgoing e.receipts.received e.bodies e.marks e.receipts.sent) c.self.invariant
+    kept-next e.identifier (world_of e.outgoing e.receipts.received e.bodies e.marks
+    e.receipts.sent) c.self.invariant
     (Send c.args.number) tt _ same
     ∙ ap (λ (k : Kept). kept_after k (Send c.args.number)) c.self.view_is

@@ -9,5 +9,6 @@ invariant_of-result c =
     let same = ranged-next e.outgoing e.receipts.received e.bodies e.marks e.receipts.sent
     c.acknowledge.new.self.received c.acknowledge.new.self.sent c.acknowledge.ensures.received
     c.in_ok-acknowledge.ensures.sent in
-    sound-next e.identifier (world_of e.outgoing e.receipts.received e.bodies e.marks e.receipts.sent) c.self.invariant
+    sound-next e.identifier (world_of e.outgoing e.receipts.received e.bodies e.marks
+    e.receipts.sent) c.self.invariant
     SendAck tt _ same

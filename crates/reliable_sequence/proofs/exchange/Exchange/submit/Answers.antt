@@ -10,9 +10,11 @@ invariant_of-result c =
     let same = submitted-next e.outgoing e.receipts.received e.bodies e.marks e.receipts.sent
     c.self.invariant c.args.body c.args.last c.submit.new.outgoing c.submit.new.bodies
     c.in_ok-submit.ensures in
-    sound-next e.identifier (world_of e.outgoing e.receipts.received e.bodies e.marks e.receipts.sent) c.self.invariant
+    sound-next e.identifier (world_of e.outgoing e.receipts.received e.bodies e.marks
+    e.receipts.sent) c.self.invariant
     (Submit c.args.body c.args.last)
-    (subst (λ (k : Kept). MayHappen k (Submit c.args.body c.args.last)) (sym c.self.view_is) c.requires) _ same
+    (subst (λ (k : Kept). MayHappen k (Submit c.args.body c.args.last)) (sym c.self.view_is)
+    c.requires) _ same
 
 pub returns : goal.returns
 returns c =
@@ -20,7 +22,9 @@ returns c =
     let same = submitted-next e.outgoing e.receipts.received e.bodies e.marks e.receipts.sent
     c.self.invariant c.args.body c.args.last c.submit.new.outgoing c.submit.new.bodies
     c.in_ok-submit.ensures in
-    kept-next e.identifier (world_of e.outgoing e.receipts.received e.bodies e.marks e.receipts.sent) c.self.invariant
+    kept-next e.identifier (world_of e.outgoing e.receipts.received e.bodies e.marks
+    e.receipts.sent) c.self.invariant
     (Submit c.args.body c.args.last)
-    (subst (λ (k : Kept). MayHappen k (Submit c.args.body c.args.last)) (sym c.self.view_is) c.requires) _ same
+    (subst (λ (k : Kept). MayHappen k (Submit c.args.body c.args.last)) (sym c.self.view_is)
+    c.requires) _ same
     ∙ ap (λ (k : Kept). kept_after k (Submit c.args.body c.args.last)) c.self.view_is

@@ -11,4 +11,5 @@ returns-clause-small c =
     let small : newest r < 2 ^ 64 = let e = c.newest-newest.ensures in omega arith in
     subst AreSmall (sym c.in_ok-ranges.ensures)
     (small-ranges (newest r) 1 (received_ranges r)
-    (runs-below r.held (begun_at r.delivered) r.delivered (newest r) (omega arith)) (rising r) small)
+    (runs-below r.held (begun_at r.delivered) r.delivered (newest r) (omega arith)) (rising r)
+    small)

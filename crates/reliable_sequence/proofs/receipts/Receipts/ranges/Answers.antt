@@ -7,7 +7,8 @@ pub returns-in-Some : goal.returns-in-Some
 returns-in-Some c =
     let r = c.self.inside in
     c.get-in-Some.ensures
-    ∙ found r.lists r.places c.args.at c.in-Some.place.now c.self.invariant.0 (sym c.in-Some.ensures)
+    ∙ found r.lists r.places c.args.at c.in-Some.place.now c.self.invariant.0
+    (sym c.in-Some.ensures)
     ∙ ap (λ (v : Receipts). slice_get v.sent c.args.at) c.self.view_is
 
 pub returns-in-None : goal.returns-in-None

@@ -16,4 +16,5 @@ loop-at-preserved c =
     let more = runs_more c.args.self.now at before next c.loop-at.begun has_body
     c.loop-at.ranges c.end_range.new.ranges (omega arith) c.has_body-has_body.ensures later
     c.in_ok-end_range.ensures in
-    ap (λ (b : Option ℕ). c.end_range.new.ranges ++ runs b next rest) begun ∙ more ∙ c.loop-at.invariant
+    ap (λ (b : Option ℕ). c.end_range.new.ranges ++ runs b next rest) begun ∙ more
+    ∙ c.loop-at.invariant
