@@ -148,9 +148,11 @@ module _ (y : Settings) (i i' : Input) (first : SinkView) where
   pub come_to_ack : (stands : List ℕ → Type 0) (handler handler' : AnswerHandler) (now : SinkView)
       (left : List ℕ) → handler'.stage ≡ Acked → handler'.reached ≡ handler.reached
       → handler'.report ≡ handler.report
-      → WasHalted (stream y) i i' ends stands (λ at paused since. HasHalted first (map event_for paused ++ map event_for since) (option_map event_for at)
+      → WasHalted (stream y) i i' ends stands (λ at paused since. HasHalted first
+      (map event_for paused ++ map event_for since) (option_map event_for at)
       handler now) left
-      → (q : List ℕ) × HasComeTo (stream y) i i' stands (λ paused since. HasReported first (map event_for paused ++ map event_for since) handler' now) q left
+      → (q : List ℕ) × HasComeTo (stream y) i i' stands (λ paused since. HasReported first
+      (map event_for paused ++ map event_for since) handler' now) q left
   come_to_ack stands handler handler' now left e_stage e_reached e_report w =
       let g : Grammar _ _ StreamEvent _ = stream y in
       let before : List StreamEvent = events_of g w.before in
@@ -169,7 +171,8 @@ module _ (y : Settings) (i i' : Input) (first : SinkView) where
           since = w.since ++ accepted ∷ [];
           events_are = w.events_are ∙ ap (then_at (before ++ w.since)) at
               ∙ append_assoc before w.since (accepted ∷ []);
-          handled = rw (e_stage, e_reached, e_report) (subst (λ l. HasTold first l Acked handler.reached handler.report now)
+          handled = rw (e_stage, e_reached, e_report)
+              (subst (λ l. HasTold first l Acked handler.reached handler.report now)
               (append_assoc (map event_for before) (map event_for w.since) (said.Accepted ∷ [])
               ∙ ap (λ l. map event_for before ++ l)
               (sym (map-append event_for w.since (accepted ∷ [])))) w.halted.told);
@@ -212,7 +215,8 @@ module _ (y : Settings) (i i' : Input) (P : List Event → Type 0) where
       → ending_by r ≡ Some ending
       → ReadsOn (stream y) i i' ends stands HandledSo Halts Waits left r → Follows' ending
   ended_so stands Halts Waits left (reads.Judged judged) ending is h =
-      let same : endings.Judged judged ≡ ending = cc in subst Follows' same (judged_so left judged h)
+      let same : endings.Judged judged ≡ ending = cc in
+      subst Follows' same (judged_so left judged h)
   ended_so stands Halts Waits left reads.ReadFault ending is h =
       let same : endings.ReadFault ≡ ending = cc in subst Follows' same (cut_so Waits h)
   ended_so stands Halts Waits left reads.Memory ending is h =

@@ -100,7 +100,8 @@ module _ (s : CallSettings) where
   envelopes_cut [] table behind (one ∷ first) others are = absurd (cc are.0)
   envelopes_cut (d ∷ documents) table behind (one ∷ first) others are =
       let c = envelopes_cut documents are.0.1 behind first others
-      (subst (λ (l : List Part). Are are.0.1 documents l behind) (sym (ap tail_of are.3)) are.4) in (
+      (subst (λ (l : List Part). Are are.0.1 documents l behind) (sym (ap tail_of are.3))
+      are.4) in (
         d ∷ c.0,
         c.1,
         c.2,

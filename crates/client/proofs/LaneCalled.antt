@@ -98,7 +98,8 @@ module _ (x : Sending) (via : List ℕ) (sink sink' output output1 output' : Sin
       let some = handled_some (stream (answers_to x)) Told' i i' ending follows in
       let c = has_called some.0 some.1 in
       record {
-        follows = subst (λ (e : FollowEnding Offence). Follows (stream (answers_to x)) Called i i' e)
+        follows = subst
+            (λ (e : FollowEnding Offence). Follows (stream (answers_to x)) Called i i' e)
             ending_is (follows_as (stream (answers_to x)) Told' Called i i' ending has_called
             follows);
         reads_counted = subst (λ (v : ClientIn). CountsFaults i.faults i'.faults (v ≡ ReadFault))

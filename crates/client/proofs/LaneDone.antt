@@ -97,7 +97,8 @@ module _ (first : SinkView) (all : Tagged) (w : LaneWriter) (k : SinkView)
           → w.unfit ≡ None → Closed o (frame_bytes_of End []) whole now
           → Sent (outbound_for o None whole) whole now
       to_end o whole now going fits closed =
-          subst (λ (d : List (List Item)). SendsAll (sending_by w.settings d) before start (outbound_for o None whole) whole now) docs_are
+          subst (λ (d : List (List Item)). SendsAll (sending_by w.settings d) before start
+          (outbound_for o None whole) whole now) docs_are
           (sent_to_end w.settings (elements_of h.made) (elements_of h.rest) h.parts h.others
           h.table h.envelopes h.empty few_made first before start puts
           flushed o whole now (ap elements_of (h.whole going fits))
@@ -107,7 +108,8 @@ module _ (first : SinkView) (all : Tagged) (w : LaneWriter) (k : SinkView)
           → (o ≡ Done → w.unfit ≡ None → ⊥) → Closed o [] whole now
           → Sent (outbound_for o w.unfit whole) whole now
       to_stop o whole now either closed =
-          subst (λ (d : List (List Item)). SendsAll (sending_by w.settings d) before start (outbound_for o w.unfit whole) whole now) docs_are
+          subst (λ (d : List (List Item)). SendsAll (sending_by w.settings d) before start
+          (outbound_for o w.unfit whole) whole now) docs_are
           (sent_before w.settings (elements_of h.made) (elements_of h.rest) h.parts h.others
           h.table h.envelopes h.empty few_made first before start puts
           flushed o w.unfit whole now either h.unfit (closed (h.parts ++ h.others) h.given))
@@ -173,14 +175,15 @@ module _ (first : SinkView) (all : Tagged) (w now : LaneWriter) (k : SinkView) (
 -- by what the last call of its parts leaves
 pub ended_so : (first : SinkView) (all : Tagged) (w s now : LaneWriter) (k mid : SinkView)
     (last : List ℕ) (len whole : ℕ) → IsWriting first all w k → s.unfit ≡ w.unfit
-    → s.tags.items ≡ w.tags.items → now.unfit ≡ s.unfit → now.parts ≡ s.parts → len ≡ length s.tags.items
-    → len < 2 ^ 64 → whole ≡ min s.parts.whole len → now.tags.items ≡ take whole s.tags.items
+    → s.tags.items ≡ w.tags.items → now.unfit ≡ s.unfit → now.parts ≡ s.parts
+    → len ≡ length s.tags.items → len < 2 ^ 64 → whole ≡ min s.parts.whole len → now.tags.items
+    ≡ take whole s.tags.items
     → LastOf w s.parts.outbound last
     → ((parts : List Part) → WasGiven first parts w.parts k
     → Wrote counting s.parts.outbound last first parts (λ count. s.parts.whole ≡ count) mid)
     → HasEnded w.settings first all now mid
-ended_so first all w s now k mid last len whole h e_unfit e_tags n_unfit n_parts len_is short whole_is
-    cut ends closed =
+ended_so first all w s now k mid last len whole h e_unfit e_tags n_unfit n_parts len_is short
+    whole_is cut ends closed =
     let same : len ≡ length w.tags.items = len_is ∙ ap length e_tags in
     finished first all w now k last mid s.parts.whole h (omega (arith, same, short))
     (rw n_parts ends) (rw n_parts closed) (n_unfit ∙ e_unfit)

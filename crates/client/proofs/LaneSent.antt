@@ -73,7 +73,8 @@ module _ (s : CallSettings) (made rest : List (List Item)) (parts others : List 
   Ends closing = (closing ≡ []) ⊎ ((rest ≡ []) × (closing ≡ frame_bytes_of End []))
 
   -- behind all envelopes
-  closing_due : (after : List Part) → AreEmpty after → (closing : List ℕ) → Ends closing → (count : ℕ)
+  closing_due : (after : List Part) → AreEmpty after
+      → (closing : List ℕ) → Ends closing → (count : ℕ)
       → (due_part counting count closing after ≡ due_next x table rest)
       ⊎ (due_part counting count closing after ≡ [])
   closing_due [] none closing (inl nothing) count = inr nothing

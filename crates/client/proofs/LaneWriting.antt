@@ -96,7 +96,8 @@ unfits_still s table rest more (Some fault) next =
     (unfit_still s table (elements_of rest) (elements_of more) fault next)
 
 -- what a half that may send refuses it refuses by the document
-pub refused_ready : (answer : Result (Placed (List ℕ)) Unfit) (state : SendState) (fault : EncodeFault)
+pub refused_ready : (answer : Result (Placed (List ℕ)) Unfit) (state : SendState)
+    (fault : EncodeFault)
     → RefusesMessage answer state (Refused fault) → Refuses answer fault
 refused_ready answer Ready fault refuses = refuses
 refused_ready answer Spent fault refuses = absurd refuses
@@ -137,7 +138,8 @@ pub second_of_few : (mode : Mode) (state : SendState) (made more : List (List It
     → AreFew mode (made ++ d ∷ more) → ⊥
 second_of_few mode state [] more d is never few = never is
 second_of_few Singleton state (one ∷ made) more d is never few =
-    let n = few refl in let m = length-append (one ∷ made) (d ∷ more) in absurd (omega (arith, n, m))
+    let n = few refl in let m = length-append (one ∷ made) (d ∷ more) in
+    absurd (omega (arith, n, m))
 second_of_few Duplex state (one ∷ made) more d is never few = never is
 second_of_few Simplex state (one ∷ made) more d is never few = never is
 
@@ -314,7 +316,8 @@ module _ (first : SinkView) where
 
       pub writing_one : Is' all old k → Is' (all ++ (lane, d) ∷ []) new k'
       writing_one h = (
-        subst (λ (c : CallSettings). IsSet c new.sender) (sym e_settings) (set_as s old.sender new.sender keeps h.0),
+        subst (λ (c : CallSettings). IsSet c new.sender) (sym e_settings)
+            (set_as s old.sender new.sender keeps h.0),
         λ few. writes_one h.0 (h.1 (few_tagged old.settings.mode all ((lane, d) ∷ [])
             (subst (λ (c : CallSettings). AreFew c.mode (elements_of (all ++ (lane, d) ∷ [])))
             e_settings few))),

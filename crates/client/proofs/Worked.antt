@@ -111,7 +111,8 @@ ModeRow = Mode × Encoding × List ℕ
 
 abbrev AreSentIn : List ModeRow → Type 0
 AreSentIn rows =
-    map (λ (r : ModeRow). sent_by (sending usual_limits usual_limits [] r.0 r.1 (element ∷ [])) via) rows
+    map (λ (r : ModeRow).
+    sent_by (sending usual_limits usual_limits [] r.0 r.1 (element ∷ [])) via) rows
     ≡ map (λ (r : ModeRow). r.2) rows
 
 modes : AreSentIn (
@@ -183,7 +184,8 @@ answered : AreReported Duplex (
     (0x0B ∷ 0x07 ∷ [], Read, codes "accepted\nended 2\n", None) ∷ (
       0x0B ∷ 0x06 ∷ 0x06 ∷ 0x02 ∷ 0x01 ∷ 0x78 ∷ 0x42 ∷ 0x01 ∷ 0x01 ∷ 0x07 ∷ [],
       Read,
-      codes "accepted\nmessage 0 payload 6 items 2 depth 1 content 1 strings 1 used 1\nstart \"\" \"x\"\nclose\nended 10\n",
+      codes "accepted\nmessage 0 payload 6 items 2 depth 1 content 1 strings 1 used 1\n"
+          ++ codes "start \"\" \"x\"\nclose\nended 10\n",
       None,
     ) ∷
     (0x08 ∷ 0x01 ∷ 0x61 ∷ [], Awaited, codes "fault 3 \"a\"\n", None) ∷

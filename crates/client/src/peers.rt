@@ -61,8 +61,8 @@ fn put_line<O: Sink>(inbound: ClientIn, tags: &[Lane], output: &mut O) -> Result
 // Ends the report of a call, unless its writing has ended.
 fn finish_report<O: Sink>(outcome: &LanesOutcome, output: &mut O) -> Reported
     ensures { Finishes
-        (line_after outcome.now.inbound (sent_line outcome.now.tags.items)) outcome.now.report result
-        (O.view output.old) (O.view output.new) }
+        (line_after outcome.now.inbound (sent_line outcome.now.tags.items)) outcome.now.report
+        result (O.view output.old) (O.view output.new) }
 {
     if !outcome.report.is_going() {
         return outcome.report;

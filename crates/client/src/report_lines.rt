@@ -38,7 +38,8 @@ fn outbound_by(answer: Result<(), SinkFault>) -> Outbound
 
 // Puts the lines of an event, with its document.
 pub(crate) fn put_lines<O: Sink>(reached: Outcome, event: &Event, output: &mut O) -> Outbound
-    ensures { Goes result (said_lines Shown.Whole event.now) (O.view output.old) (O.view output.new) }
+    ensures { Goes result (said_lines Shown.Whole event.now) (O.view output.old)
+        (O.view output.new) }
 {
     let mut reporter = LineReporter {
         detail: Detail::Whole,

@@ -17,10 +17,12 @@ use Rattle.duplex_server.specs.declared.{jobs.Job.Job, outcome.Outcome.Outcome}
 use Rattle.duplex_server.specs.declared.requests.Request.{Request}
 use Rattle.duplex_server.specs.Jobs.{AsksFor, behind_job, behind_jobs, is_last, part_for}
 use Rattle.duplex_server.specs.Jobs.{parts_of}
-use Rattle.duplex_server.specs.ServerStream.{Answering, Replying, requests_to, start}
+use Rattle.duplex_server.specs.ServerStream.{Answering, replies, Replying, requests_to, start}
 use Rattle.duplex_server.specs.{Requests.request_for, Serving.HasServed, Serving.inbound_of}
 use Rattle.duplex_server.specs.{Carrying.ServesKept, TwoThreads.HasReplied, TwoThreads.WereAsked}
-use Rattle.duplex_server.proofs.{Due.asked_due, Served.kept, Served.served, Written.wrote_so}
+use Rattle.duplex_server.proofs.{Due.asked_due, Served.kept, Served.served}
+use Rattle.stream_loop.proofs.PartsDue.{wrote_so}
+use Rattle.duplex_server.specs.Replying.{answers_in}
 use Rattle.io_edges.specs.Views.{SinkView}
 use Rattle.duplex_server.specs.declared.jobs.Job.TheVariants as jobs
 use Rattle.stream_loop.specs.declared.following.FollowEnding.TheVariants as endings
@@ -37,7 +39,7 @@ module _ (x : Answering) (first now : SinkView) (was_ended is_ended : Bool) (sen
       → HasServed x outcome first now events
   has_served events h =
       served x first now outcome ending is x refl events h.counted
-      (wrote_so x first now (map request_for events)
+      (wrote_so (replies x) answers_in refl first now (map request_for events)
       (parts_of x.statics x.back (start x.statics) h.asked)
       (asked_due x (start x.statics) (map request_for events) h.asked h.asks) outcome.answers _
       outcome.outbound (replied.wrote h.asked ending h.go_on (all ∙ h.sent_are)))

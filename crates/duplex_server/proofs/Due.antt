@@ -8,6 +8,7 @@ use Rattle.unit_streams.specs.Tellers.{state_behind}
 use Rattle.nbfx_encoder.proofs.Leasts.{large_is_unwritten}
 use Rattle.nbfx_encoder.specs.{Placing.Placed, Spelling.encoded, Spelling.Unfit}
 use Rattle.stream_loop.specs.Parts.{Part, part, with_part}
+use Rattle.stream_loop.specs.PartsDue.{AreDue as AreDueBy}
 use Rattle.action_dispatch.specs.declared.answers.Answer.{Answer}
 use Rattle.action_dispatch.specs.{Answers.answered, Refusals.unfit_fault}
 use Rattle.duplex_server.specs.declared.{jobs.Job.Job, requests.Request.Request}
@@ -19,7 +20,7 @@ use Rattle.duplex_server.specs.ServerStream.{Answering, behind, behind_reply, fi
 use Rattle.duplex_server.specs.ServerStream.{owed_for}
 use Rattle.duplex_server.specs.ServerStream.{payload_of, replies, reply_to, Replying, told_reply}
 use Rattle.duplex_server.specs.ServerStream.{when_ready}
-use Rattle.duplex_server.specs.Replying.{AreDue, IsDue, IsQuiet}
+use Rattle.duplex_server.specs.Replying.{answers_in, AreDue, IsDue, IsQuiet}
 use Rattle.action_dispatch.specs.declared.answers.Answer.TheVariants as answers
 use Rattle.duplex_server.specs.declared.jobs.Job.TheVariants as jobs
 
@@ -108,46 +109,16 @@ module _ (x : Answering) where
       (reply_part s.mode payload, reply_due s document payload refl)
   part_due s Ended = (part [] false, (refl, refl))
 
-  -- one request more
-  abbrev behind_all : Replying → List Request → Replying
-  behind_all s requests = state_behind (replies x) s requests
-
-  pub due_more : (s : Replying) (requests : List Request) (parts : List Part) (request : Request)
-      (one : Part) → AreDue x s requests parts → IsDue x (behind_all s requests) request one
-      → AreDue x s (requests ++ request ∷ []) (parts ++ one ∷ [])
-  unfolding AreDue state_behind
-  due_more s [] parts request one none due =
-      inr (one, [], ap (λ l. l ++ one ∷ []) none, due, refl)
-  due_more s (first ∷ requests) parts request one (inl h) due =
-      inl (h.0, due_more (behind x s first) requests parts request one h.1 due)
-  due_more s (first ∷ requests) parts request one (inr h) due = inr (
-    h.0,
-    h.1 ++ one ∷ [],
-    ap (λ l. l ++ one ∷ []) h.2,
-    h.3,
-    due_more (behind x s first) requests h.1 request one h.4 due,
-  )
-
-  pub due_quietly : (s : Replying) (requests : List Request) (parts : List Part)
-      (request : Request) → AreDue x s requests parts → IsQuiet x (behind_all s requests) request
-      → AreDue x s (requests ++ request ∷ []) parts
-  unfolding AreDue state_behind
-  due_quietly s [] parts request none quiet = inl (quiet, none)
-  due_quietly s (first ∷ requests) parts request (inl h) quiet =
-      inl (h.0, due_quietly (behind x s first) requests parts request h.1 quiet)
-  due_quietly s (first ∷ requests) parts request (inr h) quiet =
-      inr (h.0, h.1, h.2, h.3, due_quietly (behind x s first) requests h.1 request h.4 quiet)
-
   -- of the jobs that requests ask for
   pub asked_due : (s : Replying) (requests : List Request) (asked : List Job)
       → AskFor x.serves x.back requests asked
       → AreDue x s requests (parts_of x.statics x.back s asked)
-  unfolding AskFor AreDue parts_of
+  unfolding AskFor AreDueBy parts_of
   asked_due s [] asked none = ap (parts_of x.statics x.back s) none
   asked_due s (request ∷ requests) asked (inl h) =
       let quiet = asks_due s request None h.0 in
       inl (
-        quiet,
+        (quiet.0, ap answers_in quiet.1),
         subst (λ (z : Replying). AreDue x (behind x s request) requests
             (parts_of x.statics x.back z asked)) quiet.1
             (asked_due (behind x s request) requests asked h.1),

@@ -9,8 +9,8 @@ use Rattle.duplex_server.specs.declared.{replier.Replier.Replier, requests.Reque
 use Rattle.duplex_server.specs.ServerStream.{Answering, behind, messages_along, messages_behind}
 use Rattle.duplex_server.specs.ServerStream.{replies}
 use Rattle.duplex_server.specs.ServerStream.{Replying, start}
-use Rattle.duplex_server.specs.Replying.{HasHandled, IsDue, IsQuiet, StandsAt}
-use Rattle.duplex_server.proofs.Due.{due_more, due_quietly}
+use Rattle.duplex_server.specs.Replying.{answers_in, HasHandled, IsDue, IsQuiet, StandsAt}
+use Rattle.stream_loop.proofs.PartsDue.{due_more, due_quietly}
 use Rattle.io_edges.specs.Views.{SinkView}
 
 -- one request more
@@ -51,7 +51,7 @@ module _ (x : Answering) (first : SinkView) {V : Type 0} (requests : List Reques
   handled_part one due stands = record {
     counted = counted_is;
     parts = h.parts ++ one ∷ [];
-    due = due_more x (start x.statics) requests h.parts request one h.due due;
+    due = due_more (replies x) answers_in (start x.statics) requests h.parts request one h.due due;
     stands = subst (λ (z : Replying). StandsAt first
         (h.parts ++ one ∷ []) z new.writer now) state_is stands;
   }
@@ -71,7 +71,8 @@ module _ (x : Answering) (first : SinkView) {V : Type 0} (requests : List Reques
   handled_quietly quiet stands = record {
     counted = counted_is;
     parts = h.parts;
-    due = due_quietly x (start x.statics) requests h.parts request h.due quiet;
+    due = due_quietly (replies x) answers_in (start x.statics) requests h.parts request h.due
+        (quiet.0, ap answers_in quiet.1);
     stands = subst (λ (z : Replying). StandsAt first h.parts z
         new.writer now) (sym quiet.1 ∙ state_is) stands;
   }

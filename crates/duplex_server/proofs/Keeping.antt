@@ -1,4 +1,5 @@
--- What is known of a session whose first bytes were carried, where all that stands behind them is known.
+-- What is known of a session whose first bytes were carried, where all that stands behind them is
+-- known.
 use Rattle.std.proofs.Common.{◌≡◌, ℕ, List, ◌++◌, Some, None, Option, sym, refl, subst}
 use Rattle.io_edges.specs.Flow.{Told}
 use Rattle.stream_loop.specs.{Edges.Input, Followed.WasTaken}
@@ -22,19 +23,28 @@ held_taken held bytes i left = record {
   empty_takes = refl;
 }
 
-pub kept_judges : (x : Answering) (endpoint : Option (List ℕ)) (i i' : Input) (held held' : List ℕ)
-    (first now : SinkView) (outcome : Outcome)
-    (h : ServesKept x endpoint i i' held held' first now outcome) (bytes : List ℕ)
-    → i.left ≡ Some bytes → Judges x endpoint (held ++ bytes) outcome.inbound
-kept_judges x endpoint i i' held held' first now outcome h bytes left =
-    judges x endpoint (with_held held bytes i) i' first now (held ++ bytes) refl outcome
-    (h.serves (with_held held bytes i) (held_taken held bytes i left))
+-- where what that input gives is known, so is how the session was judged, and what was written
+pub record IsKnown (x : Answering) (endpoint : Option (List ℕ)) (i : Input) (held : List ℕ)
+    (first now : SinkView) (outcome : Outcome) : Type 0 where
+  pub judged : (bytes : List ℕ) → i.left ≡ Some bytes
+      → Judges x endpoint (held ++ bytes) outcome.inbound
+  pub written : (bytes w : List ℕ) → i.left ≡ Some bytes → first.written ≡ Some w
+      → (w' : List ℕ) × (now.written ≡ Some w')
+      × WritesOwed (owed x endpoint (held ++ bytes)) first.held w w' outcome.inbound
+      outcome.outbound
 
-pub kept_owes : (x : Answering) (endpoint : Option (List ℕ)) (i i' : Input) (held held' : List ℕ)
-    (first now : SinkView) (outcome : Outcome)
-    (h : ServesKept x endpoint i i' held held' first now outcome) (bytes w : List ℕ)
-    → i.left ≡ Some bytes → first.written ≡ Some w → (w' : List ℕ) × (now.written ≡ Some w')
-    × WritesOwed (owed x endpoint (held ++ bytes)) first.held w w' outcome.inbound outcome.outbound
-kept_owes x endpoint i i' held held' first now outcome h bytes w left told =
-    owes x endpoint (with_held held bytes i) i' first now (held ++ bytes) refl outcome
-    (h.serves (with_held held bytes i) (held_taken held bytes i left)) w told
+pub known : (x : Answering) (endpoint : Option (List ℕ)) (i i' : Input) (held held' : List ℕ)
+    (first now : SinkView) (outcome : Outcome) {carried : List ℕ} → carried ≡ held
+    → ServesKept x endpoint i i' carried held' first now outcome
+    → IsKnown x endpoint i held first now outcome
+known x endpoint i i' held held' first now outcome same served =
+    let h = subst (λ (l : List ℕ). ServesKept x endpoint i i' l held' first now outcome) same
+    served in
+    record {
+      judged = λ bytes left.
+          judges x endpoint (with_held held bytes i) i' first now (held ++ bytes) refl outcome
+          (h.serves (with_held held bytes i) (held_taken held bytes i left));
+      written = λ bytes w left told.
+          owes x endpoint (with_held held bytes i) i' first now (held ++ bytes) refl outcome
+          (h.serves (with_held held bytes i) (held_taken held bytes i left)) w told;
+    }

@@ -15,7 +15,6 @@ pub mod Replies
 -- was written of requests by what was written of parts
 pub mod Due
 pub mod Handled
-pub mod Written
 -- what is known of two threads that serve a connection (src/beside.rt): by the jobs that were asked
 -- for (src/asking.rt) and done (src/reply_thread.rt)
 pub mod Crossed

@@ -1,5 +1,5 @@
 -- Worked lines, by computation.
-use Rattle.std.proofs.Common.{◌≡◌, [], ◌∷◌, codes, refl}
+use Rattle.std.proofs.Common.{◌≡◌, [], ◌∷◌, ◌++◌, codes, refl}
 use Rattle.{std.specs.Fmt.digits, duplex_server.specs.declared.outcome.Outcome.Outcome}
 use Rattle.nbfx_values.specs.declared.refusals.{Place.TheVariants.Frame, Reason.TheVariants.BadMode}
 use Rattle.duplex_server.specs.Lines.{connection_line, lines_from}
@@ -39,6 +39,9 @@ starved = record {
 }
 
 four_lines : lines_from 8 (answered ∷ refused ∷ broken ∷ starved ∷ [])
-    ≡ codes "connection 8 messages 2 answers 2 in ended out done\nconnection 9 messages 0 answers 0 in offence-5 out write-fault\nconnection 10 messages 10 answers 9 in read-fault out memory\nconnection 11 messages 0 answers 0 in memory out memory\n"
+    ≡ codes "connection 8 messages 2 answers 2 in ended out done\n"
+    ++ codes "connection 9 messages 0 answers 0 in offence-5 out write-fault\n"
+    ++ codes "connection 10 messages 10 answers 9 in read-fault out memory\n"
+    ++ codes "connection 11 messages 0 answers 0 in memory out memory\n"
 unfolding connection_line lines_from digits answered refused broken starved
 four_lines = refl

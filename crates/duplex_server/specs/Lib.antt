@@ -1,7 +1,8 @@
 -- Public contracts cite these: what is owed for an initiator's stream (ServerStream), by its events
--- as a server sees them (Requests); what serving a connection leaves (Serving) and what is carried from
--- one session to the next (Carrying), and answering a session of an input (Replaying); what a file of actions gives (Responding); the lines of connections
--- (Lines), and what was read and written where they are served one after the other (Served).
+-- as a server sees them (Requests); what serving a connection leaves (Serving) and what is carried
+-- from one session to the next (Carrying), and answering a session of an input (Replaying); what a
+-- file of actions gives (Responding); the lines of connections (Lines), and what was read and
+-- written where they are served one after the other (Served).
 pub mod Requests
 pub mod ServerStream
 pub mod Serving

@@ -1,17 +1,18 @@
 -- What a writer of replies has written and gathered, and of which requests that is.
-use Rattle.std.specs.Prelude.{◌≡◌, Bool, ◌⊎◌, List, [], ◌∷◌, Some, None, Option}
+use Rattle.std.specs.Prelude.{◌≡◌, ℕ, Bool, List, [], Some, None, Option}
 use Rattle.nbfx_values.specs.{Limits.Limits, QuotasOf.limits_of}
 use Rattle.unit_streams.specs.Tellers.{state_behind}
 use Rattle.nbfx_encoder.specs.declared.sender.{SendState.TheVariants.Spent, Sender.Sender}
 use Rattle.nbfx_encoder.specs.Sending.{kind_in, limits_in, mode_in, names_in, state_in}
 use Rattle.action_dispatch.specs.Answers.{Serves}
 use Rattle.stream_loop.specs.declared.outbound.Outbound.TheVariants.{Done}
-use Rattle.stream_loop.specs.{Parts.Part, Parts.with_part, PartsGiven.IsLittle, PartsGiven.WasGiven}
+use Rattle.stream_loop.specs.{Parts.Part, PartsGiven.IsLittle, PartsGiven.WasGiven}
 use Rattle.duplex_server.specs.declared.{replier.Replier.Replier, requests.Request.Request}
 use Rattle.duplex_server.specs.declared.reply_writer.ReplyWriter.{ReplyWriter}
 use Rattle.duplex_server.specs.ServerStream.{Answering, answering, behind, messages_along, owed_for}
 use Rattle.duplex_server.specs.ServerStream.{replies, Replying, start}
 use Rattle.io_edges.specs.Views.{SinkView}
+use Rattle.stream_loop.specs.PartsDue as due
 
 -- a sending half is where the outgoing direction is
 pub record SendsAt (limits : Limits) (sender : Sender) (s : Replying) : Type 0 where
@@ -46,23 +47,21 @@ pub record KeepsWriting {K : Type 0} (ended : K → Bool) (old new : ReplyWriter
 
 -- ---- which parts are due for requests
 
+abbrev pub answers_in : Replying → ℕ
+answers_in s = s.answers
+
 module _ (x : Answering) where
   -- the part that is due for a request
   abbrev pub IsDue : Replying → Request → Part → Type 0
-  IsDue s request part = (part.bytes ≡ owed_for x s request)
-      × (with_part s.answers part ≡ (behind x s request).answers)
+  IsDue = due.IsDue (replies x) answers_in
 
-  -- there is none
+  -- there is none, and nothing changes
   abbrev pub IsQuiet : Replying → Request → Type 0
   IsQuiet s request = (owed_for x s request ≡ []) × (behind x s request ≡ s)
 
   -- these parts are due for requests, in this order
-  unfoldable pub AreDue : Replying → List Request → List Part → Type 0
-  AreDue s [] parts = parts ≡ []
-  AreDue s (request ∷ requests) parts =
-      (IsQuiet s request × AreDue (behind x s request) requests parts)
-      ⊎ ((one : Part) × (more : List Part) × (parts ≡ one ∷ more) × IsDue s request one
-      × AreDue (behind x s request) requests more)
+  abbrev pub AreDue : Replying → List Request → List Part → Type 0
+  AreDue = due.AreDue (replies x) answers_in
 
 -- ---- what a replier has handled
 

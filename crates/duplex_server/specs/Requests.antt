@@ -6,7 +6,7 @@ use Rattle.duplex_server.specs.declared.requests.Request.{Request, TheVariants.R
 use Rattle.duplex_server.specs.declared.requests.Request.TheVariants.{Ended, Opened}
 use Rattle.stream_reader.specs.declared.reader.StreamStep.TheVariants as steps
 
--- a Preamble Ack never comes in such a stream
+-- a Preamble Ack and a Fault record never come in such a stream
 abbrev pub request_for : StreamEvent → Request
 request_for (opened mode kind via) = Opened mode kind
 request_for (message e) = Received e.items

@@ -1,6 +1,6 @@
 //! A connection served on two threads.
 
-ghost use Rattle.std.specs.Prelude.{◌≡◌, ℕ, List, [], ◌++◌, true, false, Some};
+ghost use Rattle.std.specs.Prelude.{◌≡◌, ℕ, List, [], ◌++◌, true, false, Some, IfSome};
 ghost use Rattle.std.specs.Thread.{IsSync};
 ghost use Rattle.nbfx_values.specs.QuotasOf.{limits_of};
 ghost use Rattle.crossbeam_channel.specs.Claims.{view, IsSeatAt};
@@ -20,9 +20,10 @@ use crate::outcome::Outcome;
 use crate::reply_thread::{ReplyThread, WritesReplies, Written};
 use crate::serving::{inbound_of, serve_carried, serve_one};
 use crate::spent_docs::SpentDocs;
+use crate::whole::is_whole;
 use action_dispatch::Service;
 use io_edges::{Sink, Source};
-use nbfx_values::Two;
+use nbfx_values::{Quotas, Two};
 use receiver_machine::Endpoint;
 use static_dictionary::StaticTable;
 use std::alloc::Global;
@@ -157,16 +158,31 @@ fn serve_across<R: Threads + Wait + Sync, S: Source + Drop, K: Sink + Send + Dro
     )
 }
 
+// The channel of a second thread. There is none without memory, nor for a session of which nothing
+// is left to be read while answers leave: a thread costs more than a short one.
+fn channel_for(alloc: Global, taken: &[u8], quotas: Quotas) -> Option<JobChannel<Job>>
+    ensures ends { IfSome result (λ channel. receives_on channel.from ≡ sends_on channel.to) }
+    ensures sent { IfSome result (λ channel. IsSeatAt (sends_on channel.to) channel.sent
+        × (view channel.sent ≡ log true false [] [])) }
+    ensures taken { IfSome result (λ channel. IsSeatAt (sends_on channel.to) channel.taken
+        × (view channel.taken ≡ log false true [] [])) }
+{
+    if is_whole(alloc, taken, quotas) {
+        return None;
+    }
+    job_channel::<Job>(alloc).ok()
+}
+
 /// Serves one session of a connection, as [`serve_one`] does, and gives back what it was given. The
-/// session's first bytes are those that are carried. Where it ends with an End record, what is carried
-/// and what the source gives then are all that stands behind it.
+/// session's first bytes are those that are carried. Where it ends with an End record, what is
+/// carried and what the source gives then are all that stands behind it.
 ///
 /// The calling thread reads the initiator's stream and asks the service, while a second one spells
 /// the answers and writes them, so that requests are read on while answers leave. At most sixteen
 /// wait between the two. What was gathered is written whenever none waits.
 ///
-/// Without memory for what the threads share, or where the second one can't be started, it does all
-/// on the calling thread.
+/// Where the whole session is carried, without memory for what the threads share, and where the
+/// second one can't be started, it does all on the calling thread.
 pub fn serve_kept<R: Threads + Wait + Sync, S: Source + Drop, K: Sink + Send + Drop, V: Service>(
     rt: &R,
     alloc: Global,
@@ -199,7 +215,7 @@ pub fn serve_kept<R: Threads + Wait + Sync, S: Source + Drop, K: Sink + Send + D
     ensures same_end { result.0.outbound ≡ Outbound.Done → K.ended result.3 ≡ K.ended sink }
 {
     let Carry { mut buffer } = carry;
-    let Ok(channel) = job_channel::<Job>(alloc) else {
+    let Some(channel) = channel_for(alloc, buffer.bytes(), quotas.forward) else {
         let outcome = serve_carried(
             alloc,
             &mut buffer,

@@ -16,10 +16,10 @@
 //! the same contract, and has the writer of replies do its jobs on a second thread
 //! (`specs/TwoThreads.antt`). It is [`serve_kept`], which serves one of several sessions that a
 //! connection carries one behind the other: what was taken behind the end of one is [`Carry`]'s, and
-//! the next one begins with it (`specs/Carrying.antt`). [`replay_stream`] is that call where the bytes come from an input and
-//! the answers go to an output (`specs/Replaying.antt`). All answer by a service, such as a
-//! [`Responder`]: the echo, or the texts that a file on a shelf has for actions
-//! (`specs/Responding.antt`).
+//! the next one begins with it (`specs/Carrying.antt`). [`replay_stream`] is that call where the
+//! bytes come from an input and the answers go to an output (`specs/Replaying.antt`). All answer by
+//! a service, such as a [`Responder`]: the echo, or the texts that a file on a shelf has for
+//! actions (`specs/Responding.antt`).
 //!
 //! [`serve_connections`] serves one after the other, and what happens on a connection stays on it.
 //! Each is answered, closed, and reported by a line; then the next one is taken, whatever became of
@@ -52,6 +52,7 @@ mod spelling;
 mod spent_docs;
 mod stopping;
 mod threads;
+mod whole;
 
 pub use beside::{serve_kept, serve_two};
 pub use carry::Carry;

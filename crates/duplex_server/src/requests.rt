@@ -26,7 +26,7 @@ pub enum Request {
     Ended,
 }
 
-// What a step brings, of those that an initiator's stream has. It has no Preamble Ack.
+// What a step brings.
 #[inline(always)]
 fn request_in(step: Step) -> Option<Request>
     ensures { result ≡ request_in step }
@@ -35,7 +35,10 @@ fn request_in(step: Step) -> Option<Request>
         Step::More => None,
         Step::Opened { mode, kind } => Some(Request::Opened { mode, kind }),
         Step::Message { doc, .. } => Some(Request::Received(doc)),
-        Step::Ended { .. } | Step::PeerFault { .. } | Step::Accepted => Some(Request::Ended),
+        Step::Ended { .. } => Some(Request::Ended),
+        // A receiver alone sends these records (MC-NMF): an initiator's stream that has one is
+        // refused there. No request is owed anything for them.
+        Step::PeerFault { .. } | Step::Accepted => Some(Request::Ended),
     }
 }
 

@@ -152,15 +152,16 @@ pub fn serve_one<S: Source, K: Sink, V: Service>(
     ensures written { (bytes w : List ℕ) → S.left source.old ≡ Some bytes
         → (K.view sink.old).written ≡ Some w → (w' : List ℕ) × ((K.view sink.new).written ≡ Some w')
         × WritesOwed (owed (answering (V.served service.now) statics.now quotas.now)
-        (endpoint_of endpoint.now) bytes) (K.view sink.old).held w w' result.inbound result.outbound }
+        (endpoint_of endpoint.now) bytes) (K.view sink.old).held w w' result.inbound
+        result.outbound }
 
     // Which bytes were read, which of their events were answered, and which answers were put,
     // however that ends.
-    ensures served { Serves
-        (answering (V.served service.now) statics.now quotas.now)
+    ensures served { Serves (answering (V.served service.now) statics.now quotas.now)
         (endpoint_of endpoint.now)
         (input_at S.left S.taken S.faults S.empty_takes source.old)
-        (input_at S.left S.taken S.faults S.empty_takes source.new) (K.view sink.old) (K.view sink.new) result }
+        (input_at S.left S.taken S.faults S.empty_takes source.new) (K.view sink.old)
+        (K.view sink.new) result }
 
     // The direction is ended only where the writing has stopped.
     ensures same_end { result.outbound ≡ Outbound.Done → K.ended sink.new ≡ K.ended sink.old }

@@ -38,7 +38,8 @@ returns-in_default-clause-over g c =
       known = λ documents. knows_unsent (sending_by s documents) a.via.now i i
           (g.K.Sink.view a.sink.now) (g.K.Sink.view t.new.sink) output output
           (g.O.Sink.view d.new.output) d.result Memory h.result.reached h.result.report e.closed
-          e.inbound (unfailed i.faults) o.result (g.K.Sink.view o.new.sink) o.ensures t.ensures.unput
+          e.inbound (unfailed i.faults) o.result (g.K.Sink.view o.new.sink) o.ensures
+          t.ensures.unput
           (e.outbound ∙ c.client_out-outbound.ensures) e.sent
           (told_unread y i output o.result h.result.reached h.result.report
           (first_pending (stream y) ends y.limits.session (ends_within y s.quotas.back.good))

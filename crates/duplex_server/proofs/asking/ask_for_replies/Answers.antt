@@ -69,7 +69,8 @@ returns-clause-follows g c = λ i taken.
     let n = f.new.handler.answerer in
     follows_as (stream (requests g c)) (λ events. Asked g c (map request_for events)) _
     i (input_of g f.new.source) f.result
-    (λ events h. were_asked (g.V.Service.served c.args.service.now) (limits_of c.args.quotas.now.back)
+    (λ events h. were_asked (g.V.Service.served c.args.service.now)
+    (limits_of c.args.quotas.now.back)
     c.args.sender.now f.new.output c.send.new.self n f.result c.requires.unsent c.send.ensures.sent
     (g.V.Service.served n.service.now) (limits_of n.quotas) (map request_for events) h
     (f.ensures.settings

@@ -11,7 +11,8 @@ pub returns-clause-judged : goal.returns-clause-judged
 returns-clause-judged g c = λ bytes left.
     subst (λ (held : List ℕ). Judges (answering (g.V.Service.served c.args.service.now)
     c.args.statics.now c.args.quotas.now) (endpoint_of c.args.endpoint.now) (held ++ bytes)
-    c.serve_kept-source.result.0.inbound) c.in-Ok.ensures (c.serve_kept-source.ensures.judged bytes left)
+    c.serve_kept-source.result.0.inbound) c.in-Ok.ensures
+    (c.serve_kept-source.ensures.judged bytes left)
 
 pub returns-clause-written : goal.returns-clause-written
 returns-clause-written g c = λ bytes w left told.

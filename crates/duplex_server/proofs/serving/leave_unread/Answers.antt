@@ -6,10 +6,12 @@ use Rattle.stream_loop.proofs.{LoopSteps.first_pending, Parts.given_none, Taking
 use Rattle.stream_loop.proofs.Writing.{counted_none}
 use Rattle.stream_loop.specs.Edges.{Input, input_at}
 use Rattle.duplex_server.specs.declared.outcome.{Inbound.TheVariants.Memory, Outcome.Outcome}
-use Rattle.duplex_server.specs.ServerStream.{Answering, answering, messages_along, requests_to}
-use Rattle.duplex_server.specs.{Replying.AreDue, Serving.HasServed}
+use Rattle.duplex_server.specs.ServerStream.{Answering, answering, messages_along, replies}
+use Rattle.duplex_server.specs.ServerStream.{requests_to}
+use Rattle.duplex_server.specs.{Replying.answers_in, Serving.HasServed}
 use Rattle.duplex_server.proofs.{Served.served, Served.serves, Streams.ends_within}
-use Rattle.duplex_server.proofs.{serving.leave_unread.Given.Over, Written.wrote_so}
+use Rattle.duplex_server.proofs.serving.leave_unread.Given.{Over}
+use Rattle.stream_loop.{specs.PartsDue.AreDue, proofs.PartsDue.wrote_so}
 use Rattle.io_edges.specs.Views.{SinkView}
 use Rattle.stream_loop.specs.declared.following.FollowEnding.TheVariants as endings
 use Rattle.duplex_server.proofs.serving.leave_unread.Goals as goal
@@ -34,8 +36,9 @@ returns-clause-serves g c =
       outbound = k.outbound;
     } in
     let none : HasServed x outcome first last [] = served x first last outcome endings.Memory refl
-    x refl [] refl (wrote_so x first last [] [] refl k.whole _ k.outbound
-    (c.close.ensures.closed first [] (given_none first c.new-parts.result c.new-parts.ensures.fresh))) in
+    x refl [] refl (wrote_so (replies x) answers_in refl first last [] [] refl k.whole _ k.outbound
+    (c.close.ensures.closed first [] (given_none first c.new-parts.result
+    c.new-parts.ensures.fresh))) in
     serves x first last outcome endings.Memory refl endpoint i i (HasServed x outcome first last)
     (unbegun (stream y) _ i (first_pending (stream y) ends y.limits.session
     (ends_within y c.args.quotas.now.forward.good)) none)

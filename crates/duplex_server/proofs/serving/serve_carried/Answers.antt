@@ -5,10 +5,12 @@ use Rattle.stream_loop.proofs.{Parts.given_none, Taking.follows_as, Taking.handl
 use Rattle.stream_loop.specs.Edges.{Input, input_at}
 use Rattle.duplex_server.specs.{declared.outcome.Outcome.Outcome, Requests.request_for}
 use Rattle.duplex_server.specs.declared.requests.Request.{Request}
-use Rattle.duplex_server.specs.ServerStream.{Answering, answering, messages_along, requests_to}
-use Rattle.duplex_server.specs.Replying.{answering_of, AreDue, HasHandled}
+use Rattle.duplex_server.specs.ServerStream.{Answering, answering, messages_along, replies}
+use Rattle.duplex_server.specs.ServerStream.{requests_to}
+use Rattle.duplex_server.specs.Replying.{answering_of, answers_in, HasHandled}
 use Rattle.duplex_server.proofs.Served.{kept, served}
-use Rattle.duplex_server.proofs.{serving.serve_carried.Given.Over, Written.wrote_so}
+use Rattle.duplex_server.proofs.serving.serve_carried.Given.{Over}
+use Rattle.stream_loop.{specs.PartsDue.AreDue, proofs.PartsDue.wrote_so}
 use Rattle.io_edges.specs.Views.{SinkView}
 use Rattle.duplex_server.proofs.serving.serve_carried.Goals as goal
 
@@ -70,7 +72,8 @@ returns-clause-serves g c =
     f.ensures.left
     (λ events h. served x first last outcome f.result c.inbound_of.ensures xn
     (f.ensures.settings ∙ begun) events h.counted
-    (wrote_so xn first last (map request_for events) h.parts h.due k.whole _ k.outbound
+    (wrote_so (replies xn) answers_in refl first last (map request_for events) h.parts h.due
+    k.whole _ k.outbound
     (rw c.last_bytes.ensures at (c.close.ensures.closed first h.parts h.stands.given))))
     f.ensures.counted
 

@@ -21,7 +21,8 @@ returns-clause-comes c = λ i first.
       come = subst (λ (l : List _). HasComeTo (stream y) i i (StandsFor c.in_ok-end.end.reader)
           Handled [] l) (sym c.in_ok-buffer.ensures)
           (comes_first (stream y) i (StandsFor c.in_ok-end.end.reader) Handled
-          (first_pending (stream y) ends y.limits.session (ends_within y s.quotas.back.good)) e.stands
-          (told_first first h.stage h.reached h.report (λ is. c.requires (sym n.stage ∙ is))
+          (first_pending (stream y) ends y.limits.session (ends_within y s.quotas.back.good))
+          e.stands (told_first first h.stage h.reached h.report
+          (λ is. c.requires (sym n.stage ∙ is))
           n.reached n.report));
     }

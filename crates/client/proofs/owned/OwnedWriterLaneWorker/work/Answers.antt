@@ -29,7 +29,8 @@ returns-in-Some g c = record {
       let d = c.in-Some.doc.now in
       let found = rw c.as_slice.ensures at (slice_get_read c.as_slice.result.now
       (length c.as_slice.result.now) n d refl l.3.0 l.1) in
-      let there : slice_get (of_lane c.in-Send.lane first.a.now first.b.now) n ≡ Some d = elim c.match-lane.branch [
+      let there : slice_get (of_lane c.in-Send.lane first.a.now first.b.now) n ≡ Some d =
+      elim c.match-lane.branch [
         | in-A w ↦ rw (w.in-A.is, ← h.first_is, ← w.docs-is) found
         | in-B w ↦ rw (w.in-B.is, ← h.second_is, ← w.docs-is) found
       ] in
@@ -50,7 +51,8 @@ returns-in_default-get g c = record {
       let l = c.in_default-get.ensures.lookup in
       let n = c.in-Send.number in
       let past = rw c.as_slice.ensures at (slice_get_past c.as_slice.result.now n l.3) in
-      let gone : slice_get (of_lane c.in-Send.lane first.a.now first.b.now) n ≡ None = elim c.match-lane.branch [
+      let gone : slice_get (of_lane c.in-Send.lane first.a.now first.b.now) n ≡ None =
+      elim c.match-lane.branch [
         | in-A w ↦ rw (w.in-A.is, ← h.first_is, ← w.docs-is) past
         | in-B w ↦ rw (w.in-B.is, ← h.second_is, ← w.docs-is) past
       ] in
