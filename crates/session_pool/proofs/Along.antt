@@ -16,7 +16,7 @@ use Rattle.duplex_server.specs.{ServerStream.Answering, ServerStream.requests_to
 use Rattle.io_edges.specs.Views.{SinkView}
 use Rattle.stream_loop.specs.declared.outbound.Outbound.TheVariants.{Done}
 use Rattle.session_pool.specs.{SoFar.IsSoFar, Turns.Begins, Turns.behind_session, Turns.InTurn}
-use Rattle.session_pool.specs.Turns.{IsWell, ServesTurns}
+use Rattle.session_pool.specs.Turns.{IsWell, Rests, ServesTurns}
 use Rattle.session_pool.specs.declared.turns.Turns.{Turns}
 use Rattle.session_pool.specs.declared.turns.TurnsEnd.TheVariants as stops
 
@@ -160,6 +160,18 @@ module _ (x : Answering) (endpoint : Option (List ℕ)) where
   module _ (most : ℕ) (i now i' : Input) (sink later : SinkView) (carried : List ℕ)
       (served : List Outcome) (h : IsSoFar x endpoint i now sink later carried served)
       (few : length served < most) (turns : Turns) (joined : turns.outcomes ≡ served) where
+    -- what was taken between two sessions is carried
+    rests : (carried' : List ℕ) (answer : Result Bool Failed)
+        → FillsCarry now i' carried carried' answer
+        → Rests served h.next i' later later turns.outcomes
+    rests carried' answer f = record {
+      joined = joined;
+      same = refl;
+      carried = carried';
+      stream = filled_stream carried carried' h.next now i' answer f h.taken;
+      took = filled_took carried carried' h.next now i' answer f h.taken;
+    }
+
     -- the peer sends no more
     pub no_more : (carried' : List ℕ) → FillsCarry now i' carried carried' (Ok false)
         → turns.end ≡ stops.Done → ServesTurns x endpoint most i i' sink later turns
@@ -170,13 +182,7 @@ module _ (x : Answering) (endpoint : Option (List ℕ)) where
       in_turn = h.in_turn;
       ended = rw end (
         few,
-        record {
-          joined = joined;
-          same = refl;
-          carried = carried';
-          stream = filled_stream carried carried' h.next now i' (Ok false) f h.taken;
-          took = filled_took carried carried' h.next now i' (Ok false) f h.taken;
-        },
+        rests carried' (Ok false) f,
         over h.next.left now.left i'.left h.taken.stream f.moved (f.over refl),
       );
     } where
@@ -202,13 +208,7 @@ module _ (x : Answering) (endpoint : Option (List ℕ)) where
       in_turn = h.in_turn;
       ended = rw end (
         few,
-        record {
-          joined = joined;
-          same = refl;
-          carried = carried';
-          stream = filled_stream carried carried' h.next now i' (Err failed) f h.taken;
-          took = filled_took carried carried' h.next now i' (Err failed) f h.taken;
-        },
+        rests carried' (Err failed) f,
         subst (λ (n : ℕ). Rose n i'.faults) h.taken.faults (f.counted.rose refl),
       );
     }

@@ -12,3 +12,5 @@ pub mod Pooled
 pub mod Sums
 -- their lines, one more behind others
 pub mod PutLines
+-- worked connections
+mod Worked

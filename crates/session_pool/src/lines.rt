@@ -3,7 +3,8 @@
 ghost use Rattle.std.specs.Prelude.{◌≡◌, OnOk, [], length};
 ghost use Rattle.io_edges.specs.Puts.{Puts};
 ghost use Rattle.session_pool.specs.Turns.{last_of};
-ghost use Rattle.session_pool.specs.PoolLines.{answers_of, counts_line, end_word, ended_word, messages_of, pool_line, pool_lines};
+ghost use Rattle.session_pool.specs.PoolLines.{answers_of, counts_line, end_word, ended_word};
+ghost use Rattle.session_pool.specs.PoolLines.{messages_of, pool_line, pool_lines};
 
 use crate::turns::{Turns, TurnsEnd};
 use duplex_server::{Inbound, Outbound, Outcome};

@@ -1,6 +1,7 @@
 //! Many connections at once.
 
-ghost use Rattle.std.specs.Prelude.{◌≡◌, ◌≤◌, ◌+◌, ◌^◌, ℕ, All, List, [], length, IfOk, OnErr, Option, vec_len, vec_capacity};
+ghost use Rattle.std.specs.Prelude.{◌≡◌, ◌≤◌, ◌+◌, ◌^◌, ℕ, All, List, [], length, IfOk, OnErr};
+ghost use Rattle.std.specs.Prelude.{Option, vec_len, vec_capacity};
 ghost use Rattle.std.specs.Thread.{IsSync};
 ghost use Rattle.io_edges.specs.Wires.{network_at};
 ghost use Rattle.stream_reader.specs.Sides.{endpoint_of};
