@@ -3,7 +3,7 @@
 use Rattle.std.proofs.Common.{◌≡◌, ℕ, false, List, ◌++◌, length, None, Option, sym}
 use Rattle.std.proofs.Common.{refl, ap, ◌∙◌, subst}
 use Rattle.unit_streams.specs.Judging.{history, offence}
-use Rattle.nbfx_values.specs.{declared.refusals.Offence.Offence, Limits.IsGood}
+use Rattle.nbfx_values.specs.Limits.{IsGood}
 use Rattle.nbfx_values.specs.declared.session.{Kind.Kind, Mode.Mode}
 use Rattle.nbfx_encoder.specs.declared.sender.Side.TheVariants.{Initiator, Receiver}
 use Rattle.stream_reader.proofs.{Closed.closed_or_refused, SessionEnds.sessions_are_told}

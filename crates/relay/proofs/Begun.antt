@@ -1,6 +1,6 @@
 -- What events say, with one more, and what is due before one of them begins a session.
-use Rattle.std.proofs.Common.{◌≡◌, ℕ, Bool, true, false, not, ◌&&◌, ◌||◌, List, [], ◌∷◌, ◌++◌}
-use Rattle.std.proofs.Common.{if◌then◌else◌, Some, None, sym, refl, ap, ◌∙◌, subst, inl}
+use Rattle.std.proofs.Common.{◌≡◌, ℕ, Bool, true, false, not, ◌||◌, List, [], ◌∷◌, ◌++◌}
+use Rattle.std.proofs.Common.{Some, None, sym, refl, ap, ◌∙◌, subst, inl}
 use Rattle.unit_streams.proofs.Telling.{state_append, state_one}
 use Rattle.unit_streams.specs.Tellers.{state_behind}
 use Rattle.nbfx_values.specs.declared.session.{Kind.Kind, Mode.Mode}
@@ -8,9 +8,11 @@ use Rattle.nbfx_encoder.specs.declared.sender.Side.{Side}
 use Rattle.nbfx_encoder.specs.declared.sender.Side.TheVariants.{Initiator, Receiver}
 use Rattle.session_report.specs.declared.reading.Event.{Event}
 use Rattle.relay.specs.declared.beginning.{Beginning.Beginning, Begun.Begun}
-use Rattle.relay.specs.{Beginning.begun_at, Beginning.HasWaited, Due.AreDue}
+use Rattle.stream_loop.specs.PartsDue.{AreDue}
+use Rattle.relay.specs.{Beginning.begun_at, Beginning.HasWaited}
 use Rattle.relay.specs.Events.{begins, faulted_along, has_begun, is_fault, kind_in, mode_in}
-use Rattle.relay.specs.Carried.{behind, Carried, carried_by, carries, Carrying, opened, start, told_for}
+use Rattle.relay.specs.Carried.{behind, Carried, carried_by, carries, Carrying, opened, start}
+use Rattle.relay.specs.Carried.{told_for}
 use Rattle.session_report.specs.declared.reading.Event.TheVariants as heard
 use Rattle.relay.specs.declared.beginning.Begun.TheVariants as begun
 

@@ -5,13 +5,14 @@ use Rattle.std.proofs.Common.{◌∙◌, subst}
 use Rattle.std.specs.Option.{option_map}
 use Rattle.unit_streams.specs.Tellers.{state_behind}
 use Rattle.nbfx_encoder.specs.{declared.faults.EncodeFault.EncodeFault, Spelling.Unfit}
-use Rattle.nbfx_encoder.specs.{Refusals.told, Sending.first_state, Sending.names_in, Sending.state_in}
-use Rattle.stream_loop.proofs.{Parts.given_none, Written.stays_closed}
-use Rattle.stream_loop.specs.declared.{outbound.Outbound.Outbound, part_writer.PartWriter.PartWriter}
+use Rattle.nbfx_encoder.specs.{Refusals.told, Sending.first_state, Sending.names_in}
+use Rattle.nbfx_encoder.specs.{Sending.state_in}
+use Rattle.stream_loop.proofs.Written.{stays_closed}
+use Rattle.stream_loop.specs.declared.{outbound.Outbound.Outbound}
 use Rattle.stream_loop.specs.declared.outbound.Outbound.TheVariants.{Done, Memory, WriteFault}
 use Rattle.stream_loop.specs.{Gathering.Gathers, Parts.counting, Parts.Part, Parts.part}
-use Rattle.stream_loop.specs.{PartsGiven.IsFresh, PartsGiven.IsLittle, PartsGiven.WasGiven}
-use Rattle.stream_loop.specs.Writing.{HasStopped, Wrote}
+use Rattle.stream_loop.specs.{PartsGiven.IsLittle, PartsGiven.WasGiven}
+use Rattle.stream_loop.specs.Writing.{Wrote}
 use Rattle.io_edges.specs.Views.{SinkView}
 use Rattle.session_report.specs.declared.reading.Event.{Event}
 use Rattle.relay.specs.declared.{beginning.Begun.Begun, carrier.Carrier.Carrier, outcome.Pump.Pump}
@@ -19,13 +20,14 @@ use Rattle.nbfx_encoder.specs.declared.sender.Side.{Side}
 use Rattle.relay.specs.declared.outcome.PumpIn.{PumpIn}
 use Rattle.relay.specs.{Beginning.BeginsSo, Events.faulted_along, Events.has_begun}
 use Rattle.relay.specs.{Outcomes.last_by, Outcomes.outbound_of}
-use Rattle.relay.specs.{Outcomes.written_by, Writing.HasPut, Writing.IsAt, Writing.IsGoing}
+use Rattle.relay.specs.{Outcomes.written_by, Writing.HasPut, Writing.IsGoing}
 use Rattle.relay.specs.{Relayed.IsStopped, Writing.IsNamed}
 use Rattle.relay.specs.Carried.{behind, Carried, carried_by, Carries, carries, Carrying, end_unless}
 use Rattle.relay.specs.Carried.{FitsSo, last_of, opened, start}
-use Rattle.relay.proofs.Begun.{begun_at_last, begun_more, carried_more, faulted_more, no_fault, opens_so}
+use Rattle.relay.proofs.Begun.{begun_at_last, begun_more, carried_more, faulted_more, no_fault}
+use Rattle.relay.proofs.Begun.{opens_so}
 use Rattle.relay.proofs.Begun.{unbegun_due, unbegun_start}
-use Rattle.relay.proofs.Due.{due_more, wrote_so}
+use Rattle.stream_loop.proofs.PartsDue.{due_more, wrote_so}
 use Rattle.relay.specs.declared.outcome.PumpIn.TheVariants as ins
 
 head_or : {T : Type 0} → T → List T → T

@@ -1,5 +1,5 @@
 -- What is known of connections that were relayed, with one more, and when no more are.
-use Rattle.std.proofs.Common.{◌≡◌, ℕ, ◌+◌, ◌<◌, ◌≤◌, List, [], ◌∷◌, ◌++◌, map, length, Some, None}
+use Rattle.std.proofs.Common.{◌≡◌, ℕ, ◌+◌, ◌<◌, List, [], ◌∷◌, ◌++◌, length, Some, None}
 use Rattle.std.proofs.Common.{Ok, Err, Option, Result}
 use Rattle.std.proofs.Common.{sym, refl, ap, ◌∙◌, subst, inl, inr, arith, append_assoc, append-nil}
 use Rattle.std.proofs.Common.{length-append}
@@ -10,7 +10,7 @@ use Rattle.io_edges.specs.Flow.{GrowsByPrefix, Passes, Told}
 use Rattle.stream_loop.proofs.Counts.{counts_as}
 use Rattle.io_edges.specs.{Puts.Puts, Views.SinkView, Wires.Network}
 use Rattle.relay.specs.declared.{outcome.RelayOutcome.RelayOutcome, stopping.RelayFault.RelayFault}
-use Rattle.relay.specs.{Along.IsAlong, Along.RelaysNext, Relayed.Relay}
+use Rattle.relay.specs.{Along.IsAlong, Relayed.Relay}
 use Rattle.relay.specs.Connections.{Connection, Ends, HandsNone, HasLines, outcomes_of}
 use Rattle.relay.specs.Connections.{RelaysAll, RelaysEach, RelaysOne, RelaysToEnd, RelaysToFault}
 use Rattle.relay.specs.Connections.{RelaysToLine, stop_by, WireFails}
@@ -181,7 +181,8 @@ module _ (x : Relay) {R K : Type 0} (seen : R × K → Ends) where
               (λ w w'. GrowsByPrefix w w' (now.held ++ relay_line k c.outcome))) (sym number_is)
               puts.refused;
           counted = counts_behind first.faults now.faults new.faults
-              (h.puts.counted.same (λ e. cc)) (counts_as now.faults new.faults _ _ (λ e. is_failed fault e) (λ e. ap Err e) puts.counted);
+              (h.puts.counted.same (λ e. cc)) (counts_as now.faults new.faults _ _
+              (λ e. is_failed fault e) (λ e. ap Err e) puts.counted);
         };
       }
 

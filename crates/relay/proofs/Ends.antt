@@ -1,11 +1,11 @@
 -- Connections as a wire hands them out and takes them back.
 use Rattle.std.proofs.Common.{◌≡◌, ℕ, ◌+◌, List, [], ◌∷◌, ◌++◌, IfSome, Some, None, Option, refl}
-use Rattle.std.proofs.Common.{sym, ◌∙◌, inr, arith}
+use Rattle.std.proofs.Common.{inr, arith}
 use Rattle.io_edges.specs.{Flow.Told, Faults.CountsFaults, Views.SinkView, Wires.added_up}
 use Rattle.io_edges.specs.{Wires.Fresh, Wires.Network}
 use Rattle.std.specs.Prelude.{⊤}
 use Rattle.relay.specs.declared.outcome.RelayOutcome.{RelayOutcome}
-use Rattle.relay.specs.{Connections.Closes, Connections.Connection, Connections.Ended}
+use Rattle.relay.specs.{Connections.Connection, Connections.Ended}
 use Rattle.relay.specs.Connections.{Ends, ends_at, Hands, HandsNone, RelaysOne, Side, WireFails}
 use Rattle.relay.specs.{Relayed.IsRelayed, Relayed.Relay}
 

@@ -1,29 +1,31 @@
 -- What is known of a relay, by how far the opening of both sessions came.
-use Rattle.std.proofs.Common.{◌≡◌, ℕ, true, false, List, [], ◌∷◌, ◌++◌, Some, sym, refl, ap, ◌∙◌}
+use Rattle.std.proofs.Common.{◌≡◌, ℕ, true, false, List, [], sym, refl, ap, ◌∙◌}
 use Rattle.std.proofs.Common.{arith, subst}
-use Rattle.std.specs.Prelude.{⊤}
 use Rattle.io_edges.specs.{Faults.CountsFaults, Views.SinkView}
 use Rattle.nbfx_values.specs.declared.{refusals.Offence.Offence}
 use Rattle.nbfx_values.specs.declared.session.{Kind.Kind, Mode.Mode}
 use Rattle.nbfx_encoder.specs.declared.sender.Side.{Side, TheVariants.Initiator}
 use Rattle.nbfx_encoder.specs.declared.sender.Side.TheVariants.{Receiver}
-use Rattle.stream_reader.specs.Stream.{Settings, stream, StreamEvent}
+use Rattle.stream_reader.specs.Stream.{stream, StreamEvent}
 use Rattle.stream_loop.proofs.{Counts.counts_as, Counts.handled_some, Counts.writes_counted}
 use Rattle.stream_loop.proofs.Taking.{follows_as, unbegun}
-use Rattle.stream_loop.specs.declared.{following.FollowEnding.FollowEnding, outbound.Outbound.Outbound}
+use Rattle.stream_loop.specs.declared.{following.FollowEnding.FollowEnding}
+use Rattle.stream_loop.specs.declared.{outbound.Outbound.Outbound}
 use Rattle.stream_loop.specs.{Edges.Input, Followed.Follows}
 use Rattle.unit_streams.specs.{Going.IsPending, Judging.events_in, Judging.events_of}
 use Rattle.session_report.specs.declared.reading.Event.{Event}
 use Rattle.relay.specs.declared.beginning.Begun.{Begun, TheVariants.Opened}
 use Rattle.relay.specs.declared.{carrier.Carrier.Carrier, listener.Listener.Listener}
 use Rattle.relay.specs.declared.beginning.Begun.TheVariants.{Accepted}
-use Rattle.relay.specs.declared.outcome.{Pump.Pump, PumpIn.PumpIn, PumpOut.PumpOut, RelayOutcome.RelayOutcome}
+use Rattle.relay.specs.declared.outcome.{Pump.Pump, PumpIn.PumpIn, PumpOut.PumpOut}
+use Rattle.relay.specs.declared.outcome.{RelayOutcome.RelayOutcome}
 use Rattle.relay.specs.Beginning.{Begins, BeginsSo, EndsBefore}
 use Rattle.relay.specs.Carried.{Carried, carried_by, carries, Carries, Carrying, EndsSo, last_of}
 use Rattle.relay.specs.{Events.has_begun, Events.kind_in, Events.mode_in, Events.said}
-use Rattle.relay.specs.{Joining.IsOpened, Outcomes.ending_of, Outcomes.outbound_of}
-use Rattle.relay.specs.Pumping.{HasPumped, IsPumped}
-use Rattle.relay.specs.Relayed.{back_by, back_of, backward_of, EndsUnaccepted, forward_of, FollowsBoth, front_of, IsStopped, joined}
+use Rattle.relay.specs.{Outcomes.ending_of, Outcomes.outbound_of}
+use Rattle.relay.specs.Pumping.{HasPumped}
+use Rattle.relay.specs.Relayed.{back_by, back_of, backward_of, EndsUnaccepted, forward_of}
+use Rattle.relay.specs.Relayed.{FollowsBoth, front_of, IsStopped, joined}
 use Rattle.relay.specs.Relayed.{last_back, Reaches, refusal_of, Relay, Relays, to_back, to_front}
 use Rattle.relay.specs.Relayed.{unaccepted, unacknowledged, unopened, unsent}
 use Rattle.stream_loop.specs.Writing.{Wrote}
@@ -328,8 +330,8 @@ pub acknowledged : (x : Relay) (mode : Mode) (kind : Kind) (bi bi' : Input) (fo 
 acknowledged x mode kind bi bi' fo fo' back begins z set c carried =
     subst (λ (z : Carrying). HasCarried z fo begins.events c fo') set
     (carried begins.events
-    (subst (λ (s : Side). BeginsSo s begins.events Accepted) (sym (ap (λ (z : Carrying). z.side) set))
-    begins.begins_so)
+    (subst (λ (s : Side). BeginsSo s begins.events Accepted)
+    (sym (ap (λ (z : Carrying). z.side) set)) begins.begins_so)
     (named_back z begins.events (ap (λ (z : Carrying). z.side) set)))
 
 -- the back's preamble was written

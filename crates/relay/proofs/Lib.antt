@@ -1,5 +1,3 @@
--- what was written of parts was written of the events for which they are due (specs/Due)
-pub mod Due
 -- what events say, with one more (specs/Events), and what is due before a session begins
 pub mod Begun
 -- what a carrier has put of events, with one more (specs/Writing), and at the end of its direction
@@ -20,3 +18,5 @@ pub mod Ends
 pub mod Connecting
 -- the line of one, by what is put of it (specs/Lines)
 pub mod Wording
+-- what is written for literal streams
+mod Worked

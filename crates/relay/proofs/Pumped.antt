@@ -1,10 +1,10 @@
 -- What was read and written of a direction that went on to its end.
-use Rattle.std.proofs.Common.{◌≡◌, ℕ, Bool, List, ◌++◌, Some, None, Ok, Err, Option, sym, ap}
+use Rattle.std.proofs.Common.{◌≡◌, ℕ, Bool, List, ◌++◌, Some, None, Err, sym, ap}
 use Rattle.std.proofs.Common.{subst}
 use Rattle.io_edges.specs.Views.{SinkView}
 use Rattle.unit_streams.specs.declared.Memory.{Memory as Want}
 use Rattle.nbfx_values.specs.declared.refusals.Offence.{Offence}
-use Rattle.stream_reader.specs.Stream.{ends, Settings, stream, StreamEvent}
+use Rattle.stream_reader.specs.Stream.{ends, Settings, stream}
 use Rattle.stream_loop.proofs.Taking.{follows_as}
 use Rattle.stream_loop.specs.declared.resuming.ReadOn.{ReadOn}
 use Rattle.stream_loop.specs.{Edges.Input, Resumed.ReadsOn}
@@ -15,7 +15,6 @@ use Rattle.relay.specs.{Events.said, Outcomes.ending_of, Outcomes.inbound_by, Ou
 use Rattle.relay.specs.{Pumping.HasPumped, Writing.carrying_of, Writing.HasCarried}
 use Rattle.relay.proofs.Reading.{ends_by, follows_by}
 use Rattle.stream_loop.specs.declared.resuming.ReadOn.TheVariants as reads
-use Rattle.relay.specs.declared.outcome.PumpIn.TheVariants as ins
 
 module _ (y : Settings) (i i' : Input) (x : Carrying) (first : SinkView) (c : Carrier)
     (mid : SinkView) (set : carrying_of c ≡ x) (stands : List ℕ → Type 0) (Waits : Type 0)

@@ -1,9 +1,9 @@
 -- What a carrier has put of events, with one more, and when its direction begins and ends.
-use Rattle.std.proofs.Common.{◌≡◌, ℕ, Bool, true, false, not, ◌&&◌, List, [], ◌∷◌, ◌++◌, length}
-use Rattle.std.proofs.Common.{if◌then◌else◌, Some, None, Ok, Err, Option, Result, sym, refl, ap, ◌∙◌, subst}
+use Rattle.std.proofs.Common.{◌≡◌, ℕ, true, false, List, [], ◌∷◌, ◌++◌}
+use Rattle.std.proofs.Common.{Some, None, Ok, Err, Option, Result, sym, refl, ap}
+use Rattle.std.proofs.Common.{◌∙◌, subst}
 use Rattle.std.proofs.Common.{inl, inr, is_some}
-use Rattle.std.{specs.Prelude.⊤, specs.Option.option_map}
-use Rattle.string_tables.specs.StringTable.{StringTable}
+use Rattle.std.specs.Option.{option_map}
 use Rattle.nbfx_values.specs.declared.{content.Item.Item, session.Mode.Mode}
 use Rattle.nbfx_encoder.specs.declared.faults.EncodeFault.{EncodeFault}
 use Rattle.nbfx_encoder.specs.declared.sender.{SendState.SendState, Sender.Sender, Side.Side}
@@ -12,22 +12,24 @@ use Rattle.nbfx_encoder.specs.{EncoderState.Refuses, Envelopes.envelope, Placing
 use Rattle.nbfx_encoder.specs.{Refusals.told, Spelling.encoded, Spelling.Unfit}
 use Rattle.nbfx_encoder.specs.Sending.{behind_message, KeepsSettings, kind_in, limits_in, mode_in}
 use Rattle.nbfx_encoder.specs.Sending.{names_in, RefusesMessage, Sends, state_in}
-use Rattle.nbfx_encoder.specs.declared.sender.SendFault.TheVariants.{Refused as SendRefused, WrongMoment}
+use Rattle.nbfx_encoder.specs.declared.sender.SendFault.TheVariants.{Refused as SendRefused}
+use Rattle.nbfx_encoder.specs.declared.sender.SendFault.TheVariants.{WrongMoment}
 use Rattle.stream_loop.proofs.Parts.{given_stopped}
 use Rattle.stream_loop.specs.declared.outbound.Outbound.{Outbound}
 use Rattle.stream_loop.specs.declared.outbound.Outbound.TheVariants.{Done, Memory, WriteFault}
 use Rattle.stream_loop.specs.Parts.{Part, part, with_part}
-use Rattle.stream_loop.specs.PartsGiven.{IsLittle, WasGiven, WasGivenMore}
+use Rattle.stream_loop.specs.PartsGiven.{IsLittle, WasGiven}
 use Rattle.io_edges.specs.Views.{SinkView}
 use Rattle.session_report.specs.declared.{reading.Event.Event, reading.Received.Received}
 use Rattle.relay.specs.declared.carrier.Carrier.{Carrier}
-use Rattle.relay.specs.{Due.IsDue, Due.IsQuiet, Events.begins, Events.has_begun}
+use Rattle.stream_loop.specs.PartsDue.{IsDue}
+use Rattle.relay.specs.Events.{has_begun}
 use Rattle.relay.specs.Carried.{behind, behind_document, behind_envelope, Carried, carried_by}
 use Rattle.relay.specs.Carried.{carries, Carrying, encoded_at, envelope_with, payload_at, sent_at}
 use Rattle.relay.specs.Carried.{start, told_for, unfit_at}
 use Rattle.relay.specs.Writing.{carrying_of, carrying_with, HasPut, HasStopped, IsAt, IsGoing}
 use Rattle.relay.proofs.{Begun.carried_more, Begun.named_more, Begun.still_begun}
-use Rattle.relay.proofs.Due.{due_more, due_quietly}
+use Rattle.stream_loop.proofs.PartsDue.{due_more, due_quietly}
 use Rattle.nbfx_encoder.specs.declared.faults.EncodeFault.TheVariants as faults
 use Rattle.session_report.specs.declared.reading.Event.TheVariants as heard
 
@@ -190,7 +192,8 @@ module _ (x : Carrying) (first : SinkView) (events : List Event) (received : Rec
 
       answer_is : encoded (limits_in c.sender) (kind_in c.sender) (names_in c.sender) received.doc
           ≡ encoded_at x s received.doc
-      answer_is = ap (λ t. encoded (limits_in c.sender) (kind_in c.sender) t received.doc) here.table_is
+      answer_is = ap (λ t. encoded (limits_in c.sender) (kind_in c.sender) t received.doc)
+          here.table_is
           ∙ sym (ap (λ (y : Carrying). encoded y.limits y.kind s.table received.doc) set)
 
       -- there was no memory
@@ -247,7 +250,8 @@ module _ (x : Carrying) (first : SinkView) (events : List Event) (received : Rec
             → HasPut x first (events ++ message ∷ []) new out
         put_envelope new sender out gathered sends moved e_sender e_unfit gives little =
             let payload = sends.payload in
-            let answer : encoded_at x s received.doc ≡ Ok payload = sym answer_is ∙ sends.answer_is in
+            let answer : encoded_at x s received.doc ≡ Ok payload =
+            sym answer_is ∙ sends.answer_is in
             let one : payload_at x s received.doc ≡ Some payload =
             rw (ready_is, fitted, answer) refl in
             let mode : x.mode ≡ mode_in c.sender = ap (λ (y : Carrying). y.mode) set in

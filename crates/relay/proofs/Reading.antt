@@ -1,5 +1,5 @@
 -- What was read of a side, and said of its events, when the loop ends.
-use Rattle.std.proofs.Common.{◌≡◌, ℕ, Bool, true, false, List, [], ◌∷◌, ◌++◌, map, Some, None, Ok}
+use Rattle.std.proofs.Common.{◌≡◌, ℕ, Bool, true, false, List, [], ◌∷◌, ◌++◌, Some, None, Ok}
 use Rattle.std.proofs.Common.{Err, Option, Result, sym, refl, ap, ◌∙◌, subst, inl, inr}
 use Rattle.std.proofs.Common.{append_assoc, IfErr, IfOk, OnOk}
 use Rattle.std.{specs.Option.option_map, proofs.lemmas.List.map-append}
@@ -17,16 +17,15 @@ use Rattle.stream_loop.proofs.Taking.{broken, decided, follows_as, handled_whole
 use Rattle.stream_loop.proofs.Taking.{unbegun}
 use Rattle.stream_loop.specs.declared.resuming.ReadOn.{ReadOn}
 use Rattle.stream_loop.specs.{Edges.Input, Followed.AreHandled, Followed.Follows}
-use Rattle.stream_loop.specs.Resumed.{HasComeTo, RanOut, ReadsOn, then_at, WasCut, WasHalted}
-use Rattle.stream_loop.specs.Resumed.{WasJudged}
+use Rattle.stream_loop.specs.Resumed.{HasComeTo, ReadsOn, then_at, WasHalted}
 use Rattle.stream_loop.specs.declared.following.FollowEnding.{FollowEnding}
 use Rattle.session_report.specs.{declared.reading.Event.Event, Saying.event_for}
 use Rattle.relay.specs.declared.{beginning.Begun.Begun, beginning.Beginning.Beginning}
 use Rattle.relay.specs.declared.{listener.Listener.Listener, outcome.PumpIn.PumpIn}
-use Rattle.relay.specs.Beginning.{Begins, begun_at, Comes, EndsBefore, HasBegun, HasWaited}
+use Rattle.relay.specs.Beginning.{Begins, begun_at, EndsBefore, HasBegun, HasWaited}
 use Rattle.relay.specs.{Carried.EndsSo, Events.faulted_along, Events.has_begun, Events.said}
 use Rattle.unit_streams.specs.declared.Memory.{Memory as Want}
-use Rattle.relay.specs.Outcomes.{ended_by, ending_of, inbound_by, read_by}
+use Rattle.relay.specs.Outcomes.{ending_of, inbound_by, read_by}
 use Rattle.stream_loop.specs.declared.following.FollowEnding.TheVariants as endings
 use Rattle.stream_loop.specs.declared.resuming.ReadOn.TheVariants as reads
 use Rattle.session_report.specs.declared.reading.Event.TheVariants as heard
@@ -271,7 +270,8 @@ module _ (y : Settings) (i i' : Input) (side : Side) (b : Beginning) (b_side : b
       → IfOk result (λ halt. Begins y i i' side halt l)
   begun_so (Ok halt) is = begins_by y i i' side b b_side halt l grammar
       (halts_by y i i' (λ events. HasWaited events b) (StandsFor l.end.reader)
-      (λ halt at paused since. HasBegun (said paused ++ said since) (option_map event_for at) halt b)
+      (λ halt at paused since.
+      HasBegun (said paused ++ said since) (option_map event_for at) halt b)
       Waits l.buffer r b.faulted halt (sym is) h)
   begun_so (Err read) is = tt
 
@@ -284,7 +284,8 @@ module _ (y : Settings) (i i' : Input) (side : Side) (b : Beginning) (b_side : b
         ends_by r b.faulted read (said all) (sym is) waited.faulted_is,
       ))
       (follows_by y i i' (λ events. HasWaited events b) (StandsFor l.end.reader)
-      (λ halt at paused since. HasBegun (said paused ++ said since) (option_map event_for at) halt b)
+      (λ halt at paused since.
+      HasBegun (said paused ++ said since) (option_map event_for at) halt b)
       Waits l.buffer r b.faulted read (sym is) h)
 
 pub open_so : {H : Type 0} (r : ReadOn Offence H) (faulted : Bool) (result : Result H PumpIn)

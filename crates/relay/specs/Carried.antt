@@ -1,11 +1,11 @@
 -- What a relay writes to one side for the events that it reads from the other: what opens the
 -- session there, then an envelope for each document, with the strings of its own direction carried
 -- on. A document that doesn't fit ends it.
-use Rattle.std.specs.Prelude.{◌≡◌, ℕ, Bool, true, false, not, ◌&&◌, List, [], ◌∷◌, ◌++◌}
+use Rattle.std.specs.Prelude.{◌≡◌, ℕ, Bool, true, false, not, ◌&&◌, List, []}
 use Rattle.std.specs.Prelude.{if◌then◌else◌, Some, None, Ok, Err, Option, Result, ⊤}
 use Rattle.{io_edges.specs.Faults.one_more, io_edges.specs.Views.SinkView}
 use Rattle.{nbfx_values.specs.Limits.Limits, unit_streams.specs.Tellers.Teller}
-use Rattle.unit_streams.specs.Tellers.{state_behind, told_along}
+use Rattle.unit_streams.specs.Tellers.{state_behind}
 use Rattle.string_tables.specs.{StaticStrings.Entry, StringTable.StringTable}
 use Rattle.nbfx_values.specs.declared.{content.Item.Item, refusals.Offence.Offence}
 use Rattle.nbfx_values.specs.declared.session.{Kind.Kind, Mode.Mode}

@@ -1,6 +1,6 @@
 -- What was read and written where connections are relayed one after the other: on each of them, and
 -- what is left of the wire that gave them and of the output of their lines.
-use Rattle.std.specs.Prelude.{◌≡◌, ℕ, ◌<◌, ◌≤◌, ◌⊎◌, List, [], ◌∷◌, ◌++◌, map, length, Some, Ok}
+use Rattle.std.specs.Prelude.{◌≡◌, ℕ, ◌<◌, ◌≤◌, ◌⊎◌, List, [], ◌∷◌, ◌++◌, map, length, Ok}
 use Rattle.std.specs.Prelude.{Err, IfSome, Option, Result, ⊤}
 use Rattle.io_edges.specs.{declared.SinkFault.SinkFault, Flow.GrowsByPrefix, Flow.Passes, Flow.Told}
 use Rattle.io_edges.specs.Views.{SinkView}
@@ -107,8 +107,8 @@ module _ (x : Relay) {R K : Type 0} (seen : R × K → Ends) where
 abbrev pub outcomes_of : List Connection → List RelayOutcome
 outcomes_of connections = map (λ (c : Connection). c.outcome) connections
 
--- The lines of all connections are written, behind what was held; where there were none, nothing is,
--- and `Same` is known.
+-- The lines of all connections are written, behind what was held; where there were none, nothing
+-- is, and `Same` is known.
 pub record HasLines (first now : SinkView) (Same : Type 0) (outcomes : List RelayOutcome) : Type 0
   where
     pub lines : Told first.written now.written

@@ -8,12 +8,10 @@ pub mod Opening
 pub mod Connections
 pub mod Lines
 -- Private calls cite these: how a direction ended (Outcomes), what was read up to what begins a
--- session (Beginning), which parts are due for events (Due), what a carrier has written of them
--- (Writing), one direction to its end (Pumping), a
--- session that was opened with the back (Joining), and what was relayed so far (Along).
+-- session (Beginning), what a carrier has written of events (Writing), one direction to its end
+-- (Pumping), a session that was opened with the back (Joining), and what was relayed so far (Along).
 pub mod Outcomes
 pub mod Beginning
-pub mod Due
 pub mod Writing
 pub mod Pumping
 pub mod Joining

@@ -1,5 +1,5 @@
 -- What a carrier has written and gathered, and of which events that is.
-use Rattle.std.specs.Prelude.{◌≡◌, ℕ, Bool, true, false, ◌⊎◌, List}
+use Rattle.std.specs.Prelude.{◌≡◌, ℕ, true, false, ◌⊎◌, List}
 use Rattle.std.specs.Option.{option_map}
 use Rattle.nbfx_values.specs.QuotasOf.{limits_of}
 use Rattle.nbfx_encoder.specs.{declared.sender.Sender.Sender, Refusals.told}
@@ -11,7 +11,8 @@ use Rattle.session_report.specs.declared.reading.Event.{Event}
 use Rattle.relay.specs.declared.carrier.{Carrier.Carrier, CarrySettings.CarrySettings}
 use Rattle.relay.specs.Carried.{Carried, carried_by, carries, Carrying, start}
 use Rattle.nbfx_encoder.specs.declared.sender.Side.TheVariants.{Initiator}
-use Rattle.relay.specs.{Due.AreDue, Events.faulted_along}
+use Rattle.stream_loop.specs.PartsDue.{AreDue}
+use Rattle.relay.specs.{Events.faulted_along}
 use Rattle.relay.specs.Events.{has_begun, kind_in as kind_named, mode_in as mode_named}
 
 -- how settings have a direction written that these bytes open

@@ -17,7 +17,8 @@ ghost use Rattle.relay.specs.Carried.{Carries, Carrying, carried_by, carries, la
 ghost use Rattle.relay.specs.Events.{has_begun};
 ghost use Rattle.relay.specs.Outcomes.{last_by, written_by};
 ghost use Rattle.relay.specs.Relayed.{IsStopped};
-ghost use Rattle.relay.specs.Writing.{HasCarried, HasPut, HasStopped, IsGoing, IsNamed, carrying_by, carrying_of};
+ghost use Rattle.relay.specs.Writing.{HasCarried, HasPut, HasStopped, IsGoing, IsNamed};
+ghost use Rattle.relay.specs.Writing.{carrying_by, carrying_of};
 
 use crate::beginning::is_fault;
 use crate::carrier::{Carrier, CarrySettings};
@@ -163,7 +164,7 @@ impl<'s> Carrier<'s> {
         }
     }
 
-    // Writes what is gathered, the last bytes and what the sink holds, unless the writing has ended.
+    // Writes what is gathered, the last bytes and what the sink holds, unless the writing is over.
     fn close<K: Sink>(&mut self, read: PumpIn, sink: &mut K)
         ensures wrote { (x : Carrying) (first : SinkView) (events : List Heard)
             → HasPut x first events self.old (K.view sink.old)

@@ -1,7 +1,6 @@
 //! Connections that are relayed one after the other.
 
-ghost use Rattle.std.specs.Prelude.{◌≡◌, ◌<◌, ◌≤◌, ◌^◌, [], ⊤, Ok, Err, Some, None, length};
-ghost use Rattle.io_edges.specs.Faults.{CountsFaults};
+ghost use Rattle.std.specs.Prelude.{◌≡◌, ◌<◌, ◌≤◌, ◌^◌, [], Ok, Err, Some, None, length};
 ghost use Rattle.io_edges.specs.Wires.{network_at};
 ghost use Rattle.relay.specs.Connections.{RelaysAll, ends_at};
 ghost use Rattle.relay.specs.Along.{RelaysNext};

@@ -8,15 +8,15 @@
 //! its side and written within those of the other.
 //!
 //! [`relay`] reads the front's preamble, calls the back by its own Via in the mode and the encoding
-//! that the preamble names, and writes the Ack to the front once the back's was read. So a client is
-//! accepted only where the service accepted. Behind the Ack the directions share nothing, and each
-//! goes on to its end, on a thread of its own where one is to be had. `specs/Relayed` says what was
-//! read and written by how far the session came: in which order ([`RelayOutcome`]'s `NotOpened` is
-//! the mark of a direction that never began), and in which way each direction ended.
+//! that the preamble names, and writes the Ack to the front once the back's was read. So a client
+//! is accepted only where the service accepted. Behind the Ack the directions share nothing, and
+//! each goes on to its end, on a thread of its own where one is to be had. `specs/Relayed` says
+//! what was read and written by how far the session came: in which order ([`RelayOutcome`]'s
+//! `NotOpened` is the mark of a direction that never began), and in which way each direction ended.
 //!
 //! A direction that can't be written any more, by a failed write, a document above the quotas or
-//! want of memory, is ended, and its input is read on to its end: the other side learns of it by the
-//! end of the bytes, and never by an envelope that was cut and went on.
+//! want of memory, is ended, and its input is read on to its end: the other side learns of it by
+//! the end of the bytes, and never by an envelope that was cut and went on.
 //!
 //! [`relay_connections`] relays one connection after the other, and writes a line of each
 //! (`specs/Connections`, `specs/Lines`). What happens on one stays on it; a [`RelayFault`] of what

@@ -1,6 +1,6 @@
 //! How both sessions are opened.
 
-ghost use Rattle.std.specs.Prelude.{◌≡◌, ◌≢◌, ◌≤◌, [], ◌∷◌, length, IfOk, IfErr, OnOk};
+ghost use Rattle.std.specs.Prelude.{◌≡◌, ◌≢◌, ◌≤◌, [], length, IfOk, IfErr, OnOk};
 ghost use Rattle.io_edges.specs.Faults.{CountsFaults};
 ghost use Rattle.nbfx_encoder.specs.declared.sender.Side.{Side as End};
 ghost use Rattle.nmf_records.specs.Writing.{frame_bytes_of};
@@ -47,8 +47,8 @@ fn copy_of(alloc: Global, endpoint: &Endpoint) -> Result<Endpoint, Memory>
 }
 
 fn front_listener<'s>(alloc: Global, settings: RelaySettings<'s>) -> Result<Listener<'s>, Memory>
-    ensures comes { IfOk result (λ listener. (i : Input) → Comes (front_of (relay_by settings.entry)) i i
-        (λ handled. handled ≡ []) listener) }
+    ensures comes { IfOk result (λ listener. (i : Input)
+        → Comes (front_of (relay_by settings.entry)) i i (λ handled. handled ≡ []) listener) }
 {
     let endpoint = copy_of(alloc, settings.endpoint)?;
     Listener::new(
@@ -59,7 +59,7 @@ fn front_listener<'s>(alloc: Global, settings: RelaySettings<'s>) -> Result<List
     )
 }
 
-/// Reads the front up to its preamble. It fails with how the reading ended, where that doesn't come.
+/// Reads the front up to its preamble. It fails with how the reading ended, where none comes.
 pub fn begin_front<'s, S: Source>(
     alloc: Global,
     settings: RelaySettings<'s>,
@@ -129,7 +129,8 @@ pub fn begin_back<'s, A: Source>(
 /// The preamble that the back is sent.
 pub fn preamble(alloc: Global, mode: Mode, kind: Kind, via: &str) -> Result<Vec<u8>, Memory>
     requires { length via.now ≤ 2048 }
-    ensures { IfOk result (λ bytes. bytes.items ≡ opening_bytes mode (Spelling.Known kind) via.now) }
+    ensures { IfOk result (λ bytes. bytes.items
+        ≡ opening_bytes mode (Spelling.Known kind) via.now) }
 {
     let mut bytes = Vec::new(alloc);
     opening(mode, Encoding::Known(kind), via, &mut bytes)?;

@@ -1,6 +1,6 @@
 //! What became of a relay.
 
-ghost use Rattle.std.specs.Prelude.{◌≡◌, ℕ};
+ghost use Rattle.std.specs.Prelude.{◌≡◌};
 ghost use Rattle.relay.specs.Outcomes.{inbound_by, read_by, written_by};
 
 use nbfx_encoder::EncodeFault;

@@ -9,9 +9,9 @@ use crate::outcome::{Pump, inbound_by};
 use io_edges::{Sink, Source};
 use stream_loop::read_on;
 
-/// Reads one side of two sessions that were opened to its end, and writes what its events say to the
-/// other. Envelopes are gathered, up to 64 KiB and one envelope, and written before more is read.
-/// Once nothing more is put, the sink's direction is ended.
+/// Reads one side of two sessions that were opened to its end, and writes what its events say to
+/// the other. Envelopes are gathered, up to 64 KiB and one envelope, and written before more is
+/// read. Once nothing more is put, the sink's direction is ended.
 pub fn pump<S: Source, K: Sink>(
     listener: &mut Listener<'_>,
     carrier: &mut Carrier<'_>,

@@ -12,7 +12,8 @@ ghost use Rattle.relay.specs.declared.beginning.Begun.{Begun as Halt};
 ghost use Rattle.relay.specs.Beginning.{Begins};
 ghost use Rattle.stream_reader.specs.Sides.{endpoint_of};
 ghost use Rattle.relay.specs.Opening.{relay_by, relaying};
-ghost use Rattle.relay.specs.Relayed.{FollowsBoth, IsRelayed, Relay, back_by, front_of, refusal_of, to_front};
+ghost use Rattle.relay.specs.Relayed.{FollowsBoth, IsRelayed, Relay, back_by, front_of, refusal_of};
+ghost use Rattle.relay.specs.Relayed.{to_front};
 ghost use Rattle.relay.specs.Joining.{IsOpened};
 ghost use Rattle.relay.specs.Writing.{carrying_by};
 
@@ -24,7 +25,7 @@ use crate::opening::{Front, begin_back, begin_front, preamble, preamble_ack};
 use crate::outcome::{PumpIn, RelayOutcome};
 use crate::settings::RelaySettings;
 use io_edges::{Sink, Source};
-use nbfx_values::{Kind, Mode, Two};
+use nbfx_values::Two;
 use receiver_machine::closing_record;
 use static_dictionary::StaticTable;
 use std::alloc::Global;
@@ -168,9 +169,9 @@ fn relay_opened<R: Threads, S: Source + Send, K: Sink + Send, A: Source + Send, 
 
 /// Joins two net.tcp sessions (MC-NMF): reads the front's preamble, calls the back by this Via with
 /// the mode and the encoding that it names, and writes a Preamble Ack to the front once the back's
-/// was read. Then both directions go on at once, each on a thread of its own where one is to be had:
-/// documents are decoded from one session and encoded anew for the other, each with tables of its
-/// own. Envelopes are gathered, up to 64 KiB and one envelope, and written before more is read.
+/// was read. Then both directions go on at once, each on a thread of its own where one is to be
+/// had: documents are decoded from one session and encoded anew for the other, each with tables of
+/// its own. Envelopes are gathered, up to 64 KiB and one envelope, and written before more is read.
 ///
 /// A front that is refused before its preamble is complete gets the Fault record of its offence,
 /// where MC-NMF has a text for it. Else no Fault is written. After a failed write, at a document

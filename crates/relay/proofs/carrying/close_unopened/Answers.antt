@@ -1,4 +1,4 @@
-use Rattle.std.proofs.Common.{[], refl, sym, ap}
+use Rattle.std.proofs.Common.{[]}
 use Rattle.stream_loop.proofs.Parts.{given_none}
 use Rattle.relay.proofs.Closing.{carries_unopened, none_whole}
 use Rattle.relay.proofs.carrying.close_unopened.Goals as goal

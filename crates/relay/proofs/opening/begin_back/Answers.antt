@@ -1,4 +1,4 @@
-use Rattle.std.proofs.Common.{[], refl, arith}
+use Rattle.std.proofs.Common.{refl}
 use Rattle.session_report.proofs.Streams.{ends_within}
 use Rattle.stream_loop.proofs.LoopSteps.{first_pending}
 use Rattle.stream_loop.specs.Edges.{Input, input_at}
@@ -36,7 +36,8 @@ returns-in-Ok-Accepted-clause-begun g c =
 pub returns-clause-ended : goal.returns-clause-ended
 returns-clause-ended g c =
     let i = input_of g c.args.source.now in
-    c.in-Err.ensures.ended (back_by (relay_by c.args.settings) c.args.mode c.args.kind) i (c.in-Ok.ensures.comes i)
+    c.in-Err.ensures.ended (back_by (relay_by c.args.settings) c.args.mode c.args.kind) i
+    (c.in-Ok.ensures.comes i)
 
 pub returns-clause-refused : goal.returns-clause-refused
 returns-clause-refused g c =

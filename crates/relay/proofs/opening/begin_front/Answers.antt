@@ -1,4 +1,3 @@
-use Rattle.std.proofs.Common.{[], refl, arith}
 use Rattle.session_report.proofs.Streams.{ends_within}
 use Rattle.stream_loop.proofs.LoopSteps.{first_pending}
 use Rattle.stream_loop.specs.Edges.{Input, input_at}

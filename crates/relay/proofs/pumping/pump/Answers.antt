@@ -1,8 +1,7 @@
-use Rattle.std.proofs.Common.{◌≡◌, List, ◌++◌, sym, refl, ◌∙◌, subst}
+use Rattle.std.proofs.Common.{◌≡◌, ◌++◌, sym, ◌∙◌, subst}
 use Rattle.session_report.proofs.Streams.{ends_within}
 use Rattle.stream_loop.specs.Edges.{Input, input_at}
 use Rattle.stream_reader.specs.StreamReaderState.{settings_of, StandsFor}
-use Rattle.session_report.specs.declared.reading.Event.{Event}
 use Rattle.relay.specs.Events.{said}
 use Rattle.relay.specs.declared.outcome.PumpIn.{PumpIn}
 use Rattle.relay.specs.Carried.{carried_by, Carries, last_of}

@@ -8,7 +8,7 @@ use Rattle.session_report.proofs.Streams.{ends_within}
 use Rattle.stream_loop.proofs.LoopSteps.{first_pending}
 use Rattle.stream_loop.specs.Edges.{Input, input_at}
 use Rattle.stream_reader.specs.{Sides.endpoint_of, Stream.ends, Stream.stream}
-use Rattle.relay.specs.{Opening.relaying, Relayed.back_by, Relayed.front_of, Relayed.FollowsBoth}
+use Rattle.relay.specs.{Opening.relaying, Relayed.back_by, Relayed.front_of}
 use Rattle.relay.specs.{Relayed.Relay, Relayed.to_back, Relayed.to_front}
 use Rattle.relay.proofs.{Accepting.front_unended, Known.both_unopened, Known.unread_counted}
 use Rattle.relay.proofs.Known.{writes_are_counted}

@@ -1,4 +1,4 @@
-use Rattle.std.proofs.Common.{[], refl, ◌∙◌, sym, ap, subst}
+use Rattle.std.proofs.Common.{[], refl, ◌∙◌}
 use Rattle.stream_loop.specs.Edges.{Input, input_at}
 use Rattle.nmf_records.specs.{declared.frame.Frame.TheVariants.PreambleAck, Writing.frame_bytes_of}
 use Rattle.relay.specs.declared.beginning.Begun.TheVariants.{Accepted, Opened}
@@ -93,8 +93,8 @@ returns-clause-follows g c = λ x mode kind fi bi bo opened begins set.
     (g.K.Sink.view p.new.front_out) (g.B.Sink.view bo) (g.B.Sink.view p.new.back_out) p.result mode
     kind
     (e.forward.pumped (front_of x) fi (to_back x mode kind) bo opened.events opened.ready)
-    (e.backward.pumped (back_by x mode kind) bi (to_front x mode kind) c.args.front_out.now begins.events
-    (record {
+    (e.backward.pumped (back_by x mode kind) bi (to_front x mode kind) c.args.front_out.now
+    begins.events (record {
       comes = begins.comes;
       carried = acknowledged x mode kind bi (back_at g c.args.back_in.now) fo
           (g.K.Sink.view o.new.sink) c.args.back begins (carrying_by c.args.settings ack) set

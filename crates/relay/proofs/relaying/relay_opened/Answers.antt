@@ -1,4 +1,4 @@
-use Rattle.std.proofs.Common.{[], refl, sym, ap, subst}
+use Rattle.std.proofs.Common.{[], refl, sym, subst}
 use Rattle.session_report.proofs.Streams.{ends_within}
 use Rattle.stream_loop.proofs.LoopSteps.{first_pending}
 use Rattle.stream_loop.specs.Edges.{Input, input_at}
@@ -6,13 +6,13 @@ use Rattle.stream_reader.specs.Stream.{ends, stream}
 use Rattle.nbfx_values.specs.declared.session.Encoding.TheVariants.{Known}
 use Rattle.initiator_machine.specs.Opening.{opening_bytes}
 use Rattle.relay.specs.declared.beginning.Begun.TheVariants.{Opened}
-use Rattle.nbfx_encoder.specs.declared.sender.Side.TheVariants.{Initiator, Receiver}
+use Rattle.nbfx_encoder.specs.declared.sender.Side.TheVariants.{Receiver}
 use Rattle.relay.specs.declared.outcome.PumpIn.{PumpIn}
 use Rattle.relay.specs.Events.{has_begun}
 use Rattle.relay.specs.{Beginning.EndsBefore, Relayed.EndsUnaccepted}
 use Rattle.relay.specs.{Opening.relay_by, Relayed.back_by}
 use Rattle.relay.specs.{Relayed.Relay, Relayed.to_back, Relayed.to_front}
-use Rattle.relay.specs.{Writing.carrying_by, Writing.HasCarried}
+use Rattle.relay.specs.Writing.{carrying_by}
 use Rattle.relay.proofs.Known.{both_unaccepted, both_unsent, none_behind, sent_on, unread_counted}
 use Rattle.relay.proofs.relaying.relay_opened.{Given.Over}
 use Rattle.relay.proofs.Opened.{opened_now}

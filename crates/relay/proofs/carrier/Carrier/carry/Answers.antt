@@ -1,5 +1,6 @@
-use Rattle.std.proofs.Common.{[], ◌∷◌, ◌++◌, sym, refl, ap, ◌∙◌, inl, inr}
-use Rattle.nbfx_encoder.specs.{Sending.kind_in, Sending.limits_in, Sending.names_in, Spelling.encoded}
+use Rattle.std.proofs.Common.{sym, refl, ◌∙◌}
+use Rattle.nbfx_encoder.specs.{Sending.kind_in, Sending.limits_in, Sending.names_in}
+use Rattle.nbfx_encoder.specs.{Spelling.encoded}
 use Rattle.relay.proofs.Putting.{carrying_same, late, none_is, none_or, put_envelope, put_nothing}
 use Rattle.relay.proofs.Putting.{put_same, put_stopped, put_unable, refuses_same, unstopped}
 use Rattle.relay.proofs.carrier.Carrier.carry.Goals.{then-not-is_going-via-then-not-is_going}
@@ -37,8 +38,8 @@ returns-in-Ok-clause-carried g c = λ x first events received same set h.
     })) p.little
 
 pub returns-in-Ok-clause-set : goal.returns-in-Ok-clause-set
-returns-in-Ok-clause-set g c = carrying_same c.args.self.now.sender c.message.new.self c.args.self.now.opening.items
-    c.message.ensures.kept
+returns-in-Ok-clause-set g c = carrying_same c.args.self.now.sender c.message.new.self
+    c.args.self.now.opening.items c.message.ensures.kept
 
 pub returns-in-Ok-clause-stopped : goal.returns-in-Ok-clause-stopped
 returns-in-Ok-clause-stopped g c = λ stopped. absurd (unstopped c.args.self.now

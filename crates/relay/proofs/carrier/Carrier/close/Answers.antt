@@ -1,6 +1,6 @@
 use Rattle.std.proofs.Common.{refl, ◌∙◌}
 use Rattle.relay.specs.Carried.{carried_by}
-use Rattle.relay.proofs.Closing.{going_before, last_is, wrote_closed, wrote_stopped}
+use Rattle.relay.proofs.Closing.{last_is, wrote_closed, wrote_stopped}
 use Rattle.relay.proofs.carrier.Carrier.close.Goals as goal
 
 pub returns-then-not-is_going-clause-wrote : goal.returns-then-not-is_going-clause-wrote

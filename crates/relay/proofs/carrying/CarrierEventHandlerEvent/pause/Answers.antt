@@ -1,4 +1,4 @@
-use Rattle.std.proofs.Common.{◌++◌, sym, refl, ap, ◌∙◌, append-nil, inl, inr}
+use Rattle.std.proofs.Common.{◌++◌, sym, refl, ◌∙◌, append-nil, inl, inr}
 use Rattle.relay.proofs.{Closing.going_before, Closing.going_unless, Putting.put_same}
 use Rattle.relay.proofs.carrying.CarrierEventHandlerEvent.pause.Goals as goal
 

@@ -1,8 +1,8 @@
-use Rattle.std.proofs.Common.{◌≡◌, false, List, [], ◌++◌, refl, ◌∙◌}
+use Rattle.std.proofs.Common.{◌≡◌, [], ◌++◌, refl, ◌∙◌}
 use Rattle.session_report.{proofs.Streams.ends_within}
 use Rattle.stream_loop.specs.Edges.{Input, input_at}
-use Rattle.stream_reader.specs.{Stream.StreamEvent, StreamReaderState.settings_of}
-use Rattle.relay.specs.{Beginning.HasWaited, Events.said}
+use Rattle.stream_reader.specs.StreamReaderState.{settings_of}
+use Rattle.relay.specs.Events.{said}
 use Rattle.relay.proofs.Reading.{begun_so, comes_as, counted_so, ended_so, open_so, uncounted_so}
 use Rattle.relay.proofs.Reading.{waited_none}
 use Rattle.relay.proofs.listener.Listener.begin.{Given.Over}
