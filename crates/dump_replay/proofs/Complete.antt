@@ -240,8 +240,8 @@ module _ (Says : List ℕ → Type 0) (Untouched : Type 0) {R K : Type 0} (reade
       none_ends : {Same : Type 0} → TookNone Says limits old.input new.input old.output new.output
           status Same → IsOr (lines []) status
       none_ends h = by_status (lines []) status (status_of_building (ending_of_list h.fault))
-          h.status_is (lines_unread (documents_within limits.forward.session input) (after []) h.fault
-          (h.taken.says input well.given)
+          h.status_is (lines_unread (documents_within limits.forward.session input) (after [])
+          h.fault (h.taken.says input well.given)
           (λ fault. well.read (h.taken.counted.rose (ap Err fault))))
 
     -- a second list was read, or none
@@ -313,8 +313,8 @@ module _ (Says : List ℕ → Type 0) (Untouched : Type 0) {R K : Type 0} (reade
     task_ends (build opening) well h = other_ends (build opening)
         (by_status (status_of_input (input_offence opening statics limits.forward input)) status
         (status_of_building h.ending) h.status_is
-        (elim (builds_are_complete opening statics limits.forward old.input new.input old.output new.output
-        h.ending h.builds input well.given well.read well.written) [
+        (elim (builds_are_complete opening statics limits.forward old.input new.input old.output
+        new.output h.ending h.builds input well.given well.read well.written) [
           | inl built ↦ inl built.status_is
           | inr five ↦ inr five
         ]))
@@ -342,7 +342,8 @@ module _ (Says : List ℕ → Type 0) (Untouched : Type 0) {R K : Type 0} (reade
     abbrev Determined : AskedOfSessions → Type 0
     Determined asked = IsDetermined store input peer asked status
 
-    does_end : (asked : AskedOfSessions) → GoesWell reader old new asked.task store input peer → After asked
+    does_end : (asked : AskedOfSessions) → GoesWell reader old new asked.task store input peer
+        → After asked
         → Determined asked
     does_end asked well (inl h) = record {
       order = [];
@@ -365,7 +366,8 @@ module _ (Says : List ℕ → Type 0) (Untouched : Type 0) {R K : Type 0} (reade
         → GoesWell reader old new asked.task store input peer
         → Runs Says Untouched reader writer Unfetched Offline words old new status
         → Determined asked
-    asked_ends asked is well (inl (inl two, says, same, no_empty_take)) = absurd (two.1 (of_sessions asked) is)
+    asked_ends asked is well (inl (inl two, says, same, no_empty_take)) =
+        absurd (two.1 (of_sessions asked) is)
     asked_ends asked is well (inl (inr five, says, same, no_empty_take)) =
         record { order = []; one_order = λ one. refl; status_is = inr five }
     asked_ends asked is well (inr (inl (other, is_other, does))) =
@@ -385,7 +387,8 @@ module _ (Says : List ℕ → Type 0) (Untouched : Type 0) {R K : Type 0} (reade
   unasked_ends none (inl (inl two, says, same, no_empty_take)) = inl two.0
   unasked_ends none (inl (inr five, says, same, no_empty_take)) = inr five
   unasked_ends none (inr (inl (asked, is, does))) = absurd (none (of_sessions asked) is)
-  unasked_ends none (inr (inr (asked, is, does, no_empty_take, offline))) = absurd (none (rehearsal asked) is)
+  unasked_ends none (inr (inr (asked, is, does, no_empty_take, offline))) =
+      absurd (none (rehearsal asked) is)
 
   pub completes : Runs Says Untouched reader writer Unfetched Offline words old new status
       → IsComplete reader words old new status
@@ -395,6 +398,6 @@ module _ (Says : List ℕ → Type 0) (Untouched : Type 0) {R K : Type 0} (reade
         asked_ends Says Untouched reader writer old new status store input peer Unfetched Offline
         words asked is well runs;
     played = λ asked input is well.
-        played_ends Says Untouched reader writer old new status Unfetched Offline words asked input is
-        well runs;
+        played_ends Says Untouched reader writer old new status Unfetched Offline words asked input
+        is well runs;
   }

@@ -287,7 +287,8 @@ good_of : (origin : Origin) (limits : TwoLimits) → AreGood limits
 good_of Initiator limits good = good.forward
 good_of (Receiver mode kind) limits good = good.back
 
-module _ (store : Store) (input peer : List ℕ) (order : List Lane) (statics : List Entry) (limits : TwoLimits)
+module _ (store : Store) (input peer : List ℕ) (order : List Lane) (statics : List Entry)
+    (limits : TwoLimits)
     (good : AreGood limits) where
   module _ (opening : Opening) (named : Option (List ℕ)) where
     abbrev sends : (first second : List (List Item)) → Sending
@@ -333,7 +334,8 @@ module _ (store : Store) (input peer : List ℕ) (order : List Lane) (statics : 
       → IsTaskInOrder store input peer order task statics limits
   zero_task (report detail origin) is =
       zero_report detail (settings_for origin statics limits) (good_of origin limits good) input is
-  zero_task (build opening) is = may_be_built (settings_for_building opening statics limits.forward) input
+  zero_task (build opening) is =
+      may_be_built (settings_for_building opening statics limits.forward) input
       (zero_input (input_offence opening statics limits.forward input) is)
   zero_task (replay serving) is =
       let h = zero_named reading_actions store _ serving.actions is in
@@ -370,7 +372,8 @@ module _ (store : Store) (input peer : List ℕ) (order : List Lane) (statics : 
 pub zero_in_order : FittingIsAccepted → ZeroInOrder
 zero_in_order fitting store input peer order asked good = (
   (λ is.
-      let h = zero_file (λ statics. status_of_task store input peer order asked.task statics asked.limits)
+      let h = zero_file
+      (λ statics. status_of_task store input peer order asked.task statics asked.limits)
       (file_in reading_statics store asked.statics) is in
       (h.0, h.1, zero_task store input peer order h.0 asked.limits good asked.task h.2)),
   (λ h. file_zero (λ statics. status_of_task store input peer order asked.task statics asked.limits)

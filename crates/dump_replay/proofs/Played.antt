@@ -16,15 +16,16 @@ module _ (Says : List ℕ → Type 0) (Untouched : Type 0) {R K : Type 0} (reade
   rehearsed_ends asked input well h =
       by_status (status_of_history (history_offence asked input)) status
       (status_of_rehearsal h.ending) h.status_is
-      (history_ends asked old.input new.input old.output new.output h.ending h.plays input well.given
-      well.read well.written)
+      (history_ends asked old.input new.input old.output new.output h.ending h.plays input
+      well.given well.read well.written)
 
   module _ (Unfetched Offline : Type 0) (words : List (List ℕ)) (asked : Rehearsal)
       (input : List ℕ) where
     pub played_ends : IsRequest words (rehearsal asked) → PlaysWell old new input
         → Runs Says Untouched reader writer Unfetched Offline words old new status
         → IsOr (status_of_history (history_offence asked input)) status
-    played_ends is well (inl (inl two, says, same, no_empty_take)) = absurd (two.1 (rehearsal asked) is)
+    played_ends is well (inl (inl two, says, same, no_empty_take)) =
+        absurd (two.1 (rehearsal asked) is)
     played_ends is well (inl (inr five, says, same, no_empty_take)) = inr five
     played_ends is well (inr (inl (other, is_other, does))) =
         let one = request-one words (of_sessions other) (rehearsal asked) is_other is in cc

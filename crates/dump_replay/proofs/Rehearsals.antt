@@ -12,7 +12,7 @@ use Rattle.rehearsal.specs.declared.fault.HistoryFault.TheVariants.{TooLong}
 use Rattle.rehearsal.specs.declared.TheConstants.{MOST_BYTES}
 use Rattle.rehearsal.specs.History.{delivered_lines, Explains, history, history_rules, IsInForm}
 use Rattle.rehearsal.specs.History.{IsPlayed, last_line, no_counts, run_over, Settings, told}
-use Rattle.rehearsal.proofs.{LineFacts.begins, LineFacts.bounded, LineFacts.closes}
+use Rattle.line_streams.proofs.LineFacts.{begins, bounded, closes}
 use Rattle.rehearsal.proofs.Playing.{accepted_is_in_form, is_played}
 use Rattle.command_words.specs.Tasks.{Rehearsal}
 use Rattle.dump_replay.specs.{Outside.seen, Outside.SeenShelf, Working.Leaves}
@@ -33,7 +33,8 @@ history_ends_within x = record {
 }
 
 -- there was no memory to begin with
-pub unplayed : (asked : Rehearsal) (i : Input) (o : SinkView) → Rehearses asked i i o o endings.Memory
+pub unplayed : (asked : Rehearsal) (i : Input) (o : SinkView)
+    → Rehearses asked i i o o endings.Memory
 unplayed asked i o =
     let x : Settings = settings_for_history asked in (
       no_counts,
@@ -85,7 +86,8 @@ not_eight endings.ReadFault is = cc
 not_eight endings.WriteFault is = cc
 not_eight endings.Memory is = cc
 
-pub three_unread : (e : ReportEnding HistoryFault) → status_of_rehearsal e ≡ 3 → e ≡ endings.ReadFault
+pub three_unread : (e : ReportEnding HistoryFault) → status_of_rehearsal e ≡ 3
+    → e ≡ endings.ReadFault
 three_unread (endings.Judged None) is = cc
 three_unread (endings.Judged (Some (Line n kind))) is = cc
 three_unread (endings.Judged (Some TooLong)) is = cc
@@ -95,7 +97,8 @@ three_unread endings.Memory is = cc
 
 -- ---- where nothing of the outside fails
 
-pub history_ends : (asked : Rehearsal) (i i' : Input) (o o' : SinkView) (e : ReportEnding HistoryFault)
+pub history_ends : (asked : Rehearsal) (i i' : Input) (o o' : SinkView)
+    (e : ReportEnding HistoryFault)
     → Rehearses asked i i' o o' e → (bytes : List ℕ) → i.left ≡ Some bytes
     → (Rose i.faults i'.faults → ⊥) → (Rose o.faults o'.faults → ⊥)
     → IsOr (status_of_history (history_offence asked bytes)) (status_of_rehearsal e)

@@ -1,5 +1,5 @@
 -- What is left of the counts where sessions were joined.
-use Rattle.std.proofs.Common.{◌≡◌, ℕ, ◌≤◌, ◌⊎◌, List, [], ◌∷◌, Ok, Err, Result, sym, refl, ap, ◌∙◌}
+use Rattle.std.proofs.Common.{◌≡◌, ℕ, List, [], ◌∷◌, Ok, Err, Result, sym, refl, ap, ◌∙◌}
 use Rattle.std.proofs.Common.{subst, inl, inr, arith}
 use Rattle.io_edges.specs.{Faults.CountsFaults, Faults.Rose, Views.SinkView, Wires.Network}
 use Rattle.relay.specs.{declared.stopping.RelayFault.RelayFault, Relayed.Relay}

@@ -102,8 +102,9 @@ same_shelf files faults first now kept same =
     ap with_files kept ∙ ap with_faults same
 
 -- where a file isn't read, more is as before
-unread_more : {X K : Type 0} (reading : Reading X K) (kind_name : K → List ℕ) (Says : List ℕ → Type 0)
-    (Less More : Type 0) → (Less → More) → (name : List ℕ) (s s' : SeenShelf) (n : ℕ)
+unread_more : {X K : Type 0} (reading : Reading X K) (kind_name : K → List ℕ)
+    (Says : List ℕ → Type 0) (Less More : Type 0) → (Less → More) → (name : List ℕ)
+    (s s' : SeenShelf) (n : ℕ)
     → Unread Says Less reading kind_name name s s' n
     → Unread Says More reading kind_name name s s' n
 unread_more reading kind_name Says Less More more name s s' n h = record {

@@ -228,8 +228,10 @@ module _ (s s' : SeenShelf) (i i' : Input) (o o' : SinkView) {R K : Type 0} (w w
           let x = answering_by h.responder statics limits in
           unread_leaves h.unread n
           (status_of_stop h.stop) (stop_cause h.stop) h.status_is
-          (pool_rose x serving.endpoint sessions (ends_seen reader writer) connections w w' o o' h.stop h.pools)
-          (pool_grows x serving.endpoint sessions (ends_seen reader writer) connections w w' o o' h.stop h.pools)
+          (pool_rose x serving.endpoint sessions (ends_seen reader writer) connections w w' o o'
+          h.stop h.pools)
+          (pool_grows x serving.endpoint sessions (ends_seen reader writer) connections w w' o o'
+          h.stop h.pools)
 
     module _ (limits : Limits) (statics : List Entry) (made : List (List Item)) (summary : Summary)
         (h : Summarizes limits statics made o o' summary) (same : i' ≡ i) where

@@ -52,7 +52,8 @@ note_of_rehearsal Memory = note_of 5
 -- What is known of a history that is played so, where that ends so: of all that the input gives,
 -- where it tells that; what was read and written; how many takes of the input gave nothing; and what
 -- failed calls left of the counts of faults.
-abbrev pub Rehearses : Rehearsal → (i i' : Input) (o o' : SinkView) → ReportEnding HistoryFault → Type 0
+abbrev pub Rehearses : Rehearsal → (i i' : Input) (o o' : SinkView) → ReportEnding HistoryFault
+    → Type 0
 Rehearses asked i i' o o' ending =
     (counts : Counts) × EndsAs (history (settings_for_history asked)) told i i' o o' counts ending
 
@@ -85,7 +86,8 @@ pub record IsPlayedWhole (asked : Rehearsal) (bytes : List ℕ) (o o' : SinkView
 
 -- with status 0 a history was played whole
 abbrev pub ZeroIsPlayedWhole : Type 0
-ZeroIsPlayedWhole = (asked : Rehearsal) (i i' : Input) (o o' : SinkView) (ending : ReportEnding HistoryFault)
+ZeroIsPlayedWhole = (asked : Rehearsal) (i i' : Input) (o o' : SinkView)
+    (ending : ReportEnding HistoryFault)
     → Rehearses asked i i' o o' ending → status_of_rehearsal ending ≡ 0
     → (bytes : List ℕ) → i.left ≡ Some bytes → IsPlayedWhole asked bytes o o'
 

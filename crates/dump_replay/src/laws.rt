@@ -38,8 +38,9 @@ pub fn complete_rehearsals()
 {}
 
 /// The status that [`crate::run::run`] ends with for a command on sessions, if nothing of the
-/// outside fails and memory suffices, is 0 exactly if all is in order: the files are read, the stream is a valid session
-/// without a Fault at its end, and the documents are read and fit, as many as their mode takes.
+/// outside fails and memory suffices, is 0 exactly if all is in order: the files are read, the
+/// stream is a valid session without a Fault at its end, and the documents are read and fit, as
+/// many as their mode takes.
 pub fn complete_runs()
     ensures { ZeroInOrder }
 {

@@ -159,7 +159,8 @@ fn note_measure<N: Sink>(number: u64, measure: &'static str, size: u64, notes: &
 
 // Writes the note of a document that doesn't fit.
 fn note_unfit<N: Sink>(number: u64, why: EncodeFault, notes: &mut N)
-    ensures { Notes (N.view notes.old) (N.view notes.new) (input_note (InputFault.Unfit number why)) }
+    ensures { Notes (N.view notes.old) (N.view notes.new)
+        (input_note (InputFault.Unfit number why)) }
 {
     match why {
         EncodeFault::TooDeep { depth } => note_measure(number, "depth ", depth, notes),

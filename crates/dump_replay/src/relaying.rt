@@ -1,7 +1,7 @@
 //! The command `relay`, which joins the sessions of peers with sessions of a server.
 
-ghost use Rattle.std.specs.Prelude.{◌≡◌, ◌≤◌, ◌<◌, ◌⊎◌, ◌^◌, [], length, List, Some, IfErr, IfOk};
-ghost use Rattle.io_edges.specs.Faults.{CountsFaults, Rose};
+ghost use Rattle.std.specs.Prelude.{◌≡◌, ◌≤◌, ◌<◌, ◌⊎◌, [], length, List, Some, IfErr, IfOk};
+ghost use Rattle.io_edges.specs.Faults.{CountsFaults};
 ghost use Rattle.io_edges.specs.Files.{Tells};
 ghost use Rattle.string_tables.specs.StaticStrings.{Entry};
 ghost use Rattle.stream_loop.specs.Edges.{Input, input_at};

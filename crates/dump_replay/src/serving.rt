@@ -56,7 +56,8 @@ pub fn serve_wire<R: Threads + Wait + Sync, F: Shelf, O: Sink, N: Sink, W: Wire>
         (λ text. Notes (N.view notes.old) (N.view notes.new) text
         × (text ≡ [] → notes.new ≡ notes.old)) (input_at W.Reader.left W.Reader.taken
         W.Reader.faults W.Reader.empty_takes) W.Writer.view connections (serving_of serving.entry)
-        statics.now (two_of quotas.now) (seen (shelf_at F.files F.faults shelf.old) i (O.view output)
+        statics.now (two_of quotas.now) (seen
+        (shelf_at F.files F.faults shelf.old) i (O.view output)
         (network_at W.waiting W.closed W.out W.faults W.end_faults wire.old)) (seen
         (shelf_at F.files F.faults shelf.new) i (O.view result.1)
         (network_at W.waiting W.closed W.out W.faults W.end_faults wire.new)) result.0

@@ -1,8 +1,7 @@
-use Rattle.std.proofs.Common.{◌≡◌, ℕ, List, Err, Option, refl, ap, subst, inl, arith}
-use Rattle.{nbfx_values.specs.QuotasOf.limits_of, io_edges.specs.Views.SinkView}
-use Rattle.{stream_reader.specs.Sides.endpoint_of, string_tables.specs.StaticStrings.Entry}
+use Rattle.std.proofs.Common.{◌≡◌, ℕ, List, Err, Option, refl, ap, subst, inl}
+use Rattle.{nbfx_values.specs.QuotasOf.limits_of, stream_reader.specs.Sides.endpoint_of}
 use Rattle.relay.specs.{Connections.Ends, Connections.RelaysAll, Relayed.Relay}
-use Rattle.dump_replay.specs.Relaying.{Joined, sides_seen}
+use Rattle.dump_replay.specs.Relaying.{sides_seen}
 use Rattle.dump_replay.proofs.RelayEnds.{relay_out, relays_less, wire_counted}
 use Rattle.dump_replay.proofs.Seen.{input_by, network_by, output_by}
 use Rattle.dump_replay.proofs.Works.{relay_counts}

@@ -20,7 +20,8 @@ returns-in_default g c =
     let x = settings_for c.args.origin c.args.statics.now (two_of c.args.quotas.now) in
     let i = input_by g.I.Source c.args.input.now in
     let o = output_by g.O.Sink c.args.output in
-    reports_by c.args.detail x (good_for c.args.origin c.args.quotas.now) i i o o Open endings.Memory
+    reports_by c.args.detail x (good_for c.args.origin c.args.quotas.now) i i o o Open
+    endings.Memory
     (not_begun (stream x) (lines_of c.args.detail) i o o.held ends x.limits.session
     (ends_within x (good_for c.args.origin c.args.quotas.now)) Open)
 
@@ -29,7 +30,8 @@ returns-in_default-gathering_room g c =
     let x = settings_for c.args.origin c.args.statics.now (two_of c.args.quotas.now) in
     let i = input_by g.I.Source c.args.input.now in
     let o = output_by g.O.Sink c.args.output in
-    reports_by c.args.detail x (good_for c.args.origin c.args.quotas.now) i i o o Open endings.Memory
+    reports_by c.args.detail x (good_for c.args.origin c.args.quotas.now) i i o o Open
+    endings.Memory
     (not_begun (stream x) (lines_of c.args.detail) i o o.held ends x.limits.session
     (ends_within x (good_for c.args.origin c.args.quotas.now)) Open)
 
@@ -71,4 +73,5 @@ returns g c =
     let by_lines = subst (λ (t : Teller Outcome StreamEvent Offence). EndsAs
     (stream x) t i i' o o' end ending) written by_settings in
     rw c.status.ensures
-    (reports_by c.args.detail x (good_for c.args.origin c.args.quotas.now) i i' o o' end ending by_lines)
+    (reports_by c.args.detail x (good_for c.args.origin c.args.quotas.now) i i' o o' end ending
+    by_lines)

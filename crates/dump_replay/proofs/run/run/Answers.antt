@@ -61,64 +61,75 @@ rehearse_input-ending-requires-clause-named g c =
 
 pub returns-in-Rehearse-clause-statuses : goal.returns-in-Rehearse-clause-statuses
 returns-in-Rehearse-clause-statuses g c =
+    let e = c.rehearse_input-ending in let s = c.rehearse_status in
     (rehearsal_left (rehearsal_of c.in-Rehearse.asked) (input_by g.I.Source c.args.input)
-    (input_by g.I.Source c.rehearse_input-ending.new.input) (output_by g.O.Sink c.args.output)
-    (output_by g.O.Sink c.rehearse_input-ending.result.1) c.rehearse_input-ending.result.0 c.rehearse_input-ending.ensures c.rehearse_status.result
-    c.rehearse_status.ensures (shelf_by g.F.Shelf c.args.shelf.now) (network_by g.W.Wire c.args.wire.now)).is_status
+    (input_by g.I.Source e.new.input) (output_by g.O.Sink c.args.output)
+    (output_by g.O.Sink e.result.1) e.result.0 e.ensures s.result s.ensures
+    (shelf_by g.F.Shelf c.args.shelf.now) (network_by g.W.Wire c.args.wire.now)).is_status
 
 pub returns-in-Rehearse-clause-words : goal.returns-in-Rehearse-clause-words
 returns-in-Rehearse-clause-words g c =
-    λ two. absurd ((rehearsal_left (rehearsal_of c.in-Rehearse.asked) (input_by g.I.Source c.args.input)
-    (input_by g.I.Source c.rehearse_input-ending.new.input) (output_by g.O.Sink c.args.output)
-    (output_by g.O.Sink c.rehearse_input-ending.result.1) c.rehearse_input-ending.result.0 c.rehearse_input-ending.ensures c.rehearse_status.result
-    c.rehearse_status.ensures (shelf_by g.F.Shelf c.args.shelf.now) (network_by g.W.Wire c.args.wire.now)).not_two two)
+    let e = c.rehearse_input-ending in let s = c.rehearse_status in
+    λ two. absurd ((rehearsal_left (rehearsal_of c.in-Rehearse.asked)
+    (input_by g.I.Source c.args.input)
+    (input_by g.I.Source e.new.input) (output_by g.O.Sink c.args.output)
+    (output_by g.O.Sink e.result.1) e.result.0 e.ensures s.result s.ensures
+    (shelf_by g.F.Shelf c.args.shelf.now) (network_by g.W.Wire c.args.wire.now)).not_two two)
 
 pub returns-in-Rehearse-clause-untouched : goal.returns-in-Rehearse-clause-untouched
 returns-in-Rehearse-clause-untouched g c =
-    λ two. absurd ((rehearsal_left (rehearsal_of c.in-Rehearse.asked) (input_by g.I.Source c.args.input)
-    (input_by g.I.Source c.rehearse_input-ending.new.input) (output_by g.O.Sink c.args.output)
-    (output_by g.O.Sink c.rehearse_input-ending.result.1) c.rehearse_input-ending.result.0 c.rehearse_input-ending.ensures c.rehearse_status.result
-    c.rehearse_status.ensures (shelf_by g.F.Shelf c.args.shelf.now) (network_by g.W.Wire c.args.wire.now)).not_two two)
+    let e = c.rehearse_input-ending in let s = c.rehearse_status in
+    λ two. absurd ((rehearsal_left (rehearsal_of c.in-Rehearse.asked)
+    (input_by g.I.Source c.args.input)
+    (input_by g.I.Source e.new.input) (output_by g.O.Sink c.args.output)
+    (output_by g.O.Sink e.result.1) e.result.0 e.ensures s.result s.ensures
+    (shelf_by g.F.Shelf c.args.shelf.now) (network_by g.W.Wire c.args.wire.now)).not_two two)
 
 pub returns-in-Rehearse-clause-one_empty_take : goal.returns-in-Rehearse-clause-one_empty_take
 returns-in-Rehearse-clause-one_empty_take g c =
+    let e = c.rehearse_input-ending in let s = c.rehearse_status in
     (rehearsal_left (rehearsal_of c.in-Rehearse.asked) (input_by g.I.Source c.args.input)
-    (input_by g.I.Source c.rehearse_input-ending.new.input) (output_by g.O.Sink c.args.output)
-    (output_by g.O.Sink c.rehearse_input-ending.result.1) c.rehearse_input-ending.result.0 c.rehearse_input-ending.ensures c.rehearse_status.result
-    c.rehearse_status.ensures (shelf_by g.F.Shelf c.args.shelf.now) (network_by g.W.Wire c.args.wire.now)).one_empty_take
+    (input_by g.I.Source e.new.input) (output_by g.O.Sink c.args.output)
+    (output_by g.O.Sink e.result.1) e.result.0 e.ensures s.result s.ensures
+    (shelf_by g.F.Shelf c.args.shelf.now) (network_by g.W.Wire c.args.wire.now)).one_empty_take
 
 pub returns-in-Rehearse-clause-read_fault : goal.returns-in-Rehearse-clause-read_fault
 returns-in-Rehearse-clause-read_fault g c =
+    let e = c.rehearse_input-ending in let s = c.rehearse_status in
     (rehearsal_left (rehearsal_of c.in-Rehearse.asked) (input_by g.I.Source c.args.input)
-    (input_by g.I.Source c.rehearse_input-ending.new.input) (output_by g.O.Sink c.args.output)
-    (output_by g.O.Sink c.rehearse_input-ending.result.1) c.rehearse_input-ending.result.0 c.rehearse_input-ending.ensures c.rehearse_status.result
-    c.rehearse_status.ensures (shelf_by g.F.Shelf c.args.shelf.now) (network_by g.W.Wire c.args.wire.now)).read_fault
+    (input_by g.I.Source e.new.input) (output_by g.O.Sink c.args.output)
+    (output_by g.O.Sink e.result.1) e.result.0 e.ensures s.result s.ensures
+    (shelf_by g.F.Shelf c.args.shelf.now) (network_by g.W.Wire c.args.wire.now)).read_fault
 
 pub returns-in-Rehearse-clause-write_fault : goal.returns-in-Rehearse-clause-write_fault
 returns-in-Rehearse-clause-write_fault g c =
+    let e = c.rehearse_input-ending in let s = c.rehearse_status in
     (rehearsal_left (rehearsal_of c.in-Rehearse.asked) (input_by g.I.Source c.args.input)
-    (input_by g.I.Source c.rehearse_input-ending.new.input) (output_by g.O.Sink c.args.output)
-    (output_by g.O.Sink c.rehearse_input-ending.result.1) c.rehearse_input-ending.result.0 c.rehearse_input-ending.ensures c.rehearse_status.result
-    c.rehearse_status.ensures (shelf_by g.F.Shelf c.args.shelf.now) (network_by g.W.Wire c.args.wire.now)).write_fault
+    (input_by g.I.Source e.new.input) (output_by g.O.Sink c.args.output)
+    (output_by g.O.Sink e.result.1) e.result.0 e.ensures s.result s.ensures
+    (shelf_by g.F.Shelf c.args.shelf.now) (network_by g.W.Wire c.args.wire.now)).write_fault
 
 pub returns-in-Rehearse-clause-input_faults : goal.returns-in-Rehearse-clause-input_faults
 returns-in-Rehearse-clause-input_faults g c =
+    let e = c.rehearse_input-ending in let s = c.rehearse_status in
     (rehearsal_left (rehearsal_of c.in-Rehearse.asked) (input_by g.I.Source c.args.input)
-    (input_by g.I.Source c.rehearse_input-ending.new.input) (output_by g.O.Sink c.args.output)
-    (output_by g.O.Sink c.rehearse_input-ending.result.1) c.rehearse_input-ending.result.0 c.rehearse_input-ending.ensures c.rehearse_status.result
-    c.rehearse_status.ensures (shelf_by g.F.Shelf c.args.shelf.now) (network_by g.W.Wire c.args.wire.now)).reads
+    (input_by g.I.Source e.new.input) (output_by g.O.Sink c.args.output)
+    (output_by g.O.Sink e.result.1) e.result.0 e.ensures s.result s.ensures
+    (shelf_by g.F.Shelf c.args.shelf.now) (network_by g.W.Wire c.args.wire.now)).reads
 
 pub returns-in-Rehearse-clause-output_faults : goal.returns-in-Rehearse-clause-output_faults
 returns-in-Rehearse-clause-output_faults g c =
+    let e = c.rehearse_input-ending in let s = c.rehearse_status in
     (rehearsal_left (rehearsal_of c.in-Rehearse.asked) (input_by g.I.Source c.args.input)
-    (input_by g.I.Source c.rehearse_input-ending.new.input) (output_by g.O.Sink c.args.output)
-    (output_by g.O.Sink c.rehearse_input-ending.result.1) c.rehearse_input-ending.result.0 c.rehearse_input-ending.ensures c.rehearse_status.result
-    c.rehearse_status.ensures (shelf_by g.F.Shelf c.args.shelf.now) (network_by g.W.Wire c.args.wire.now)).writes
+    (input_by g.I.Source e.new.input) (output_by g.O.Sink c.args.output)
+    (output_by g.O.Sink e.result.1) e.result.0 e.ensures s.result s.ensures
+    (shelf_by g.F.Shelf c.args.shelf.now) (network_by g.W.Wire c.args.wire.now)).writes
 
 pub returns-in-Rehearse-clause-wire_fault : goal.returns-in-Rehearse-clause-wire_fault
 returns-in-Rehearse-clause-wire_fault g c =
     record {
-      rose = λ eight. absurd (not_eight c.rehearse_input-ending.result.0 (sym c.rehearse_status.ensures ∙ eight));
+      rose = λ eight. absurd (not_eight c.rehearse_input-ending.result.0
+          (sym c.rehearse_status.ensures ∙ eight));
       same = λ e. refl;
       grows = omega arith;
     }
@@ -142,13 +153,14 @@ returns-in-Rehearse-clause-runs g c =
 pub returns-in-Rehearse-clause-complete : goal.returns-in-Rehearse-clause-complete
 returns-in-Rehearse-clause-complete g c =
     completes (Says g.N.Sink c.args.notes.now c.note_rehearsal.new.notes)
-    ((c.rehearse_input-ending.new.input ≡ c.args.input) × (c.rehearse_input-ending.result.1 ≡ c.args.output)
-    × (c.args.wire.now ≡ c.args.wire.now)) (input_by g.W.Reader.Source) (output_by g.W.Writer.Sink)
+    ((c.rehearse_input-ending.new.input ≡ c.args.input)
+    × (c.rehearse_input-ending.result.1 ≡ c.args.output) × (c.args.wire.now ≡ c.args.wire.now))
+    (input_by g.W.Reader.Source) (output_by g.W.Writer.Sink)
     (c.args.shelf.now ≡ c.args.shelf.now) (c.args.wire.now ≡ c.args.wire.now)
     (map string_bytes c.args.words.now)
     (all g c.args.shelf.now c.args.input c.args.output c.args.wire.now)
-    (all g c.args.shelf.now c.rehearse_input-ending.new.input c.rehearse_input-ending.result.1 c.args.wire.now)
-    c.rehearse_status.result (returns-in-Rehearse-clause-runs g c)
+    (all g c.args.shelf.now c.rehearse_input-ending.new.input c.rehearse_input-ending.result.1
+    c.args.wire.now) c.rehearse_status.result (returns-in-Rehearse-clause-runs g c)
 
 -- the file isn't read
 pub returns-in-Err-read_statics-clause-runs : goal.returns-in-Err-read_statics-clause-runs
@@ -213,8 +225,9 @@ module _ (g : Over) (c : After-drop-table-inside-5 g) where
 
   abbrev Done : SeenShelf → Type 0
   Done s = Works (Says g.N.Sink c.args.notes.now c.work-status.new.notes) Untouched
-      (input_by g.W.Reader.Source) (output_by g.W.Writer.Sink) (session_of c.in-Sessions.request).task
-      c.in-Ok-read_statics.table (session_of c.in-Sessions.request).limits
+      (input_by g.W.Reader.Source) (output_by g.W.Writer.Sink)
+      (session_of c.in-Sessions.request).task c.in-Ok-read_statics.table
+      (session_of c.in-Sessions.request).limits
       (seen s (input_by g.I.Source c.args.input) (output_by g.O.Sink c.args.output)
       (network_by g.W.Wire c.args.wire.now)) new c.work-status.result.0
 
