@@ -19,16 +19,12 @@ use std::process;
 use std::test::Fail;
 
 #[test]
-fn documents_are_answered_and_carried(rt: HostRuntime) -> Result<(), Fail> {
+fn records_and_documents_are_read_answered_and_sent(rt: HostRuntime) -> Result<(), Fail> {
     answers::a_request_that_is_kept_is_answered(&rt)?;
     answers::services_that_echo_reply(&rt)?;
     envelopes::a_reply_is_made(&rt)?;
     envelopes::a_body_is_copied(&rt)?;
-    carried::a_document_is_carried(&rt)
-}
-
-#[test]
-fn records_and_lines_are_read_and_sent(rt: HostRuntime) -> Result<(), Fail> {
+    carried::a_document_is_carried(&rt)?;
     records::nodes_are_written(&rt)?;
     records::an_array_is_read_and_copied(&rt)?;
     senders::one_message_and_its_end(&rt)?;
@@ -38,21 +34,13 @@ fn records_and_lines_are_read_and_sent(rt: HostRuntime) -> Result<(), Fail> {
 }
 
 #[test]
-fn documents_are_sent_to_a_peer(rt: HostRuntime) -> Result<(), Fail> {
+fn documents_go_to_a_peer_and_through_a_sequence(rt: HostRuntime) -> Result<(), Fail> {
     called::documents_are_sent_to_a_peer_that_accepts(&rt)?;
     lanes::documents_of_both_lists_are_sent(&rt)?;
     lanes::the_first_list_may_be_empty(&rt)?;
-    lanes::a_failed_write_ends_the_writing_alone(&rt)
-}
-
-#[test]
-fn requests_are_served(rt: HostRuntime) -> Result<(), Fail> {
+    lanes::a_failed_write_ends_the_writing_alone(&rt)?;
     served::a_fault_goes_in_place_of_an_answer_that_does_not_fit(&rt)?;
-    served::two_threads_write_what_one_does(&rt)
-}
-
-#[test]
-fn bodies_go_through_a_sequence(rt: HostRuntime) -> Result<(), Fail> {
+    served::two_threads_write_what_one_does(&rt)?;
     sequences::what_comes_is_taken_or_refused(&rt)?;
     sequences::bodies_are_submitted_or_refused(&rt)?;
     sequences::a_body_goes_through_a_world(&rt)
@@ -66,17 +54,13 @@ fn many_texts_are_found(rt: HostRuntime) -> Result<(), Fail> {
 }
 
 #[test]
-fn real_files_are_written_and_read(rt: HostRuntime) -> Result<(), Fail> {
-    edges::a_real_file_is_written_and_read(rt, process::id(rt.process()))?;
-    edges::a_folder_and_a_full_device_fail(rt)
-}
-
-#[test]
-fn readers_and_writers_that_fail_are_asked_once(rt: HostRuntime) -> Result<(), Fail> {
+fn readers_and_writers_move_bytes_once(rt: HostRuntime) -> Result<(), Fail> {
     edges::a_write_that_takes_nothing_fails_the_put(&rt);
     edges::a_read_that_fails_is_one_take(&rt);
     edges::a_write_that_fails_ends_the_put(&rt);
     edges::a_flush_reaches_the_writer(&rt);
     edges::puts_behind_the_end_fail(&rt);
-    edges::sure_ends_move_all(&rt)
+    edges::sure_ends_move_all(&rt)?;
+    edges::a_real_file_is_written_and_read(rt, process::id(rt.process()))?;
+    edges::a_folder_and_a_full_device_fail(rt)
 }

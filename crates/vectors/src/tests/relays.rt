@@ -5,7 +5,7 @@ use super::two_ways::WITHOUT_STRINGS;
 use super::*;
 
 // The preambles of the sessions that are opened.
-const TO_BACK: &[u8] = b"\x00\x01\x00\x01\x02\x02\x0Dnet.tcp://h/b\x03\x08\x0C";
+pub const TO_BACK: &[u8] = b"\x00\x01\x00\x01\x02\x02\x0Dnet.tcp://h/b\x03\x08\x0C";
 
 const ONE_WAY: &[u8] = b"\x00\x01\x00\x01\x03\x02\x0Dnet.tcp://h/e\x03\x08\x0C";
 
@@ -167,6 +167,21 @@ const UNJOINED: &[Row] = &[
         ..RELAY
     },
     Row {
+        name: "a back that ends by a Fault: what came before is carried",
+        peers: &[
+            Peer {
+                got: Some(&[ACK, CALL, DOCUMENT]),
+                ..FRONT
+            },
+            Peer {
+                sends: &[ACK, CALL, DOCUMENT, b"\x08\x04oops"],
+                ..BACK
+            },
+        ],
+        output: &[b"relay 0 forward 1 ended backward 1 fault\n"],
+        ..RELAY
+    },
+    Row {
         name: "a Via that is not served",
         options: "--connections=1 --endpoint=net.tcp://h/z",
         peers: &[
@@ -246,6 +261,70 @@ const UNJOINED: &[Row] = &[
     },
 ];
 
+// The wire of a side that fails at its first read or write.
+const BROKEN: &[Row] = &[
+    Row {
+        name: "a front that is not read",
+        peers: &[
+            Peer {
+                read: Some(0),
+                got: Some(&[]),
+                ..FRONT
+            },
+            UNSENT,
+        ],
+        output: &[b"relay 0 forward 0 read-fault backward 0 not-opened\n"],
+        ..RELAY
+    },
+    Row {
+        name: "a back that is not written to: the front gets no Ack",
+        peers: &[
+            Peer {
+                got: Some(&[]),
+                ..FRONT
+            },
+            Peer {
+                write: Some(0),
+                ..UNSENT
+            },
+        ],
+        output: &[b"relay 0 forward 0 write-fault backward 0 not-opened\n"],
+        ..RELAY
+    },
+    Row {
+        name: "a back that is not read: the front gets no Ack",
+        peers: &[
+            Peer {
+                got: Some(&[]),
+                ..FRONT
+            },
+            Peer {
+                read: Some(0),
+                got: Some(&[TO_BACK]),
+                ..BACK
+            },
+        ],
+        output: &[b"relay 0 forward 0 not-opened backward 0 read-fault\n"],
+        ..RELAY
+    },
+    Row {
+        name: "a front whose Ack is not written: nothing is carried",
+        peers: &[
+            Peer {
+                write: Some(0),
+                got: Some(&[]),
+                ..FRONT
+            },
+            Peer {
+                got: Some(&[TO_BACK]),
+                ..BACK
+            },
+        ],
+        output: &[b"relay 0 forward 0 not-opened backward 0 write-fault\n"],
+        ..RELAY
+    },
+];
+
 fn relayed_rows() -> &'static [Row] {
     RELAYED
 }
@@ -254,9 +333,14 @@ fn unjoined_rows() -> &'static [Row] {
     UNJOINED
 }
 
+fn broken_rows() -> &'static [Row] {
+    BROKEN
+}
+
 pub fn assert_all(
     rt: &(impl Abort + AllocGlobal + Threads + Wait + Sync),
 ) -> Result<(), AllocError> {
     assert_rows(rt, relayed_rows())?;
-    assert_rows(rt, unjoined_rows())
+    assert_rows(rt, unjoined_rows())?;
+    assert_rows(rt, broken_rows())
 }

@@ -1,4 +1,5 @@
 // A session whose two ends meet only where its requests are read while its answers are written.
+use super::relays::TO_BACK;
 use super::replays::TWO_ANSWERS;
 use super::*;
 use action_dispatch::EchoService;
@@ -6,6 +7,7 @@ use duplex_server::{Inbound, Outbound, Outcome, serve_one, serve_two};
 use io_edges::{ReadSource, WriteSink};
 use nbfx_values::{Quotas, Two};
 use receiver_machine::Endpoint;
+use relay::{Pump, PumpIn, PumpOut, RelayOutcome, relay};
 use static_dictionary::StaticTable;
 use std::io::{self, Read, Write};
 use std::sync::atomic::{AtomicBool, Ordering};
@@ -47,7 +49,7 @@ impl Meeting {
     }
 }
 
-// Two calls: the first with the preamble, the second, and the session's end, one at a read.
+// Two calls and what is around them in three pieces, one at a read.
 #[derive(Drop)]
 struct Calls<'m> {
     meeting: &'m Meeting,
@@ -105,11 +107,21 @@ impl Write for Answers<'_> {
     }
 }
 
-fn calls_of(alloc: Global, meeting: &Meeting) -> Result<ReadSource<Calls<'_>>, AllocError> {
+// Each call comes by itself, and the last piece is the session's end.
+const APART: [Parts; 3] = [&[PREAMBLE, CALL, DOCUMENT], &[NEXT_CALL, DOCUMENT], &[END]];
+
+// The last piece begins with the second call.
+const BEHIND: [Parts; 3] = [&[PREAMBLE], &[CALL, DOCUMENT], &[NEXT_CALL, DOCUMENT, END]];
+
+fn calls_of<'m>(
+    alloc: Global,
+    meeting: &'m Meeting,
+    pieces: [Parts; 3],
+) -> Result<ReadSource<Calls<'m>>, AllocError> {
     let pieces = [
-        joined(alloc, &[PREAMBLE, CALL, DOCUMENT], NO_TEXT)?,
-        joined(alloc, &[NEXT_CALL, DOCUMENT], NO_TEXT)?,
-        joined(alloc, &[END], NO_TEXT)?,
+        joined(alloc, pieces[0], NO_TEXT)?,
+        joined(alloc, pieces[1], NO_TEXT)?,
+        joined(alloc, pieces[2], NO_TEXT)?,
     ];
     Ok(ReadSource::new(Calls {
         meeting,
@@ -142,7 +154,7 @@ fn served(
     is_beside: bool,
 ) -> Result<Outcome, Fail> {
     let statics = StaticTable::read(alloc, STATICS)?;
-    let mut source = calls_of(alloc, meeting)?;
+    let mut source = calls_of(alloc, meeting, APART)?;
     let mut sink = answers_of(alloc, meeting)?;
     let endpoint = Endpoint::Any;
     let quotas = Two {
@@ -173,6 +185,50 @@ fn served(
     ))
 }
 
+fn two_ended() -> Pump {
+    Pump {
+        documents: 2,
+        read: PumpIn::Ended,
+        written: PumpOut::Done,
+    }
+}
+
+// Joins the session with one of a server, whose answers are the same: the second call comes when
+// the first answer was put.
+fn assert_relayed(
+    rt: &(impl Abort + AllocGlobal + Threads + Wait + Sync),
+    alloc: Global,
+) -> Result<(), Fail> {
+    let meeting = Meeting::new();
+    let statics = StaticTable::read(alloc, STATICS)?;
+    let quotas = Two {
+        forward: Quotas::usual(),
+        back: Quotas::usual(),
+    };
+    let answers = joined(alloc, TWO_ANSWERS, NO_TEXT)?;
+    let mut back_out = sink_of(alloc, None, 0)?;
+    let outcome = relay(
+        rt,
+        alloc,
+        &mut calls_of(alloc, &meeting, BEHIND)?,
+        &mut answers_of(alloc, &meeting)?,
+        &mut source_of(alloc, &answers, 65_536, None)?,
+        &mut back_out,
+        &statics,
+        &statics,
+        &quotas,
+        &Endpoint::Any,
+        "net.tcp://h/b",
+    );
+    let (forward, backward) = (two_ended(), two_ended());
+    assert_eq!(rt; outcome, RelayOutcome { forward, backward });
+    let calls = [TO_BACK, CALL, DOCUMENT, NEXT_CALL, DOCUMENT, END];
+    let calls = joined(alloc, &calls, NO_TEXT)?;
+    assert_eq!(rt; back_out.bytes(), calls.as_slice());
+    assert_met(rt, "relayed", &meeting, true);
+    Ok(())
+}
+
 // One thread alone waits in vain.
 #[test]
 fn requests_are_read_while_answers_are_written(rt: HostRuntime) -> Result<(), Fail> {
@@ -187,7 +243,7 @@ fn requests_are_read_while_answers_are_written(rt: HostRuntime) -> Result<(), Fa
         assert_eq!(&rt; served(&rt, rt.alloc(), &meeting, is_beside)?, outcome);
         assert_met(&rt, "served", &meeting, is_beside);
     }
-    Ok(())
+    assert_relayed(&rt, rt.alloc())
 }
 
 #[test]
@@ -198,7 +254,10 @@ fn a_captured_session_is_read_while_it_is_answered(rt: HostRuntime) -> Result<()
     let mut shelf = shelf_of(alloc, &CHECK)?;
     let mut notes = sink_of(alloc, None, 0)?;
     let mut wire = wire_of(alloc, &CHECK)?;
-    let (input, output) = (calls_of(alloc, &meeting)?, answers_of(alloc, &meeting)?);
+    let (input, output) = (
+        calls_of(alloc, &meeting, APART)?,
+        answers_of(alloc, &meeting)?,
+    );
     let ran = run(
         &rt, alloc, &words, &mut shelf, input, output, &mut notes, &mut wire,
     );
