@@ -1,4 +1,4 @@
-"""Runs of the program in which one allocation fails, or one write or send.
+"""Runs of the program in which one allocation fails, or one write or send, or the first accepts.
 
 What lets it fail is a library that is loaded before the C library. It also counts what was asked
 for, and what wasn't given back.
@@ -14,10 +14,14 @@ from sockets import PROGRAM, SAMPLES, SECONDS
 AMPLE = 1_000_000
 OUT_OF_MEMORY = (5, b"out of memory\n")
 ALL_STRINGS = os.path.join(SAMPLES, "mc-nbfs.csv")
+# What the C library has for a thread it asks for in a way that isn't counted, and keeps it for the next
+# one. It would free it, which is counted, once the stacks of threads that are over take 40 MiB.
+KEPT_STACKS = "glibc.pthread.stack_cache_size=1073741824"
 # Fails the call with a number, from 1, of all that ask for memory, and writes at the end how many
 # did, and how many more gave memory than gave it back. Fails the write of the output, the send over a
 # socket, and the start of a thread, with a number, if there is one, and writes how many of each there
 # were; reads at most so many bytes at a time, or random numbers up to that by a seed, if there is one.
+# Fails so many accepts of a connection, from the first on, with this error.
 # A program that has threads ends by _exit, at which no destructor runs.
 SHIM = r"""
 #define _GNU_SOURCE
@@ -62,6 +66,16 @@ ssize_t send(int socket, const void *bytes, size_t n, int flags) {
         return -1;
     }
     return next(socket, bytes, n, flags);
+}
+int accept4(int socket, struct sockaddr *from, socklen_t *size, int flags) {
+    static int (*next)(int, struct sockaddr *, socklen_t *, int);
+    static long accepts;
+    if (!next) next = dlsym(RTLD_NEXT, "accept4");
+    if (accepts++ < told_by("FAIL_ACCEPTS")) {
+        errno = told_by("ACCEPT_ERROR");
+        return -1;
+    }
+    return next(socket, from, size, flags);
 }
 int pthread_create(pthread_t *thread, const pthread_attr_t *how, void *(*work)(void *), void *with) {
     static int (*next)(pthread_t *, const pthread_attr_t *, void *(*)(void *), void *);
@@ -178,6 +192,7 @@ class Shim:
         if os.path.exists(counts):
             os.remove(counts)
         return {
+            "GLIBC_TUNABLES": KEPT_STACKS,
             "LD_PRELOAD": self.library,
             "FAIL_ALLOCATION": str(number),
             "ALLOCATIONS": counts,

@@ -1,4 +1,4 @@
-"""What `tools/ample_memory` tries over this machine's sockets: `serve` and `call`."""
+"""What `tools/ample_memory` tries over this machine's sockets: `serve`, `pool` and `call`."""
 
 import contextlib
 import itertools
@@ -23,6 +23,10 @@ from readings import GREATEST
 from sockets import HOST, PROGRAM, connected, free_port, place, read_all
 
 
+# As many sessions as a connection may carry.
+MOST_SESSIONS = 1_024
+
+
 def small(stream):
     """The size of small pieces of a stream."""
     return 1 if len(stream) <= 20_000 else 100
@@ -36,29 +40,62 @@ def send(connection, stream, size):
         connection.shutdown(socket.SHUT_WR)
 
 
-def served(runs, streams, words=()):
-    """What `serve` sends to each of these streams, which come whole and byte by byte in turn, and
-    the lines that it prints."""
-    port, sent = free_port(), []
-    listening = ["--listen", place(port), "--connections", str(len(streams))]
-    words = ["serve", *runs.statics, *listening, *words]
+def exchanged(connection, stream, number):
+    """What a peer sends to whom sends this stream, whole where the connection's number is even, and
+    else in small pieces."""
+    size = small(stream) if number % 2 else len(stream) + 1
+    sending = threading.Thread(target=send, args=(connection, stream, size))
+    sending.start()
+    got = read_all(connection)
+    sending.join()
+    return got
+
+
+@contextlib.contextmanager
+def server_of(runs, words, lines):
+    """A server that is started with these words, and whose lines are there when it has ended."""
     server = subprocess.Popen([PROGRAM, *words], stdout=subprocess.PIPE, stderr=subprocess.PIPE)
     timer = threading.Timer(LONGEST, server.kill)
     timer.start()
-    for number, stream in enumerate(streams):
-        connection = connected(server, port)
-        if connection is None:
-            break
-        size = small(stream) if number % 2 else len(stream) + 1
-        sending = threading.Thread(target=send, args=(connection, stream, size))
-        sending.start()
-        sent.append(read_all(connection))
-        sending.join()
-        connection.close()
-    lines, note = server.communicate()
+    yield server
+    output, note = server.communicate()
     timer.cancel()
     runs.judged(Ended(server.returncode, b"", note), words, 0, ())
-    return sent, lines.decode().splitlines()
+    lines += output.decode().splitlines()
+
+
+def served(runs, streams, words=()):
+    """What `serve` sends to each of these streams, which come whole and byte by byte in turn, and
+    the lines that it prints."""
+    port, sent, lines = free_port(), [], []
+    listening = ["--listen", place(port), "--connections", str(len(streams))]
+    with server_of(runs, ["serve", *runs.statics, *listening, *words], lines) as server:
+        for number, stream in enumerate(streams):
+            connection = connected(server, port)
+            if connection is None:
+                break
+            with connection:
+                sent.append(exchanged(connection, stream, number))
+    return sent, lines
+
+
+def pooled(runs, streams, words=()):
+    """What `pool` sends to each of these streams, which come whole and at once, and the lines that it
+    prints."""
+    port, sent, lines, opened = free_port(), [], [], []
+    listening = ["--listen", place(port), "--connections", str(len(streams))]
+    with server_of(runs, ["pool", *runs.statics, *listening, *words], lines) as server:
+        while len(opened) < len(streams) and (connection := connected(server, port)):
+            stream = streams[len(opened)]
+            sending = threading.Thread(target=send, args=(connection, stream, len(stream) + 1))
+            sending.start()
+            opened.append((connection, sending))
+        # None is ended before the last one is accepted.
+        for connection, sending in opened:
+            sent.append(read_all(connection))
+            sending.join()
+            connection.close()
+    return sent, lines
 
 
 class Served(NamedTuple):
@@ -95,6 +132,10 @@ def streams_to_serve():
                 yield Served(session(payloads, mode, encoding), len(names))
         payloads = payloads_of(requests([one_document(encoding)]), encoding)
         yield Served(session(payloads, SINGLETON, encoding), 1)
+        envelope = framing.sized(payloads_of([requested(in_element())], encoding)[0])
+        for mode in (DUPLEX, SIMPLEX):
+            opening = framing.preamble(mode, encoding, by_content_type=True)
+            yield Served(opening + envelope + END, 1)
     for via in itertools.islice(all_texts(2_048), 0, None, 3):
         yield Served(session([b"\0" + in_element()], via=via), 1)
     for mode in (DUPLEX, SIMPLEX):
@@ -127,6 +168,30 @@ def serve(runs):
     """Each of many connections, which comes twice."""
     streams = [*streams_to_serve(), *refused_streams()]
     assert_served(runs, [it for it in streams for _ in range(2)])
+
+
+def assert_pooled(runs, connections, words=GREATEST):
+    """What `pool` sends on a connection is what `replay` writes of each of its sessions, of which the
+    last one may be refused, and each connection has its line."""
+    streams = [b"".join(it.stream for it in sessions) for sessions in connections]
+    sent, lines = pooled(runs, streams, words)
+    for number, sessions in enumerate(connections):
+        due = [runs.of("replay", it.stream, words, it.status, once=True) for it in sessions]
+        if sent[number : number + 1] != [b"".join(due)]:
+            raise Otherwise("connection %d gets something else than replay writes" % number)
+        counts = len(sessions), sum(it.messages for it in sessions), sum(map(envelopes_in, due))
+        ending = sessions[-1].ending.replace("ended", "done")
+        line = "connection %d sessions %d messages %d answers %d end %s" % (number, *counts, ending)
+        if lines[number : number + 1] != [line]:
+            raise Otherwise("not %s, but %s" % (line, lines[number : number + 1]))
+
+
+def pool(runs):
+    """Connections with many sessions, one behind the other, in two orders, and such that are refused
+    in their second session."""
+    streams = [*streams_to_serve()][:MOST_SESSIONS]
+    refused = [[streams[0], it] for it in refused_streams() if it.stream]
+    assert_pooled(runs, [streams, streams[::-1], *refused])
 
 
 def serve_answers(runs, folder, count):
@@ -174,7 +239,7 @@ def peer(listening, answers, size, got):
             read_all(connection)
 
 
-def called(runs, lines, answers, words, size):
+def called(runs, lines, answers, words, size, status=0):
     """What `call` prints that sends these lines to a service, and what the service got."""
     got = []
     with socket.create_server((HOST, 0)) as listening:
@@ -182,7 +247,7 @@ def called(runs, lines, answers, words, size):
         serving = threading.Thread(target=peer, args=(listening, answers, size, got))
         serving.start()
         to_peer = ["--connect", place(listening.getsockname()[1])]
-        printed = runs.of("call", lines, [*to_peer, *words], once=True)
+        printed = runs.of("call", lines, [*to_peer, *words], status, once=True)
         serving.join()
     return printed, b"".join(got)
 
@@ -195,7 +260,7 @@ def merged(first, second, tags):
 
 class Call(NamedTuple):
     """A call: its documents, those of a second file if there is one, the replies, the mode and the
-    encoding, the Via, and the quotas."""
+    encoding, the Via, the quotas, and its status."""
 
     first: list
     second: list
@@ -204,6 +269,7 @@ class Call(NamedTuple):
     encoding: int = SESSION
     via: str = "net.tcp://h/e"
     quotas: tuple = ()
+    status: int = 0
 
 
 def assert_called(runs, folder, call, size=1 << 20):
@@ -213,7 +279,8 @@ def assert_called(runs, folder, call, size=1 << 20):
     more = []
     if call.second is not None:
         more = ["--second", file_in(folder, "second.%d" % os.getpid(), b"".join(call.second))]
-    printed, got = called(runs, b"".join(call.first), call.answers, [*words, *more], size)
+    lines = b"".join(call.first)
+    printed, got = called(runs, lines, call.answers, [*words, *more], size, call.status)
     second = call.second or []
     report, _, sent = printed.rpartition(b"sent ")
     count, tags = re.fullmatch(r"(\d+) tags ([ab]+|-)\n", sent.decode()).groups()
@@ -225,7 +292,7 @@ def assert_called(runs, folder, call, size=1 << 20):
     if got != due:
         raise Otherwise("call sends something else than build writes")
     reading = ["--replies", call.mode, "--encoding", str(call.encoding), *call.quotas]
-    if report != runs.of("dump", call.answers, reading, once=True):
+    if report != runs.of("dump", call.answers, reading, call.status, once=True):
         raise Otherwise("call prints something else than dump does")
 
 
@@ -243,17 +310,38 @@ def call(runs, folder, encoding):
 DOCUMENT = b'start "" "e"\nclose\n'
 
 
+def call_greatest(runs, folder, lines, payloads):
+    """A call of the greatest documents, which come back."""
+    made = Call(lines, None, replies(payloads), encoding=PLAIN, quotas=GREATEST)
+    assert_called(runs, folder, made)
+
+
 def call_options(runs, folder):
     """Calls in each mode, to Vias of each length, and with lists that are empty."""
-    for encoding in (PLAIN, SESSION):
+    spelled_out = (PLAIN, "msbin1"), (SESSION, "msbinsession1")
+    for encoding, word in ((PLAIN, PLAIN), (SESSION, SESSION), *spelled_out):
         chunked = ACK + framing.chunked(payloads_of([in_element()], encoding)[0], 3) + END
         for mode, answers in (("duplex", replies([])), ("simplex", ACK), ("singleton", chunked)):
-            assert_called(runs, folder, Call([DOCUMENT], None, answers, mode, encoding))
-            assert_called(runs, folder, Call([], [DOCUMENT], answers, mode, encoding))
-            assert_called(runs, folder, Call([DOCUMENT], [], answers, mode, encoding))
+            assert_called(runs, folder, Call([DOCUMENT], None, answers, mode, word))
+            assert_called(runs, folder, Call([], [DOCUMENT], answers, mode, word))
+            assert_called(runs, folder, Call([DOCUMENT], [], answers, mode, word))
     for via in itertools.islice(all_texts(2_048), 0, None, 3):
         if via and b"\n" not in via:
             made = Call([DOCUMENT], None, replies([]), via=os.fsdecode(via))
+            assert_called(runs, folder, made)
+
+
+def call_endings(runs, folder):
+    """Calls whose service ends the session with a Fault, of a text of each length, and such whose
+    replies are refused."""
+    texts = itertools.islice(all_texts(2_048), 0, None, 3)
+    for mode, text in zip(itertools.cycle(("duplex", "simplex", "singleton")), texts):
+        fault = bytes([framing.FAULT]) + framing.string(text)
+        assert_called(runs, folder, Call([DOCUMENT], None, ACK + fault, mode, status=9))
+    reply, unknown = (framing.sized(it) for it in (b"\0" + in_element(), b"\0\x40\1e\xff"))
+    for refused in (b"", b"\xff", ACK, reply[:-1], unknown, b"\6\x81\x80\x80\x08"):
+        for before in (ACK, ACK + reply):
+            made = Call([DOCUMENT], [DOCUMENT], before + refused, status=1)
             assert_called(runs, folder, made)
 
 

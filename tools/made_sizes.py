@@ -13,7 +13,9 @@ ROOM = 64
 # Texts and names up to here stand in several places.
 MOST_IN_PLACES = min(MOST, 66_000)
 MOST_COUNT = 100_000 if IS_PROVED else 1_001
-MOST_DEPTH = 128
+MOST_DEPTH = 1_024 if IS_PROVED else 128
+# The greatest payload that a quota admits.
+GREATEST = 1 << (24 if IS_PROVED else 13)
 # Where integers get a byte more, and lengths of texts.
 WIDTHS = (2**14, 2**16)
 FEW_SIZES = {0, 1, 2, 127, 128, 255, 256, 999, 1_000}
@@ -118,12 +120,26 @@ def counted_values(made):
             yield "%d values of %02x" % (count, kind), in_element(array(ELEMENT, b"", kind, many))
 
 
-def deep(made):
-    """Elements in one another, with an array in the last one, of which the element is one more."""
-    for depth in range(1, MOST_DEPTH):
+def deep(made, around=0):
+    """Elements in one another, with an array in the last one, of which the element is one more; where
+    so many stand around them."""
+    most = MOST_DEPTH - around
+    for depth in (*range(1, min(most, 128)), *sizes(most - 1, 128)):
         inner = made.array_of(ELEMENT, b"")
         yield "an array in %d elements" % depth, ELEMENT * depth + inner + END * depth
-    yield "%d elements" % MOST_DEPTH, ELEMENT * MOST_DEPTH + END * MOST_DEPTH
+    yield "%d elements" % most, ELEMENT * most + END * most
+
+
+def greatest(made, around=0):
+    """A long text of each form, and an array of the longest values, each in the greatest payload, of
+    which so many bytes are something else."""
+    room = GREATEST - ROOM - around
+    for text in (it for it in made.texts if it.is_measured() and it.size == 4):
+        yield "a text record %02x of %d bytes" % (text.type, room), ELEMENT + ending(text.of_length(room))
+    kind, values = max(made.kinds, key=lambda it: len(it[1][0]))
+    count = room // len(values[0])
+    many = [values[it % len(values)] for it in range(count)]
+    yield "%d values of %02x" % (count, kind), in_element(array(ELEMENT, b"", kind, many))
 
 
 CASES = (sized_texts, sized_values, sized_strings, counted, counted_values, deep)

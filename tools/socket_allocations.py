@@ -1,5 +1,5 @@
-"""`serve` and `call` over this machine's sockets, with each allocation failing in turn, and each
-send."""
+"""`serve`, `pool` and `call` over this machine's sockets, with each allocation failing in turn, and
+each send."""
 
 import functools
 import os
@@ -8,6 +8,7 @@ import select
 import socket
 import subprocess
 import tempfile
+import threading
 
 from allocations import AMPLE, OUT_OF_MEMORY, Failing
 from sockets import HOST, PROGRAM, SECONDS, VIA
@@ -17,6 +18,11 @@ INTO_FULL_DEVICE = (4, b"", b"write fault\n")
 OUTPUT_AND_MEMORY = (5, b"", b"out of memory\n")
 BROKEN = re.compile(rb"connection \d+ messages \d+ answers \d+ in ended out write-fault\n")
 LINE = re.compile(rb"connection \d+ messages \d+ answers \d+ in (ended|memory) out (done|memory)\n")
+# The same of a pool.
+POOLED = re.compile(rb"connection \d+ sessions \d+ messages \d+ answers \d+ end (done|memory)\n")
+POOLED_BROKEN = re.compile(
+    rb"connection \d+ sessions \d+ messages \d+ answers \d+ end write-fault\n"
+)
 SENT = re.compile(rb"sent (\d+) tags ([ab]*|-)\n\Z")
 # What a peer got that waited too long. Nothing that is due begins so.
 LATE = b"nothing in time"
@@ -83,6 +89,26 @@ def serve(shim, words, streams, number, more={}, exchange=exchanged):
     return *wait_to_end(started), answers
 
 
+def pool(shim, words, streams, number, more={}, exchange=exchanged):
+    """How `pool` of a connection for each stream ends, and what answers each of them. All are open at
+    once: a pool closes none before it has accepted the last one."""
+    port, answers = free_port(), [b""] * len(streams)
+    words = ["pool", *words, "--listen", place(port), "--connections", str(len(streams))]
+    started = started_with(shim.told(number, more), words)
+
+    def ask(at, connection):
+        with connection:
+            answers[at] = exchange(connection, streams[at])
+
+    clients = []
+    while len(clients) < len(streams) and (connection := connected(started, port)):
+        clients.append(threading.Thread(target=ask, args=(len(clients), connection)))
+        clients[-1].start()
+    for client in clients:
+        client.join()
+    return *wait_to_end(started), answers
+
+
 def call(shim, words, lines, replies, number, output=subprocess.PIPE, more={}, exchange=exchanged):
     """How `call` with these lines ends, and what it sends to a service that replies so."""
     with socket.create_server((HOST, 0)) as server, tempfile.TemporaryFile() as stdin:
@@ -96,7 +122,10 @@ def call(shim, words, lines, replies, number, output=subprocess.PIPE, more={}, e
 
 def replied(server, started, replies, exchange):
     """What one client sends, which gets these replies. Without a connection it is nothing."""
-    end = os.pidfd_open(started.pid)
+    try:
+        end = os.pidfd_open(started.pid)
+    except ProcessLookupError:
+        return b""
     try:
         select.select([server, end], [], [], SECONDS)
     finally:
@@ -109,6 +138,27 @@ def replied(server, started, replies, exchange):
         return exchange(connection, replies)
 
 
+def wants_once(whole, ended, line):
+    """Whether all connections have a line, of which one at most, like this one, says that there was no
+    memory, and all others are answered in full."""
+    status, output, note, answers = ended
+    _, all_lines, _, right = whole
+    lines, due = output.splitlines(True), all_lines.splitlines(True)
+    other = [at for at, full in enumerate(due) if lines[at:at + 1] != [full]]
+    well = [at for at in range(len(due)) if at not in other]
+    return (
+        (status, note, len(lines)) == (0, b"", len(due))
+        and len(other) <= 1
+        and all(line.fullmatch(lines[at]) and b" memory" in lines[at] for at in other)
+        and all(answers[at] == right[at] for at in well)
+    )
+
+
+def are_fronts(whole, ended):
+    """Whether each client got first bytes of its answer."""
+    return all(full.startswith(answer) for full, answer in zip(whole[3], ended[3]))
+
+
 def may_serve(whole, ended):
     """Whether a server that wanted memory once may end so, where it else ends as the first does.
 
@@ -118,19 +168,22 @@ def may_serve(whole, ended):
     """
     status, output, note, answers = ended
     _, all_lines, _, right = whole
-    lines, due = output.splitlines(True), all_lines.splitlines(True)
-    if any(not full.startswith(answer) for full, answer in zip(right, answers)):
-        return False
     if (status, note) == OUT_OF_MEMORY:
-        return due[:len(lines)] == lines and answers[:len(lines)] == right[:len(lines)]
-    other = [at for at, line in enumerate(due) if lines[at:at + 1] != [line]]
-    well = [at for at in range(len(due)) if at not in other]
-    return (
-        (status, note, len(lines)) == (0, b"", len(due))
-        and len(other) <= 1
-        and all(LINE.fullmatch(lines[at]) and b" memory" in lines[at] for at in other)
-        and all(answers[at] == right[at] for at in well)
-    )
+        lines = output.splitlines(True)
+        is_well = answers[:len(lines)] == right[:len(lines)]
+        is_front = all_lines.splitlines(True)[:len(lines)] == lines
+        return are_fronts(whole, ended) and is_front and is_well
+    return are_fronts(whole, ended) and wants_once(whole, ended, LINE)
+
+
+def may_pool(whole, ended):
+    """The same of a pool: where it stopped, it accepted none, or all are answered in full and lines
+    are missing."""
+    status, output, note, answers = ended
+    if (status, note) == OUT_OF_MEMORY:
+        is_front = whole[1].startswith(output)
+        return is_front and (answers == whole[3] or not output and not any(answers))
+    return are_fronts(whole, ended) and wants_once(whole, ended, POOLED)
 
 
 def call_into_full_device(shim, words, lines, replies, number, more={}):
@@ -239,21 +292,23 @@ def call_plans(shim, folder, statics, two):
     )
 
 
-def may_serve_brokenly(whole, ended):
-    """The same where one send failed: the line of one connection says so, and its client got first
-    bytes of the answer. The others are answered in full."""
-    status, output, note, answers = ended
-    lines, due = output.splitlines(True), whole[1].splitlines(True)
-    broken = [at for at, line in enumerate(lines) if BROKEN.fullmatch(line)]
-    return (
-        (status, note, len(lines), len(broken)) == (0, b"", len(due), 1)
-        and all(
-            full.startswith(answer) and answer != full
-            if at in broken
-            else (lines[at], answer) == (due[at], full)
-            for at, (full, answer) in enumerate(zip(whole[3], answers))
+def may_break(line):
+    """The same where one send failed: the line of one connection is like this one and says so, and its
+    client got first bytes of the answer. The others are answered in full."""
+    def may_end(whole, ended):
+        status, output, note, answers = ended
+        lines, due = output.splitlines(True), whole[1].splitlines(True)
+        broken = [at for at, it in enumerate(lines) if line.fullmatch(it)]
+        return (
+            (status, note, len(lines), len(broken)) == (0, b"", len(due), 1)
+            and all(
+                full.startswith(answer) and answer != full
+                if at in broken
+                else (lines[at], answer) == (due[at], full)
+                for at, (full, answer) in enumerate(zip(whole[3], answers))
+            )
         )
-    )
+    return may_end
 
 
 def may_call_brokenly(fronts):
@@ -284,6 +339,19 @@ def plans(shim, folder, statics, stream):
     yield from call_plans(shim, folder, statics, two)
 
 
+def pool_plans(shim, statics, stream):
+    """The same of pools whose connections carry several sessions: clients that send all at once, and
+    that wait for the answers of the first session before they end it."""
+    given = two_of(statics, stream)
+    session = fronts_of(statics, ["--via=" + VIA], given)[-1]
+    replies = run(["replay"] + statics, session)[1]
+    streams = [session * 2, session, session * 3]
+    client = waiting(len(session) - 1, len(replies) - 1)
+    pooling = functools.partial(pool, shim, statics, streams)
+    yield "pool", pooling, may_pool
+    yield "pool whose clients wait", functools.partial(pooling, exchange=client), may_pool
+
+
 def sending_plans(shim, statics, stream):
     """The name of each kind of run, a run in which the send with a number fails, and whether it may
     end so, beside one in which none does."""
@@ -296,11 +364,15 @@ def sending_plans(shim, statics, stream):
     def serve_failing(number):
         return serve(shim, statics, [session] * 2, AMPLE, {"FAIL_SEND": str(number)})
 
+    def pool_failing(number):
+        return pool(shim, statics, [session * 2, session], AMPLE, {"FAIL_SEND": str(number)})
+
     def call_failing(number):
         more = {"FAIL_SEND": str(number)}
         return call(shim, words, b"".join(two), replies, AMPLE, more=more)
 
-    yield "serve with a failed send", serve_failing, may_serve_brokenly
+    yield "serve with a failed send", serve_failing, may_break(BROKEN)
+    yield "pool with a failed send", pool_failing, may_break(POOLED_BROKEN)
     yield "call with a failed send", call_failing, may_call_brokenly(fronts)
 
 
@@ -326,7 +398,7 @@ def waiting_plans(shim, statics, two):
         return lambda number: run_so(AMPLE, {"FAIL_SEND": str(number)})
 
     yield "serve whose client waits", serve_so, may_serve, tried
-    yield "serve with a failed send whose client waits", sends(serve_so), may_serve_brokenly, \
+    yield "serve with a failed send whose client waits", sends(serve_so), may_break(BROKEN), \
         tried_sending
     yield "call whose service waits", call_so, may_call(fronts), tried
     yield "call with a failed send whose service waits", sends(call_so), may_call_brokenly(fronts), \
@@ -336,8 +408,9 @@ def waiting_plans(shim, statics, two):
 def many(shim, statics, stream):
     """The name of a run of many connections, and of one of many documents, how it ends, and how
     many allocations it leaves."""
-    ended = serve(shim, statics, [stream] * 40, AMPLE)
-    yield "serve of 40 connections", ended, shim.counts().live
+    for name, run_so in ("serve", serve), ("pool", pool):
+        ended = run_so(shim, statics, [stream] * 40, AMPLE)
+        yield name + " of 40 connections", ended, shim.counts().live
     lines, words = document_of(statics, stream) * 60, ["--via=" + VIA]
     replies = run(["replay"] + statics, run(["build"] + statics + words, lines)[1])[1]
     ended = call(shim, statics + words, lines, replies, AMPLE)

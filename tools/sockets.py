@@ -3,6 +3,7 @@
 import os
 import random
 import socket
+import struct
 import subprocess
 import sys
 import time
@@ -81,6 +82,12 @@ def connected(started, port):
     return None
 
 
+def break_off(connection):
+    """Ends a connection by a reset."""
+    connection.setsockopt(socket.SOL_SOCKET, socket.SO_LINGER, struct.pack("ii", 1, 0))
+    connection.close()
+
+
 def pieces(connection):
     """What a peer sends until it ends or breaks off."""
     try:
@@ -94,11 +101,22 @@ def read_all(connection):
     return b"".join(pieces(connection))
 
 
-def serving(port, connections, words=(), **how):
-    """`serve` of so many connections at this port, just started."""
+def read_up_to(connection, size):
+    """What a peer sends, up to so many bytes: `pool` closes no connection before it has accepted the
+    last one."""
+    read = b""
+    for piece in pieces(connection):
+        read += piece
+        if len(read) >= size:
+            break
+    return read
+
+
+def serving(port, connections, words=(), command="serve", **how):
+    """`serve` or `pool` of so many connections at this port, just started."""
     words = ["--listen", place(port), "--connections", str(connections), *words]
     how = {"stdin": subprocess.DEVNULL, "stdout": subprocess.PIPE, **how}
-    return subprocess.Popen([PROGRAM, "serve", *STATICS, *words], **how)
+    return subprocess.Popen([PROGRAM, command, *STATICS, *words], **how)
 
 
 def run(words, stream=b"", output=subprocess.PIPE):
