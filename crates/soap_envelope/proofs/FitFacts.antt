@@ -37,6 +37,14 @@ needs-some limits content standing (Some found) needs e h =
     let same : found ≡ needs = cc in
     ap (λ l. self_standing (declared l) (Some 0) content) (sym same) ∙ h.0
 
+-- an element that declares nothing lacks all that it needs
+pub all-missing : (needs own : List Declaration) → own ≡ [] → missing needs own ≡ needs
+all-missing needs own none = ap (missing needs) none ∙ all needs
+  where
+    all : (ds : List Declaration) → missing ds [] ≡ ds
+    all [] = refl
+    all (d ∷ more) = ap (λ l. d ∷ l) (all more)
+
 -- a declaration counts the same in an array's element
 declared-by : (f : AttrItem → ℕ) (g : Item → ℕ)
     → ((d : Declaration) → f (attribute_of d) ≡ g (xmlns_of d)) → (ds : List Declaration)

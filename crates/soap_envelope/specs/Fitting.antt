@@ -1,11 +1,12 @@
 -- Which items and which names fit a quota on content, and which items may fit all quotas.
 use Rattle.std.specs.Prelude.{◌≡◌, ℕ, ◌+◌, ◌-◌, ◌*◌, Bool, true, false, ◌&&◌, List, length}
-use Rattle.std.specs.Prelude.{if◌then◌else◌, nat_le, Some, None, sum_by, Option}
+use Rattle.std.specs.Prelude.{if◌then◌else◌, map, nat_le, Some, None, sum_by, Option}
 use Rattle.nbfx_values.specs.{declared.content.Item.Item, Limits.Limits}
-use Rattle.nbfx_values.specs.Measures.{content_of, item_content}
+use Rattle.nbfx_values.specs.Measures.{capped, content_of, item_content}
 use Rattle.least_payloads.specs.Least.{least_of_item, may_fit}
-use Rattle.soap_envelope.specs.{Body.self_standing, declared.fitting.Measure.Measure, Qualified.Name}
-use Rattle.soap_envelope.specs.Scopes.{declared}
+use Rattle.soap_envelope.specs.{Body.self_standing, Body.xmlns_of, declared.fitting.Counted.Counted}
+use Rattle.soap_envelope.specs.{declared.fitting.Measure.Measure, Layers.kept, Qualified.Name}
+use Rattle.soap_envelope.specs.Scopes.{Declaration, declared}
 use Rattle.soap_envelope.specs.declared.fitting.Measure.TheVariants.{Content, Payload}
 
 abbrev pub fits : ℕ → List Item → Bool
@@ -35,6 +36,13 @@ item_measure Payload = least_of_item
 
 abbrev pub measure_of : Measure → List Item → ℕ
 measure_of measure = sum_by (item_measure measure)
+
+-- declarations that are counted together, by a measure
+abbrev pub counted : Counted → List Declaration
+counted needs = map kept needs.declarations.now
+
+abbrev pub IsCounted : Measure → Counted → Type 0
+IsCounted measure needs = needs.sum ≡ capped (measure_of measure (map xmlns_of (counted needs)))
 
 -- what a quota leaves behind so much, where that fits
 abbrev pub left_behind : ℕ → ℕ → Option ℕ

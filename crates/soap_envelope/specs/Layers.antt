@@ -4,7 +4,7 @@ use Rattle.std.specs.Prelude.{Option}
 use Rattle.std.specs.BTreeMap.{BTreeMap, get_by}
 use Rattle.std.specs.{Cmp.Lexicographic.slice_cmp, Global.Vec, Ordering.nat_cmp}
 use denote.Ref.{Bor}
-use Rattle.soap_envelope.specs.declared.layers.Declared.{Declared}
+use Rattle.soap_envelope.specs.declared.{layers.Declared.Declared, ring.Need.Need}
 use Rattle.soap_envelope.specs.Scopes.{Declaration, declaration}
 
 abbrev pub kept : Declared → Declaration
@@ -12,6 +12,10 @@ kept d = declaration d.prefix.now d.uri.now
 
 abbrev pub layer_of : Vec Declared → List Declaration
 layer_of v = map kept v.items
+
+-- those that children of Body need
+abbrev pub needs_of : List Need → List Declaration
+needs_of needs = map (λ (n : Need). declaration n.prefix.now n.uri.now) needs
 
 -- the entries of a map from prefixes to namespaces
 abbrev pub shown : BTreeMap (Bor (List ℕ)) (Bor (List ℕ)) → List Declaration

@@ -1,11 +1,11 @@
 // The content of Body, so that it means the same in any other place.
-ghost use Rattle.std.specs.Prelude.{◌≡◌, ◌+◌, [], IfOk, List, OnOk, Some, drop, map, true};
+ghost use Rattle.std.specs.Prelude.{◌≡◌, ◌+◌, [], IfOk, List, OnOk, Some, drop, is_none, map, true};
 ghost use Rattle.nbfx_values.specs.QuotasOf.{limits_of};
 ghost use Rattle.soap_envelope.specs.Body as spec;
 ghost use Rattle.soap_envelope.specs.Fitting.{AreNeeds, fitting};
 ghost use Rattle.soap_envelope.specs.Layers.{kept, layer_of, shown};
 ghost use Rattle.soap_envelope.specs.Parts.{root_scope};
-ghost use Rattle.soap_envelope.specs.Scopes.{Declaration, within};
+ghost use Rattle.soap_envelope.specs.Scopes.{Declaration, uri_in, within};
 
 use crate::bindings::Bindings;
 use crate::children::{behind, open_behind};
@@ -88,10 +88,10 @@ fn needed_at<'d>(
 }
 
 // Whether an element doesn't declare a prefix itself.
-pub(crate) fn is_missing(own: &Bindings<'_>, one: &Declared<'_>) -> bool
-    ensures { result ≡ spec.is_missing own.now (kept one.now) }
+pub(crate) fn is_missing(own: &Bindings<'_>, prefix: &str) -> bool
+    ensures { result ≡ is_none (uri_in own.now prefix.now) }
 {
-    own.uri_of(one.prefix).is_none()
+    own.uri_of(prefix).is_none()
 }
 
 // What stands behind the declarations and attributes at the head of items.

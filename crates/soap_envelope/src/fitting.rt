@@ -7,7 +7,7 @@ ghost use Rattle.nbfx_values.specs.QuotasOf.{limits_of};
 ghost use Rattle.least_payloads.specs.Least.{may_fit};
 ghost use Rattle.soap_envelope.specs.Body as body;
 ghost use Rattle.soap_envelope.specs.Body.{missing, xmlns_of};
-ghost use Rattle.soap_envelope.specs.Fitting.{item_measure, left_behind, measure_of};
+ghost use Rattle.soap_envelope.specs.Fitting.{IsCounted, counted, item_measure, left_behind, measure_of};
 ghost use Rattle.soap_envelope.specs.Layers.{kept};
 
 use crate::bindings::Bindings;
@@ -49,19 +49,43 @@ fn measure_of_item(measure: Measure, item: &Item) -> u64
     }
 }
 
+// How much declarations count, up to 2^64 - 1.
+fn sum_of(measure: Measure, declarations: &[Declared<'_>]) -> u64
+    ensures { result ≡ capped (measure_of measure (map xmlns_of (map kept declarations.now))) }
+{
+    let mut sum: u64 = 0;
+    for one in declarations {
+        sum = sum.saturating_add(measure_of_declaration(measure, one));
+    }
+    sum
+}
+
+// The declarations that children of Body need, and how much all of them count, which is what a
+// child costs that has none itself.
+#[derive(Drop)]
+pub(crate) struct Counted<'n> {
+    declarations: &'n [Declared<'n>],
+    sum: u64,
+}
+
 // What is left of the quotas after the declarations that an element needs and doesn't have itself.
 fn left_by_missing(
     measure: Measure,
     left: u64,
-    needs: &[Declared<'_>],
+    needs: &Counted<'_>,
     own: &Bindings<'_>,
 ) -> Option<u64>
+    requires few { left < 2 ^ 32 }
+    requires sum { IsCounted measure needs.now }
     ensures { result ≡ left_behind left
-        (measure_of measure (map xmlns_of (missing (map kept needs.now) own.now))) }
+        (measure_of measure (map xmlns_of (missing (counted needs.now) own.now))) }
 {
+    if own.len() == 0 {
+        return left.checked_sub(needs.sum);
+    }
     let mut left = left;
-    for one in needs {
-        if is_missing(own, one) {
+    for one in needs.declarations {
+        if is_missing(own, one.prefix) {
             left = left.checked_sub(measure_of_declaration(measure, one))?;
         }
     }
@@ -82,13 +106,14 @@ fn left_by_child(
     alloc: Global,
     measure: Measure,
     left: u64,
-    needs: &[Declared<'_>],
+    needs: &Counted<'_>,
     item: &Item,
     more: &[Item],
 ) -> Result<Option<u64>, Memory>
-    requires { left < 2 ^ 32 }
+    requires few { left < 2 ^ 32 }
+    requires sum { IsCounted measure needs.now }
     ensures { IfOk result (λ behind. behind ≡ left_behind left
-        (measure_of measure (body.child_items (map kept needs.now) item.now more.now))) }
+        (measure_of measure (body.child_items (counted needs.now) item.now more.now))) }
 {
     let Some(left) = left_by_item(measure, left, item) else {
         return Ok(None);
@@ -106,14 +131,15 @@ fn left_by(
     alloc: Global,
     measure: Measure,
     left: u64,
-    needs: &[Declared<'_>],
+    needs: &Counted<'_>,
     inner: usize,
     item: &Item,
     more: &[Item],
 ) -> Result<Option<u64>, Memory>
-    requires { left < 2 ^ 32 }
+    requires few { left < 2 ^ 32 }
+    requires sum { IsCounted measure needs.now }
     ensures { IfOk result (λ behind. behind ≡ left_behind left
-        (measure_of measure (body.standing_items (map kept needs.now) inner item.now more.now))) }
+        (measure_of measure (body.standing_items (counted needs.now) inner item.now more.now))) }
 {
     if inner == 0 {
         left_by_child(alloc, measure, left, needs, item, more)
@@ -134,13 +160,17 @@ fn measure_fits(
     ensures { IfOk result (λ fit. fit ≡ nat_le
         (measure_of measure (body.self_standing (map kept needs.now) (Some 0) items.now)) most) }
 {
+    let counted = Counted {
+        declarations: needs,
+        sum: sum_of(measure, needs),
+    };
     let mut left = most as u64;
     let mut inner = 0;
     for (i, item) in items.iter().enumerate() {
         let Some(open) = open_behind(inner, item) else {
             return Ok(true);
         };
-        match left_by(alloc, measure, left, needs, inner, item, &items[i + 1..])? {
+        match left_by(alloc, measure, left, &counted, inner, item, &items[i + 1..])? {
             Some(behind) => left = behind,
             None => return Ok(false),
         }

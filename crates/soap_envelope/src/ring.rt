@@ -1,11 +1,11 @@
 // The content of Body with the declarations that its children need, by the items themselves: they
 // aren't copied.
-ghost use Rattle.std.specs.Prelude.{◌≡◌, ◌+◌, ◌<◌, ◌^◌, ◌∷◌, ◌++◌, [], IfOk, IfSome, OnOk, Some, map, take, true};
+ghost use Rattle.std.specs.Prelude.{◌≡◌, ◌+◌, ◌<◌, ◌^◌, ◌∷◌, ◌++◌, [], ℕ, IfOk, IfSome, OnOk, Some, map, take, true};
 ghost use Rattle.nbfx_values.specs.QuotasOf.{limits_of};
 ghost use Rattle.least_payloads.specs.Least.{may_fit};
 ghost use Rattle.soap_envelope.specs.Body as spec;
 ghost use Rattle.soap_envelope.specs.Body.{attribute_of, missing, xmlns_of};
-ghost use Rattle.soap_envelope.specs.Layers.{kept, layer_of};
+ghost use Rattle.soap_envelope.specs.Layers.{kept, layer_of, needs_of};
 ghost use Rattle.soap_envelope.specs.Scopes as scope;
 
 use crate::bindings::Bindings;
@@ -13,25 +13,33 @@ use crate::body::is_missing;
 use crate::children::open_behind;
 use crate::layers::Declared;
 use crate::moving::put_moved;
-use crate::scopes::{declarations_in, declared_on};
-use nbfx_values::{ArrayItem, AttrItem, Attrs, Item, Items, Quotas, Txt};
+use crate::puts::put_xmlns;
+use crate::scopes::declared_on;
+use nbfx_values::{ArrayItem, AttrItem, Attrs, Copied, Item, Items, Quotas, Txt};
 use std::alloc::Global;
 use std::collections::VecDeque;
 use std::mem;
 use unit_streams::Memory;
 
+// A declaration that children of Body need, by the texts of its item, which are copied as they lie.
+#[derive(Clone, Copy)]
+struct Need<'n> {
+    prefix: &'n Txt,
+    uri: &'n Txt,
+}
+
 // The declarations that an element needs and hasn't itself.
 fn missing_of<'n>(
     alloc: Global,
-    needs: &[Declared<'n>],
+    needs: &[Need<'n>],
     own: &Bindings<'_>,
-) -> Result<Vec<Declared<'n>>, Memory>
+) -> Result<Vec<Need<'n>>, Memory>
     ensures { IfOk result
-        (λ lacking. layer_of lacking ≡ missing (map kept needs.now) own.now) }
+        (λ lacking. needs_of lacking.items ≡ missing (needs_of needs.now) own.now) }
 {
     let mut lacking = Vec::new(alloc);
     for one in needs {
-        if is_missing(own, one) {
+        if is_missing(own, one.prefix.as_str()) {
             lacking.push(*one)?;
         }
     }
@@ -41,26 +49,25 @@ fn missing_of<'n>(
 // The same of an array's element with these attributes.
 fn missing_on<'n>(
     alloc: Global,
-    needs: &[Declared<'n>],
+    needs: &[Need<'n>],
     attributes: &[AttrItem],
-) -> Result<Vec<Declared<'n>>, Memory>
-    ensures { IfOk result (λ lacking. layer_of lacking
-        ≡ missing (map kept needs.now) (scope.declared_on attributes.now)) }
+) -> Result<Vec<Need<'n>>, Memory>
+    ensures { IfOk result (λ lacking. needs_of lacking.items
+        ≡ missing (needs_of needs.now) (scope.declared_on attributes.now)) }
 {
     let own = declared_on(alloc, attributes)?;
     missing_of(alloc, needs, &own)
 }
 
 // Declarations, as attributes of an array's element.
-fn attributes_of(alloc: Global, declarations: &[Declared<'_>]) -> Result<Attrs, Memory>
-    ensures { IfOk result
-        (λ attributes. attributes ≡ map attribute_of (map kept declarations.now)) }
+fn attributes_of(alloc: Global, declarations: &[Need<'_>]) -> Result<Attrs, Memory>
+    ensures { IfOk result (λ attributes. attributes ≡ map attribute_of (needs_of declarations.now)) }
 {
     let mut attributes = Attrs::new(alloc);
     for one in declarations {
         attributes.push(AttrItem::Xmlns {
-            prefix: Txt::of(alloc, one.prefix)?,
-            uri: Txt::of(alloc, one.uri)?,
+            prefix: one.prefix.copy()?,
+            uri: one.uri.copy()?,
         })?;
     }
     Ok(attributes)
@@ -68,8 +75,8 @@ fn attributes_of(alloc: Global, declarations: &[Declared<'_>]) -> Result<Attrs, 
 
 // Gives an array the declarations that its element needs. Where there is no memory for them, it has
 // lost its attributes.
-fn declare_on(alloc: Global, needs: &[Declared<'_>], array: &mut ArrayItem) -> Result<(), Memory>
-    ensures { OnOk result (array.new ≡ spec.array_with (map kept needs.now) array.old) }
+fn declare_on(alloc: Global, needs: &[Need<'_>], array: &mut ArrayItem) -> Result<(), Memory>
+    ensures { OnOk result (array.new ≡ spec.array_with (needs_of needs.now) array.old) }
 {
     let lacking = missing_on(alloc, needs, array.attrs.as_slice())?;
     let mut attrs = attributes_of(alloc, lacking.as_slice())?;
@@ -79,23 +86,13 @@ fn declare_on(alloc: Global, needs: &[Declared<'_>], array: &mut ArrayItem) -> R
     Ok(())
 }
 
-// A declaration.
-#[inline(always)]
-fn xmlns(alloc: Global, one: &Declared<'_>) -> Result<Item, Memory>
-    ensures { IfOk result (λ item. item ≡ xmlns_of (kept one.now)) }
-{
-    let prefix = Txt::of(alloc, one.prefix)?;
-    let uri = Txt::of(alloc, one.uri)?;
-    Ok(Item::Xmlns { prefix, uri })
-}
-
 // Declarations, each an item.
 pub(crate) fn xmlns_items(alloc: Global, declarations: &[Declared<'_>]) -> Result<Items, Memory>
     ensures { IfOk result (λ items. items ≡ map xmlns_of (map kept declarations.now)) }
 {
     let mut items = Items::new(alloc);
     for one in declarations {
-        items.push(xmlns(alloc, one)?)?;
+        put_xmlns(alloc, &mut items, one.prefix, one.uri)?;
     }
     Ok(items)
 }
@@ -113,16 +110,14 @@ fn put_last(ring: &mut VecDeque<Item>, item: Item) -> Result<(), Memory>
 }
 
 // Puts declarations at the end of a ring.
-fn put_declarations(
-    alloc: Global,
-    ring: &mut VecDeque<Item>,
-    declarations: &[Declared<'_>],
-) -> Result<(), Memory>
-    ensures { OnOk result (ring.new.items
-        ≡ ring.old.items ++ map xmlns_of (map kept declarations.now)) }
+fn put_declarations(ring: &mut VecDeque<Item>, declarations: &[Need<'_>]) -> Result<(), Memory>
+    ensures { OnOk result
+        (ring.new.items ≡ ring.old.items ++ map xmlns_of (needs_of declarations.now)) }
 {
     for one in declarations {
-        put_last(ring, xmlns(alloc, one)?)?;
+        let prefix = one.prefix.copy()?;
+        let uri = one.uri.copy()?;
+        put_last(ring, Item::Xmlns { prefix, uri })?;
     }
     Ok(())
 }
@@ -170,16 +165,45 @@ fn layer_with<'d>(alloc: Global, declarations: &[Declared<'d>]) -> Result<Bindin
 // beginning are the first of a ring.
 fn missing_ahead<'n>(
     alloc: Global,
-    needs: &[Declared<'n>],
+    needs: &[Need<'n>],
     ring: &VecDeque<Item>,
     count: usize,
-) -> Result<Vec<Declared<'n>>, Memory>
-    ensures { IfOk result (λ lacking. layer_of lacking
-        ≡ missing (map kept needs.now) (scope.declared (take count ring.now.items))) }
+) -> Result<Vec<Need<'n>>, Memory>
+    ensures { IfOk result (λ lacking. needs_of lacking.items
+        ≡ missing (needs_of needs.now) (scope.declared (take count ring.now.items))) }
 {
     let declarations = declarations_ahead(alloc, ring, count)?;
     let own = layer_with(alloc, declarations.as_slice())?;
     missing_of(alloc, needs, &own)
+}
+
+// Whether no declaration stands at the head of the first items of a ring.
+#[inline(always)]
+fn declares_nothing(ring: &VecDeque<Item>) -> bool
+    ensures { result ≡ true → (count : ℕ) → scope.declared (take count ring.now.items) ≡ [] }
+{
+    !matches!(ring.get(0), Some(Item::Xmlns { .. } | Item::Attr { .. }))
+}
+
+// Puts the beginning of a child with the declarations that it needs. Behind it stand so many items,
+// the first ones of the ring.
+fn put_beginning(
+    alloc: Global,
+    ring: &mut VecDeque<Item>,
+    needs: &[Need<'_>],
+    item: Item,
+    left: usize,
+) -> Result<(), Memory>
+    ensures { OnOk result (ring.new.items ≡ ring.old.items ++ item ∷ map xmlns_of
+        (missing (needs_of needs.now) (scope.declared (take left ring.old.items)))) }
+{
+    if declares_nothing(ring) {
+        put_last(ring, item)?;
+        return put_declarations(ring, needs);
+    }
+    let lacking = missing_ahead(alloc, needs, ring, left)?;
+    put_last(ring, item)?;
+    put_declarations(ring, lacking.as_slice())
 }
 
 // Puts a child, or the beginning of one, with the declarations that it needs. Behind it stand so
@@ -187,20 +211,16 @@ fn missing_ahead<'n>(
 fn put_child(
     alloc: Global,
     ring: &mut VecDeque<Item>,
-    needs: &[Declared<'_>],
+    needs: &[Need<'_>],
     item: Item,
     left: usize,
 ) -> Result<(), Memory>
     ensures { OnOk result (ring.new.items ≡ ring.old.items
-        ++ spec.child_items (map kept needs.now) item (take left ring.old.items)) }
+        ++ spec.child_items (needs_of needs.now) item (take left ring.old.items)) }
 {
     let mut item = item;
     match &mut item {
-        Item::Start { .. } => {
-            let lacking = missing_ahead(alloc, needs, ring, left)?;
-            put_last(ring, item)?;
-            put_declarations(alloc, ring, lacking.as_slice())
-        }
+        Item::Start { .. } => put_beginning(alloc, ring, needs, item, left),
         Item::Array(array) => {
             declare_on(alloc, needs, array)?;
             put_last(ring, item)
@@ -215,7 +235,7 @@ fn put_child(
 fn put_item(
     alloc: Global,
     ring: &mut VecDeque<Item>,
-    needs: &[Declared<'_>],
+    needs: &[Need<'_>],
     inner: Option<usize>,
     item: Item,
     left: usize,
@@ -223,7 +243,7 @@ fn put_item(
     requires { IfSome inner (λ n. n + 1 < 2 ^ 64) }
     ensures behind { IfOk result (λ after. after ≡ spec.open_after inner item) }
     ensures put { OnOk result (ring.new.items ≡ ring.old.items
-        ++ spec.turned_items (map kept needs.now) inner item (take left ring.old.items)) }
+        ++ spec.turned_items (needs_of needs.now) inner item (take left ring.old.items)) }
 {
     let Some(inner) = inner else {
         return Ok(None);
@@ -239,19 +259,34 @@ fn put_item(
     Ok(Some(open))
 }
 
+// The declarations at the head of items.
+fn needs_in<'n>(alloc: Global, items: &'n [Item]) -> Result<Vec<Need<'n>>, Memory>
+    ensures { IfOk result (λ needs. needs_of needs.items ≡ scope.declared items.now) }
+{
+    let mut needs = Vec::new(alloc);
+    for item in items {
+        match item {
+            Item::Xmlns { prefix, uri } => needs.push(Need { prefix, uri })?,
+            Item::Attr { .. } => {}
+            _ => return Ok(needs),
+        }
+    }
+    Ok(needs)
+}
+
 // The items up to the end of the element that holds them, with the declarations that its children
 // need. These were counted before. Each item goes from the front of a ring to its end, so that there
 // is one list of items.
 fn put_standing(
     alloc: Global,
     _quotas: &Quotas,
-    needs: &[Declared<'_>],
+    needs: &[Need<'_>],
     items: Items,
 ) -> Result<Items, Memory>
     requires { may_fit (limits_of _quotas.now)
-        (spec.self_standing (map kept needs.now) (Some 0) items) ≡ true }
+        (spec.self_standing (needs_of needs.now) (Some 0) items) ≡ true }
     ensures { IfOk result (λ standing. standing
-        ≡ spec.self_standing (map kept needs.now) (Some 0) items) }
+        ≡ spec.self_standing (needs_of needs.now) (Some 0) items) }
 {
     let count = items.len();
     let mut ring = VecDeque::from_vec(items.into_vec());
@@ -277,6 +312,6 @@ pub(crate) fn with_needs(
     ensures { IfOk result (λ standing. standing
         ≡ spec.self_standing (scope.declared needs.now) (Some 0) items) }
 {
-    let needs = declarations_in(alloc, needs.as_slice())?;
+    let needs = needs_in(alloc, needs.as_slice())?;
     put_standing(alloc, quotas, needs.as_slice(), items)
 }

@@ -1,5 +1,5 @@
-use Rattle.std.proofs.Common.{sym, subst, map, ap, ◌∙◌}
-use Rattle.soap_envelope.specs.{Layers.kept, Scopes.declared_on}
+use Rattle.std.proofs.Common.{sym, subst, ap, ◌∙◌}
+use Rattle.soap_envelope.specs.{Fitting.counted, Scopes.declared_on}
 use Rattle.soap_envelope.proofs.ChildFacts.{array_left, IsLeft, start_left}
 use Rattle.soap_envelope.proofs.fitting.left_by_child.Goals as goal
 use Rattle.soap_envelope.proofs.fitting.left_by_child.Goals.{in-Start+in_ok-own-in-Start}
@@ -8,7 +8,7 @@ use Rattle.soap_envelope.proofs.fitting.left_by_child.Goals.{in-Array+in_ok-own-
 pub returns : goal.returns
 returns c =
     let m = c.args.measure in
-    let needs = map kept c.args.needs.now in
+    let needs = counted c.args.needs.now in
     let more = c.args.more.now in
     let own = c.match-item.own in
     let left = c.args.left in
