@@ -17,9 +17,9 @@ ghost use Rattle.duplex_server.specs.TwoThreads.{WereAsked};
 use crate::answerer::Answerer;
 use crate::following::follow_requests;
 use crate::jobs::Job;
-use crate::replier::spent;
+use crate::replier::used_again;
 use crate::requests::Request;
-use crate::spent_docs::SpentDocs;
+use crate::spent_jobs::SpentJobs;
 use action_dispatch::Service;
 use io_edges::Source;
 use nbfx_values::{Offence, Two};
@@ -35,8 +35,8 @@ use worker_thread::JobSender;
 #[derive(Drop)]
 pub struct Asker<'r, 'v, 'd, R, V> {
     pub(crate) answerer: Answerer<'v, V>,
-    // The documents that the writer gives back.
-    spent: &'d SpentDocs<'r, R>,
+    // What the writer gives back.
+    spent: &'d SpentJobs<'r, R>,
 }
 
 impl<'r, 'v, 'd, R: Wait, V: Service> EventHandler<Request, JobSender<'r, R, Job>>
@@ -83,7 +83,7 @@ impl<'r, 'v, 'd, R: Wait, V: Service> EventHandler<Request, JobSender<'r, R, Job
         match asked {
             Some(job) => {
                 sender.send(job);
-                Ok(spent(self.spent.take()))
+                Ok(used_again(self.spent.take()))
             }
             None => Ok(None),
         }
@@ -105,7 +105,7 @@ pub fn ask_for_replies<'r, R: Wait, S: Source, V: Service>(
     statics: &StaticTable,
     quotas: &Two,
     service: &V,
-    spent: &SpentDocs<'r, R>,
+    spent: &SpentJobs<'r, R>,
     source: &mut S,
     sender: &mut JobSender<'r, R, Job>,
 ) -> (FollowEnding<Offence>, u64)

@@ -19,7 +19,7 @@ use crate::jobs::Job;
 use crate::outcome::Outcome;
 use crate::reply_thread::{ReplyThread, WritesReplies, Written};
 use crate::serving::{inbound_of, serve_carried, serve_one};
-use crate::spent_docs::SpentDocs;
+use crate::spent_jobs::SpentJobs;
 use crate::whole::is_whole;
 use action_dispatch::Service;
 use io_edges::{Sink, Source};
@@ -48,7 +48,7 @@ fn serve_across<R: Threads + Wait + Sync, S: Source + Drop, K: Sink + Send + Dro
     endpoint: &Endpoint,
     service: &V,
     channel: JobChannel<Job>,
-    spent: &SpentDocs<'_, R>,
+    spent: &SpentJobs<'_, R>,
 ) -> (Outcome, InputBuffer, S, K)
     requires ends { receives_on channel.from ≡ sends_on channel.to }
     requires sent { IsSeatAt (sends_on channel.to) channel.sent
@@ -228,7 +228,7 @@ pub fn serve_kept<R: Threads + Wait + Sync, S: Source + Drop, K: Sink + Send + D
         );
         return (outcome, Carry { buffer }, source, sink);
     };
-    let spent = SpentDocs::new(rt, alloc);
+    let spent = SpentJobs::new(rt, alloc);
     let (outcome, buffer, source, sink) = serve_across(
         rt, alloc, buffer, source, sink, statics, quotas, endpoint, service, channel, &spent,
     );

@@ -45,6 +45,15 @@ impl Job {
     }
 }
 
+/// What a job leaves of an answer's, for the thread that asked for its memory.
+#[derive(Debug, Drop)]
+pub struct Spent {
+    /// The answer, if it was made.
+    pub doc: Option<Doc>,
+    /// What it was related to, or the fault in its place.
+    pub items: Items,
+}
+
 /// What is owed last, by how the reading ended.
 pub fn last_bytes(ending: FollowEnding<Offence>) -> &'static [u8]
     ensures { result.now ≡ closing_of ending }

@@ -49,7 +49,7 @@ mod requests;
 mod responding;
 mod serving;
 mod spelling;
-mod spent_docs;
+mod spent_jobs;
 mod stopping;
 mod threads;
 mod whole;

@@ -4,11 +4,12 @@ ghost use Rattle.std.specs.Prelude.{◌≡◌, ◌++◌, None};
 ghost use Rattle.stream_loop.specs.PartsGiven.{IsFresh};
 
 use crate::answerer::Answerer;
+use crate::jobs::Spent;
 use crate::reply_writer::ReplyWriter;
 use crate::requests::Request;
 use action_dispatch::Service;
 use io_edges::Sink;
-use nbfx_values::{Doc, Two};
+use nbfx_values::Two;
 use static_dictionary::StaticTable;
 use std::alloc::Global;
 use stream_loop::EventHandler;
@@ -25,8 +26,9 @@ pub struct Replier<'s, 'v, V> {
     ghost spelled: { writer.quotas ≡ quotas.back },
 }
 
-/// What a job leaves for the reading end to use again.
-pub(crate) fn spent(doc: Option<Doc>) -> Option<Request> {
+/// What a job leaves for the reading end to use again. The rest is dropped.
+pub(crate) fn used_again(spent: Option<Spent>) -> Option<Request> {
+    let Spent { doc, .. } = spent?;
     Some(Request::Received(doc?))
 }
 
@@ -86,7 +88,7 @@ impl<'s, 'v, V: Service, K: Sink> EventHandler<Request, K> for Replier<'s, 'v, V
         }
         let asked = self.answerer.ask(request)?;
         match asked {
-            Some(job) => Ok(spent(self.writer.work(job, sink))),
+            Some(job) => Ok(used_again(self.writer.work(job, sink))),
             None => Ok(None),
         }
     }

@@ -8,7 +8,7 @@ ghost use Rattle.worker_thread.specs.Crossing.{log};
 
 use crate::jobs::{Job, last_bytes};
 use crate::reply_writer::ReplyWriter;
-use crate::spent_docs::SpentDocs;
+use crate::spent_jobs::SpentJobs;
 use io_edges::Sink;
 use nbfx_values::Quotas;
 use static_dictionary::StaticTable;
@@ -26,8 +26,8 @@ pub struct ReplyThread<'s, 'r, 'd, R, K> {
     pub(crate) sink: K,
     // Whether a job was taken. Before, nothing is due.
     pub(crate) begun: bool,
-    // Where documents go that were written.
-    spent: &'d SpentDocs<'r, R>,
+    // Where goes what was written.
+    spent: &'d SpentJobs<'r, R>,
 }
 
 impl<'s, 'r, 'd, R: Wait, K: Sink> Worker<Job> for ReplyThread<'s, 'r, 'd, R, K> {
@@ -102,7 +102,7 @@ impl<'s, 'r, 'd, R: Wait, K: Sink> ReplyThread<'s, 'r, 'd, R, K> {
         from: Taker<Job>,
         pass: Ticket<Job>,
         sink: K,
-        spent: &'d SpentDocs<'r, R>,
+        spent: &'d SpentJobs<'r, R>,
     ) -> Written<K>
         requires { IsSeatAt (receives_on from) pass × (view pass ≡ log false true [] []) }
         ensures { IsSeatAt (receives_on from) result.0

@@ -9,11 +9,11 @@ ghost use Rattle.duplex_server.specs.Jobs.{ack, behind_job, part_for, reply_part
 ghost use Rattle.duplex_server.specs.ServerStream.{Replying, behind_reply, opened};
 ghost use Rattle.io_edges.specs.Views.{SinkView};
 
-use crate::jobs::{Job, Related};
+use crate::jobs::{Job, Related, Spent};
 use crate::spelling::spell_answer;
 use io_edges::Sink;
 use nbfx_encoder::{Sender, Side};
-use nbfx_values::{Doc, Kind, Mode, Quotas};
+use nbfx_values::{Doc, Items, Kind, Mode, Quotas};
 use nmf_records::record_types::PREAMBLE_ACK;
 use static_dictionary::StaticTable;
 use std::alloc::Global;
@@ -72,8 +72,14 @@ impl<'s> ReplyWriter<'s> {
     }
 
     // Gathers an answer, or the fault in its place, where either fits and the mode admits one.
-    // Where the answer wasn't made it doesn't fit.
-    fn answer<K: Sink>(&mut self, doc: Option<&Doc>, relates: Related, sink: &mut K)
+    // Where the answer wasn't made it doesn't fit. What it was related to is left.
+    fn answer<K: Sink>(
+        &mut self,
+        doc: Option<&Doc>,
+        relates: Related,
+        sink: &mut K,
+        left: &mut Items,
+    )
         requires { self.old.parts.outbound ≡ Outbound.Done }
         ensures stands { (first : SinkView) (parts : List Part) (s : Replying)
             → StandsAt first parts s self.old (K.view sink.old)
@@ -87,7 +93,14 @@ impl<'s> ReplyWriter<'s> {
         let before = self.parts.gathered.len();
         match &mut self.sender {
             Some(sender) => {
-                match spell_answer(self.alloc, sender, doc, relates, &mut self.parts.gathered) {
+                match spell_answer(
+                    self.alloc,
+                    sender,
+                    doc,
+                    relates,
+                    &mut self.parts.gathered,
+                    left,
+                ) {
                     Ok(true) => self.parts.end_part(before, sink),
                     Ok(false) => {}
                     Err(Memory) => self.parts.run_out(sink),
@@ -97,9 +110,9 @@ impl<'s> ReplyWriter<'s> {
         }
     }
 
-    /// Writes what a job asks for, unless the writing has ended, and gives back the document that
-    /// it has. What is owed last isn't written here.
-    pub fn work<K: Sink>(&mut self, job: Job, sink: &mut K) -> Option<Doc>
+    /// Writes what a job asks for, unless the writing has ended, and gives back what it leaves of an
+    /// answer's. What is owed last isn't written here.
+    pub fn work<K: Sink>(&mut self, job: Job, sink: &mut K) -> Option<Spent>
         ensures stands { (first : SinkView) (parts : List Part) (s : Replying)
             → StandsAt first parts s self.old (K.view sink.old)
             → StandsAt first
@@ -117,12 +130,17 @@ impl<'s> ReplyWriter<'s> {
                 None
             }
             Job::Answer { doc, relates } => {
-                self.answer(Some(&doc), relates, sink);
-                Some(doc)
+                let mut items = Items::new(self.alloc);
+                self.answer(Some(&doc), relates, sink, &mut items);
+                Some(Spent {
+                    doc: Some(doc),
+                    items,
+                })
             }
             Job::TooLarge { relates } => {
-                self.answer(None, relates, sink);
-                None
+                let mut items = Items::new(self.alloc);
+                self.answer(None, relates, sink, &mut items);
+                Some(Spent { doc: None, items })
             }
             Job::Last(_) => None,
             Job::Back => None,
