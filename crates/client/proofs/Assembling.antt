@@ -1,13 +1,13 @@
 -- What is known of a peer that was called, with the line behind the report.
-use Rattle.std.proofs.Common.{◌≡◌, ℕ, List, [], map, Some}
+use Rattle.std.proofs.Common.{◌≡◌, ℕ, List, [], map}
 use Rattle.{io_edges.specs.Flow.Told, session_report.specs.Saying.event_for}
 use Rattle.stream_reader.specs.Stream.{stream, StreamEvent}
 use Rattle.stream_loop.proofs.{Counts.handled_some, Taking.follows_as, Writing.known_told}
 use Rattle.stream_loop.specs.{declared.outbound.Outbound.Outbound, Edges.Input}
-use Rattle.client.specs.Called.{Ack, Awaited}
+use Rattle.client.specs.Called.{Awaited}
 use Rattle.client.specs.{declared.outcome.CallOutcome.CallOutcome, Sending.Finishes, Sent.Sending}
-use Rattle.client.specs.Called.{ack_along, answers_to, Calls, closing_of, dumped, ending_of}
-use Rattle.client.specs.Called.{HasCalled, IsAckOf, Judges, reached_along, ReportsOf, WritesCall}
+use Rattle.client.specs.Called.{ack_along, answers_to, closing_of, dumped, ending_of, HasCalled}
+use Rattle.client.specs.Called.{KnownCall, reached_along, WritesCall}
 use Rattle.client.specs.Peers.{CallsPeer, line_after, WritesReport}
 use Rattle.client.proofs.Amounts.{sends_written}
 use Rattle.client.proofs.Reporting.{dumps, emptied_by, reports, reports_counted}
@@ -16,7 +16,7 @@ use Rattle.stream_loop.specs.declared.outbound.Outbound.TheVariants as outbounds
 
 module _ (x : Sending) (via line : List ℕ) (i i' : Input)
     (sink sink' output mid output' : SinkView) (called : CallOutcome) (report : Outbound)
-    (c : Calls x via i i' sink sink' output mid called)
+    (c : KnownCall x via i i' sink sink' output mid called)
     (f : Finishes (line_after called.inbound line) called.report report mid output') where
   abbrev Called : List StreamEvent → Type 0
   Called = HasCalled x via sink sink' output mid called
@@ -48,34 +48,28 @@ module _ (x : Sending) (via line : List ℕ) (i i' : Input)
   emptied : called.report ≡ outbounds.Done → mid.held ≡ []
   emptied =
       let h = handled_some (stream (answers_to x)) Called i i' (ending_of called.inbound)
-      c.follows in
+      c.exchanged.follows in
       emptied_by output mid output'
       (closing_of (ending_of called.inbound) (reached_along (map event_for h.0))) called.report
       (map event_for h.0) h.1.reported
 
-  pub peer_called : ((bytes : List ℕ) → i.left ≡ Some bytes → Judges x bytes called.inbound)
-      → ((bytes w : List ℕ) → i.left ≡ Some bytes → sink.written ≡ Some w
-      → (w' : List ℕ) × (sink'.written ≡ Some w') × (ack : Ack)
-      × IsAckOf x bytes called.inbound ack
-      × WritesCall x via sink w w' ack called.outbound called.sent)
-      → ((bytes w : List ℕ) → i.left ≡ Some bytes → output.written ≡ Some w
-      → (w' : List ℕ) × (mid.written ≡ Some w')
-      × ReportsOf (dumped x bytes) output.held w w' called.inbound called.report)
-      → CallsPeer x via line i i' sink sink' output output' outcome
-  peer_called judged sent reported = record {
-    judged = judged;
-    sent = sent;
+  pub peer_called : CallsPeer x via line i i' sink sink' output output' outcome
+  peer_called = record {
+    exchanged = record {
+      judged = c.exchanged.judged;
+      written = c.exchanged.written;
+      follows = follows_as (stream (answers_to x)) Called (λ events.
+          Told sink.written sink'.written (WritesTo events)
+          × Told output.written output'.written
+          (WritesReport line output.held events called.inbound report)) i i'
+          (ending_of called.inbound) handled c.exchanged.follows;
+      reads_counted = c.exchanged.reads_counted;
+      writes_counted = c.exchanged.writes_counted;
+    };
     reported = λ bytes w left told.
-        let r = reported bytes w left told in
+        let r = c.reported bytes w left told in
         dumps output mid output' line (dumped x bytes) w r.0 r.1
         called.report report emptied called.inbound r.2 f;
-    follows = follows_as (stream (answers_to x)) Called (λ events.
-        Told sink.written sink'.written (WritesTo events)
-        × Told output.written output'.written
-        (WritesReport line output.held events called.inbound report)) i i'
-        (ending_of called.inbound) handled c.follows;
-    reads_counted = c.reads_counted;
-    writes_counted = c.writes_counted;
     reports_counted = reports_counted output mid output'
         (line_after called.inbound line) called.report report c.reports_counted f;
   }

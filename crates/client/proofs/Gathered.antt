@@ -16,11 +16,7 @@ module _ (x : Sending) (via line : List ℕ) (i i' : Input) (k k' : SinkView)
       let plain : first.held ++ gathered ≡ first.held =
       ap (λ l. first.held ++ l) none ∙ append-nil first.held in
       record {
-        judged = c.judged;
-        sent = c.sent;
+        exchanged = rw plain at c.exchanged;
         reported = rw plain at c.reported;
-        follows = rw plain at c.follows;
-        reads_counted = c.reads_counted;
-        writes_counted = c.writes_counted;
         reports_counted = c.reports_counted;
       }

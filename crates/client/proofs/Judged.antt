@@ -1,7 +1,8 @@
 -- What is known of a call where the peer's bytes are known.
 use Rattle.std.proofs.Common.{◌≡◌, ℕ, List, [], ◌++◌, map, Some, None, Option, sym, refl, ap}
 use Rattle.std.{proofs.Common.◌∙◌, proofs.Common.subst, proofs.Common.append-nil, specs.Prelude.⊤}
-use Rattle.{unit_streams.specs.Grammar.Grammar, nbfx_values.specs.declared.refusals.Offence.Offence}
+use Rattle.{io_edges.specs.Faults.CountsFaults, unit_streams.specs.Grammar.Grammar}
+use Rattle.nbfx_values.specs.declared.refusals.Offence.{Offence}
 use Rattle.unit_streams.specs.Tellers.{report as report_by, state_behind, told_along}
 use Rattle.stream_reader.specs.Stream.{Situation, stream, StreamEvent, StreamUnit}
 use Rattle.stream_loop.proofs.Amounts.{first_told, states_values, whole_told, wrote_grew}
@@ -18,11 +19,12 @@ use Rattle.client.specs.Called.{Ack, Awaited}
 use Rattle.client.specs.{declared.outcome.CallOutcome.CallOutcome, Sent.Sending}
 use Rattle.client.specs.declared.outcome.ClientIn.{ClientIn, TheVariants.ReadFault}
 use Rattle.client.specs.declared.outcome.ClientIn.TheVariants.{Ended, Memory, Offended, PeerFault}
-use Rattle.client.specs.Called.{ack_along, answers_to, Calls, dumped, ending_of, HasCalled}
+use Rattle.client.specs.Called.{ack_along, answers_to, dumped, ending_of, HasCalled}
 use Rattle.client.specs.Called.{handled_of, inbound_by, IsAckOf, Judges, KnownCall, reached_along}
 use Rattle.client.{specs.Called.ReportsOf, specs.Called.WritesCall, proofs.Amounts.sends_written}
 use Rattle.io_edges.specs.Views.{SinkView}
 use Rattle.stream_loop.specs.declared.outbound.Outbound.TheVariants as outbounds
+use Rattle.client.specs.declared.outcome.ClientOut.TheVariants as out
 use Rattle.session_report.specs.declared.reporter.Outcome.TheVariants as reached
 
 -- which event ended a session, by what is said of its reading
@@ -44,8 +46,8 @@ module _ (x : Sending) (via : List ℕ) (i i' : Input) (sink sink' : SinkView)
   abbrev Called : CallOutcome → List StreamEvent → Type 0
   Called = HasCalled x via sink sink' output output'
 
-  abbrev Calls' : CallOutcome → Type 0
-  Calls' = Calls x via i i' sink sink' output output'
+  abbrev FollowsBy : CallOutcome → ClientIn → Type 0
+  FollowsBy called inbound = Follows y (Called called) i i' (ending_of inbound)
 
   -- how the session ended by all events
   outcome_is : (es : List StreamEvent) (judged : Option Offence) → IsWhole y es judged bytes
@@ -55,10 +57,11 @@ module _ (x : Sending) (via : List ℕ) (i i' : Input) (sink sink' : SinkView)
       ∙ ap (λ t. state_behind t reached.Open es) (sym (lines_are Whole))
       ∙ states_values event_for (said_by Whole) es reached.Open
 
-  pub judges : (called : CallOutcome) → Calls' called → Judges x bytes called.inbound
-  judges called h = by called.inbound refl h.follows where
-    by : (inbound : ClientIn) → called.inbound ≡ inbound
-        → Follows y (Called called) i i' (ending_of inbound) → Judges x bytes inbound
+  judges : (called : CallOutcome) → FollowsBy called called.inbound
+      → Judges x bytes called.inbound
+  judges called h = by called.inbound refl h where
+    by : (inbound : ClientIn) → called.inbound ≡ inbound → FollowsBy called inbound
+        → Judges x bytes inbound
     by Ended is d =
         let whole = whole_of y i i' bytes left (Called called) None d in
         let r = reached_along (map event_for d.events) in (
@@ -139,10 +142,11 @@ module _ (x : Sending) (via : List ℕ) (i i' : Input) (sink sink' : SinkView)
       grew_dumped report [] es t.0
       (dumped_by ∙ t.1 ∙ ap (λ l. l ++ t.0) (sym (append-nil (told es)))) wrote
 
-  pub reports : (called : CallOutcome) → Calls' called → Reports' called.inbound called.report
-  reports called h = by called.inbound refl h.follows where
-    by : (inbound : ClientIn) → called.inbound ≡ inbound
-        → Follows y (Called called) i i' (ending_of inbound) → Reports' inbound called.report
+  reports : (called : CallOutcome) → FollowsBy called called.inbound
+      → Reports' called.inbound called.report
+  reports called h = by called.inbound refl h where
+    by : (inbound : ClientIn) → called.inbound ≡ inbound → FollowsBy called inbound
+        → Reports' inbound called.report
     by Ended is d =
         reports_judged Ended (λ all. all) (λ grew. grew) (λ grew. grew) called.report _ d.events
         (dumped_is d.events None (whole_of y i i' bytes left (Called called) None d))
@@ -170,11 +174,11 @@ module _ (x : Sending) (via : List ℕ) (i i' : Input) (sink sink' : SinkView)
       ap (λ (l : List StreamEvent). ack_along Awaited (map event_for l))
       (sym (events_are y es judged bytes whole))
 
-  pub writes : (called : CallOutcome) → Calls' called → (w : List ℕ) → sink.written ≡ Some w
-      → (w' : List ℕ) × (sink'.written ≡ Some w') × (ack : Ack)
+  writes : (called : CallOutcome) → FollowsBy called called.inbound → (w : List ℕ)
+      → sink.written ≡ Some w → (w' : List ℕ) × (sink'.written ≡ Some w') × (ack : Ack)
       × IsAckOf x bytes called.inbound ack
       × WritesCall x via sink w w' ack called.outbound called.sent
-  writes called h w told_w = by called.inbound refl h.follows where
+  writes called h w told_w = by called.inbound refl h where
     so : (inbound : ClientIn) (es : List StreamEvent) → Called called es
         → IsAckOf x bytes inbound (ack_along Awaited (map event_for es))
         → (w' : List ℕ) × (sink'.written ≡ Some w') × (ack : Ack)
@@ -185,8 +189,7 @@ module _ (x : Sending) (via : List ℕ) (i i' : Input) (sink sink' : SinkView)
         (ack_along Awaited (map event_for es)) called.outbound called.sent c.sends w told_w in
         (k.0, k.1, ack_along Awaited (map event_for es), acked, k.2)
 
-    by : (inbound : ClientIn) → called.inbound ≡ inbound
-        → Follows y (Called called) i i' (ending_of inbound)
+    by : (inbound : ClientIn) → called.inbound ≡ inbound → FollowsBy called inbound
         → (w' : List ℕ) × (sink'.written ≡ Some w') × (ack : Ack)
         × IsAckOf x bytes inbound ack
         × WritesCall x via sink w w' ack called.outbound called.sent
@@ -199,15 +202,25 @@ module _ (x : Sending) (via : List ℕ) (i i' : Input) (sink sink' : SinkView)
     by ReadFault is d = so ReadFault _ d.handled tt
     by Memory is d = so Memory d.events d.handled tt
 
--- all that is known of a call, by what was read, reported and sent
+-- all that is known of a call, by what was read, reported and sent, and what failed
 pub knows : (x : Sending) (via : List ℕ) (i i' : Input) (sink sink' output output' : SinkView)
-    (called : CallOutcome) → Calls x via i i' sink sink' output output' called
+    (called : CallOutcome) → Follows (stream (answers_to x))
+    (HasCalled x via sink sink' output output' called) i i' (ending_of called.inbound)
+    → CountsFaults i.faults i'.faults (called.inbound ≡ ReadFault)
+    → CountsFaults sink.faults sink'.faults (called.outbound ≡ out.WriteFault)
+    → CountsFaults output.faults output'.faults (called.report ≡ outbounds.WriteFault)
     → KnownCall x via i i' sink sink' output output' called
-knows x via i i' sink sink' output output' called h = record {
-  judged = λ bytes left. judges x via i i' sink sink' output output' bytes left called h;
+knows x via i i' sink sink' output output' called follows reads writing reporting = record {
+  exchanged = record {
+    judged = λ bytes left. judges x via i i' sink sink' output output' bytes left called follows;
+    written = λ bytes w left told.
+        let k = writes x via i i' sink sink' output output' bytes left called follows w told in
+        (k.0, k.1, (k.2, k.3, k.4));
+    follows = follows;
+    reads_counted = reads;
+    writes_counted = writing;
+  };
   reported = λ bytes w left told.
-      reports x via i i' sink sink' output output' bytes left called h w told;
-  written = λ bytes w left told.
-      writes x via i i' sink sink' output output' bytes left called h w told;
-  calls = h;
+      reports x via i i' sink sink' output output' bytes left called follows w told;
+  reports_counted = reporting;
 }

@@ -19,7 +19,7 @@ use Rattle.client.specs.declared.answers.Stage.{Stage, TheVariants.Acked, TheVar
 use Rattle.client.specs.declared.outcome.{CallOutcome.CallOutcome}
 use Rattle.client.specs.declared.outcome.ClientIn.{ClientIn, TheVariants.ReadFault}
 use Rattle.client.specs.{Answering.HasTold, Answering.IsAt, Lanes.stage_after}
-use Rattle.client.specs.Called.{ack_along, answers_to, Calls, closing_of, ending_of, HasCalled}
+use Rattle.client.specs.Called.{ack_along, answers_to, closing_of, ending_of, HasCalled}
 use Rattle.client.specs.Called.{inbound_by, KnownCall, reached_along, Sends}
 use Rattle.client.specs.{Writing.out_of, Writing.WritesOut}
 use Rattle.client.specs.Sent.{Sending, SendsAll}
@@ -93,22 +93,19 @@ module _ (x : Sending) (via : List ℕ) (sink sink' output output1 output' : Sin
 
   pub lanes_calls : (i i' : Input) → Follows (stream (answers_to x)) Told' i i' ending
       → CountsFaults i.faults i'.faults (ending ≡ endings.ReadFault)
-      → Calls x via i i' sink sink' output output' called
+      → KnownCall x via i i' sink sink' output output' called
   lanes_calls i i' follows counted =
       let some = handled_some (stream (answers_to x)) Told' i i' ending follows in
       let c = has_called some.0 some.1 in
-      record {
-        follows = subst
-            (λ (e : FollowEnding Offence). Follows (stream (answers_to x)) Called i i' e)
-            ending_is (follows_as (stream (answers_to x)) Told' Called i i' ending has_called
-            follows);
-        reads_counted = subst (λ (v : ClientIn). CountsFaults i.faults i'.faults (v ≡ ReadFault))
-            (sym inbound_is) (reads_counted i.faults i'.faults ending reached counted);
-        writes_counted = sends_counted x via (ack_along Awaited (map event_for some.0))
-            called.outbound called.sent sink sink' c.sends;
-        reports_counted = writes_counted (said_by Whole) called.report _ output
-            (map event_for some.0) (λ s. ⊤) output' c.reported;
-      }
+      knows x via i i' sink sink' output output' called
+      (subst (λ (e : FollowEnding Offence). Follows (stream (answers_to x)) Called i i' e)
+      ending_is (follows_as (stream (answers_to x)) Told' Called i i' ending has_called follows))
+      (subst (λ (v : ClientIn). CountsFaults i.faults i'.faults (v ≡ ReadFault))
+      (sym inbound_is) (reads_counted i.faults i'.faults ending reached counted))
+      (sends_counted x via (ack_along Awaited (map event_for some.0)) called.outbound called.sent
+      sink sink' c.sends)
+      (writes_counted (said_by Whole) called.report _ output (map event_for some.0) (λ s. ⊤)
+      output' c.reported)
 
 -- ---- and all that is known of it
 
@@ -129,9 +126,8 @@ module _ (x : Sending) (via : List ℕ) (i i' : Input) (sink sink' output output
 
   knows_at : (stage : Stage) → FollowsAt stage → ((events : List Event) → IsAt stage events
       → Sends x via (ack_along Awaited events) called.outbound called.sent sink sink') → Known
-  knows_at stage follows sends = knows x via i i' sink sink' output output' called
-      (lanes_calls x via sink sink' output output1 output' called ending stage reached report
-      closed inbound_is sends i i' follows counted)
+  knows_at stage follows sends = lanes_calls x via sink sink' output output1 output' called ending
+      stage reached report closed inbound_is sends i i' follows counted
 
   -- where nothing was sent behind the opening
   pub knows_unsent : (opened : Outbound) (mid : SinkView)

@@ -1,29 +1,14 @@
 -- What a connection that was called and closed leaves of a wire.
 use Rattle.std.proofs.Common.{◌≡◌, ℕ, List, [], ◌∷◌, ◌++◌, IfSome, Some, None}
 use Rattle.std.proofs.Common.{Option}
-use Rattle.{unit_streams.specs.Grammar.Grammar}
 use Rattle.io_edges.specs.{Flow.Told, Wires.Fresh}
 use Rattle.stream_reader.specs.Stream.{stream}
-use Rattle.stream_loop.proofs.{Counts.handled_some, Writing.told_some}
-use Rattle.stream_loop.specs.declared.following.FollowEnding.{FollowEnding, TheVariants.ReadFault}
-use Rattle.stream_loop.specs.declared.following.FollowEnding.TheVariants.{Judged, Memory as Starved}
-use Rattle.stream_loop.specs.{Edges.Input, Followed.Follows}
+use Rattle.stream_loop.proofs.{Counts.handled_some, Counts.took_some, Writing.told_some}
+use Rattle.stream_loop.specs.Edges.{Input}
 use Rattle.client.specs.declared.{outcome.CallOutcome.CallOutcome}
 use Rattle.client.specs.Called.{answers_to, ending_of}
 use Rattle.client.specs.{Peers.CallsPeer, Sent.Sending}
 use Rattle.io_edges.specs.Views.{SinkView}
-
--- what was taken stays told
-took_some : {Z U E R : Type 0} (g : Grammar Z U E R) (Handled : List E → Type 0) (i i' : Input)
-    (ending : FollowEnding R) → Follows g Handled i i' ending → (t : List ℕ) → i.taken ≡ Some t
-    → (t' : List ℕ) × (i'.taken ≡ Some t')
-took_some g Handled i i' (Judged judged) h t is =
-    let k = told_some (λ t t'. t' ≡ t ++ h.bytes) i.taken i'.taken t is h.took in (k.0, k.1)
-took_some g Handled i i' ReadFault h t is =
-    let k = told_some (λ t t'. t' ≡ t ++ h.bytes) i.taken i'.taken t is h.took in (k.0, k.1)
-took_some g Handled i i' Starved h t is =
-    let k = told_some (λ t t'. t' ≡ t ++ h.before ++ h.piece) i.taken i'.taken t is h.took in
-    (k.0, k.1)
 
 -- the pair of what is told
 paired : (taken written : Option (List ℕ)) (t w : List ℕ) → taken ≡ Some t → written ≡ Some w
@@ -36,11 +21,12 @@ module _ (x : Sending) (via line : List ℕ) (i i' : Input) (k k' o o' : SinkVie
     (called : CallOutcome) (c : CallsPeer x via line i i' k k' o o' called) where
   pub taken_told : (t : List ℕ) → i.taken ≡ Some t → (t' : List ℕ) × (i'.taken ≡ Some t')
   taken_told t is =
-      took_some (stream (answers_to x)) _ i i' (ending_of called.inbound) c.follows t is
+      took_some (stream (answers_to x)) _ i i' (ending_of called.inbound) c.exchanged.follows t is
 
   pub written_told : (w : List ℕ) → k.written ≡ Some w → (w' : List ℕ) × (k'.written ≡ Some w')
   written_told w is =
-      let h = handled_some (stream (answers_to x)) _ i i' (ending_of called.inbound) c.follows in
+      let h = handled_some (stream (answers_to x)) _ i i' (ending_of called.inbound)
+      c.exchanged.follows in
       let told = told_some _ k.written k'.written w is h.1.0 in
       (told.0, told.1)
 

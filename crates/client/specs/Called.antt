@@ -10,7 +10,7 @@ use Rattle.nbfx_encoder.specs.{Envelopes.UnfitAt, Placing.Placed, Refusals.told}
 use Rattle.stream_reader.specs.Stream.{receivers, Settings, stream, StreamEvent}
 use Rattle.stream_loop.specs.declared.{following.FollowEnding.FollowEnding}
 use Rattle.stream_loop.specs.declared.{outbound.Outbound.Outbound}
-use Rattle.stream_loop.specs.{Edges.Input, Followed.Follows}
+use Rattle.stream_loop.specs.{Edges.Input, Exchanged.Exchanged, Exchanged.WritesOf}
 use Rattle.stream_loop.specs.Writing.{IsCut, Wrote}
 use Rattle.initiator_machine.specs.Opening.{opening_bytes}
 use Rattle.session_report.specs.declared.{reading.Event.Event, reporter.Outcome.Outcome}
@@ -197,28 +197,26 @@ module _ (x : Sending) (via : List ℕ) where
     pub sends : Sends
         (ack_along Awaited (map event_for events)) called.outbound called.sent sink sink'
 
-  -- What is known of a call: what was read of the peer's stream, what was reported and sent, and
-  -- what the calls that failed by the outside left of the counts of source, sink and output.
-  pub record Calls (i i' : Input) (sink sink' output output' : SinkView) (called : CallOutcome)
-      : Type 0 where
-    pub follows : Follows (stream (answers_to x)) (HasCalled sink sink' output output' called) i i'
-        (ending_of called.inbound)
-    pub reads_counted : CountsFaults i.faults i'.faults (called.inbound ≡ ReadFault)
-    pub writes_counted : CountsFaults sink.faults sink'.faults (called.outbound ≡ out.WriteFault)
+  -- What is known of a call, by what is known of the events that were handled and by what is
+  -- reported of all that the peer sends: how that is judged and what is written to the peer, where
+  -- the source tells it; what was read, reported and sent, however that ended; and what the calls
+  -- that failed by the outside left of the counts of source, sink and output.
+  pub record CallsSo (Handled : List StreamEvent → Type 0)
+      (Reports : (bytes w w' : List ℕ) → Type 0) (i i' : Input) (sink sink' output output' : SinkView)
+      (called : CallOutcome) : Type 0 where
+    pub exchanged : Exchanged (stream (answers_to x)) (λ bytes. Judges x bytes called.inbound)
+        (λ bytes w w'. (ack : Ack) × IsAckOf x bytes called.inbound ack
+        × WritesCall x via sink w w' ack called.outbound called.sent) Handled
+        (ending_of called.inbound) (called.inbound ≡ ReadFault) (called.outbound ≡ out.WriteFault)
+        i i' sink sink'
+    pub reported : WritesOf Reports i output output'
     pub reports_counted : CountsFaults output.faults output'.faults
         (called.report ≡ outbounds.WriteFault)
 
-  -- All that is known of a call: of all that the peer sends, where the source tells that, how it is
-  -- judged, what is reported of it and what is written to the peer; and what was read, reported and
-  -- sent, however that ended.
-  pub record KnownCall (i i' : Input) (sink sink' output output' : SinkView)
-      (called : CallOutcome) : Type 0 where
-    pub judged : (bytes : List ℕ) → i.left ≡ Some bytes → Judges x bytes called.inbound
-    pub reported : (bytes w : List ℕ) → i.left ≡ Some bytes → output.written ≡ Some w
-        → (w' : List ℕ) × (output'.written ≡ Some w')
-        × ReportsOf (dumped x bytes) output.held w w' called.inbound called.report
-    pub written : (bytes w : List ℕ) → i.left ≡ Some bytes → sink.written ≡ Some w
-        → (w' : List ℕ) × (sink'.written ≡ Some w') × (ack : Ack)
-        × IsAckOf x bytes called.inbound ack
-        × WritesCall x via sink w w' ack called.outbound called.sent
-    pub calls : Calls i i' sink sink' output output' called
+  -- of a call whose report is that of the peer's stream
+  abbrev pub KnownCall : (i i' : Input) → (sink sink' output output' : SinkView) → CallOutcome
+      → Type 0
+  KnownCall i i' sink sink' output output' called =
+      CallsSo (HasCalled sink sink' output output' called) (λ bytes w w'.
+      ReportsOf (dumped x bytes) output.held w w' called.inbound called.report) i i' sink sink'
+      output output' called

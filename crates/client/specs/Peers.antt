@@ -1,22 +1,19 @@
 -- What was read, sent and reported where a peer was called over a connection, however that ended.
 -- Sink and output may have held bytes before, which are written before what is put.
-use Rattle.std.specs.Prelude.{◌≡◌, ℕ, List, [], ◌++◌, map, Some, ⊤}
-use Rattle.io_edges.specs.{Faults.CountsFaults, Flow.GrowsByPrefix, Flow.Told}
+use Rattle.std.specs.Prelude.{◌≡◌, ℕ, List, [], ◌++◌, map, ⊤}
+use Rattle.io_edges.specs.{Flow.GrowsByPrefix, Flow.Told}
 use Rattle.unit_streams.specs.Tellers.{told_along}
-use Rattle.stream_reader.specs.Stream.{stream, StreamEvent}
-use Rattle.stream_loop.specs.{declared.outbound.Outbound.Outbound, Followed.Follows}
-use Rattle.stream_loop.specs.Edges.{Input}
+use Rattle.stream_reader.specs.Stream.{StreamEvent}
+use Rattle.stream_loop.specs.{declared.outbound.Outbound.Outbound, Edges.Input}
 use Rattle.session_report.specs.Saying.{event_for, said_by}
 use Rattle.command_words.specs.declared.task.Detail.TheVariants.{Whole}
-use Rattle.client.specs.Called.{Ack, Awaited}
 use Rattle.client.specs.declared.outcome.{CallOutcome.CallOutcome, ClientIn.ClientIn}
 use Rattle.client.specs.declared.outcome.ClientIn.TheVariants.{Memory, ReadFault}
-use Rattle.client.specs.Called.{ack_along, answers_to, closing_of, dumped, ending_of, IsAckOf}
-use Rattle.client.specs.{Called.Judges, Called.reached_along, Called.WritesCall, Sent.Sending}
+use Rattle.client.specs.Called.{ack_along, Awaited, CallsSo, closing_of, dumped, ending_of}
+use Rattle.client.specs.{Called.reached_along, Called.WritesCall, Sent.Sending}
 use Rattle.io_edges.specs.Views.{SinkView}
 use Rattle.stream_loop.specs.declared.outbound.Outbound.TheVariants as outbounds
 use Rattle.session_report.specs.declared.reporter.Outcome.TheVariants as reached
-use Rattle.client.specs.declared.outcome.ClientOut.TheVariants as out
 
 -- the line of what was sent, which comes behind the report where there was memory to read on
 abbrev pub line_after : ClientIn → (line : List ℕ) → List ℕ
@@ -47,25 +44,14 @@ WritesDump dump line held inbound outbounds.Done w w' = w' ≡ w ++ held ++ (dum
 WritesDump dump line held inbound report w w' = GrowsByPrefix w w' (held ++ (dump ++ line))
 
 -- What is known of a peer that was called with documents, where this is the line of what was sent:
--- of all that the peer sends, where the source tells that, how it is judged, what is written to the
--- peer and what is reported; what was read, and what is written and reported of its events; and
--- what the calls that failed by the outside left of the counts of source, sink and output.
-pub record CallsPeer (x : Sending) (via line : List ℕ) (i i' : Input) (k k' o o' : SinkView)
-    (called : CallOutcome) : Type 0 where
-  pub judged : (bytes : List ℕ) → i.left ≡ Some bytes → Judges x bytes called.inbound
-  pub sent : (bytes w : List ℕ) → i.left ≡ Some bytes → k.written ≡ Some w
-      → (w' : List ℕ) × (k'.written ≡ Some w') × (ack : Ack)
-      × IsAckOf x bytes called.inbound ack
-      × WritesCall x via k w w' ack called.outbound called.sent
-  pub reported : (bytes w : List ℕ) → i.left ≡ Some bytes → o.written ≡ Some w
-      → (w' : List ℕ) × (o'.written ≡ Some w')
-      × WritesDump (dumped x bytes) line o.held called.inbound called.report w w'
-  pub follows : Follows (stream (answers_to x)) (λ events.
-      Told k.written k'.written (λ w w'. WritesCall x via k w w'
-      (ack_along Awaited (map event_for events)) called.outbound called.sent)
-      × Told o.written o'.written
-      (WritesReport line o.held events called.inbound called.report)) i i'
-      (ending_of called.inbound)
-  pub reads_counted : CountsFaults i.faults i'.faults (called.inbound ≡ ReadFault)
-  pub writes_counted : CountsFaults k.faults k'.faults (called.outbound ≡ out.WriteFault)
-  pub reports_counted : CountsFaults o.faults o'.faults (called.report ≡ outbounds.WriteFault)
+-- of the events that were handled, what is written to the peer and what is reported of them; and of
+-- all that the peer sends, its report and the line.
+abbrev pub CallsPeer : Sending → (via line : List ℕ) → (i i' : Input) → (k k' o o' : SinkView)
+    → CallOutcome → Type 0
+CallsPeer x via line i i' k k' o o' called = CallsSo x via (λ events.
+    Told k.written k'.written (λ w w'. WritesCall x via k w w'
+    (ack_along Awaited (map event_for events)) called.outbound called.sent)
+    × Told o.written o'.written
+    (WritesReport line o.held events called.inbound called.report))
+    (λ bytes w w'. WritesDump (dumped x bytes) line o.held called.inbound called.report w w') i i' k
+    k' o o' called

@@ -11,7 +11,7 @@ ghost use Rattle.stream_loop.specs.Writing.{Writes, Wrote};
 ghost use Rattle.command_words.specs.declared.task.Detail.{Detail as Shown};
 ghost use Rattle.session_report.specs.declared.reading.Event.{Event as Heard};
 ghost use Rattle.session_report.specs.Saying.{said_by};
-ghost use Rattle.client.specs.Called.{Ack, Calls, IsAckOf, Judges, ReportsOf, WritesCall, closing_of, dumped, inbound_by};
+ghost use Rattle.client.specs.Called.{KnownCall, closing_of, inbound_by};
 ghost use Rattle.client.specs.Answering.{HasComeSo, IsFollowed};
 ghost use Rattle.client.specs.Lanes.{stage_after};
 ghost use Rattle.client.specs.Beginning.{HasBegun, IsUnsent};
@@ -196,25 +196,10 @@ pub fn call_one<S: Source, K: Sink, O: Sink>(
 ) -> CallOutcome
     requires via { length via.now ≤ 2048 }
     requires admitted { MayBeSent mode docs.now }
-    ensures judged { (bytes : List ℕ) → S.left source.old ≡ Some bytes
-        → Judges (sending_within quotas.now statics.now mode encoding docs.now) bytes
-        result.inbound }
-    ensures reported { (bytes w : List ℕ) → S.left source.old ≡ Some bytes
-        → (O.view output.old).written ≡ Some w → (w' : List ℕ)
-        × ((O.view output.new).written ≡ Some w')
-        × ReportsOf (dumped (sending_within quotas.now statics.now mode encoding docs.now) bytes)
-        (O.view output.old).held w w' result.inbound result.report }
-    ensures written { (bytes w : List ℕ) → S.left source.old ≡ Some bytes
-        → (K.view sink.old).written ≡ Some w → (w' : List ℕ) × ((K.view sink.new).written ≡ Some w')
-        × (ack : Ack)
-        × IsAckOf (sending_within quotas.now statics.now mode encoding docs.now) bytes
-        result.inbound ack
-        × WritesCall (sending_within quotas.now statics.now mode encoding docs.now) via.now
-        (K.view sink.old) w w' ack result.outbound result.sent }
 
-    // Which bytes were read, which of their events were reported, and which envelopes were put,
-    // however that ends.
-    ensures called { Calls (sending_within quotas.now statics.now mode encoding docs.now) via.now
+    // How the peer's bytes are judged, reported and answered; which were read, which of their events
+    // were reported, and which envelopes were put, however that ends.
+    ensures called { KnownCall (sending_within quotas.now statics.now mode encoding docs.now) via.now
         (input_at S.left S.taken S.faults S.empty_takes source.old)
         (input_at S.left S.taken S.faults S.empty_takes source.new) (K.view sink.old)
         (K.view sink.new) (O.view output.old) (O.view output.new) result }

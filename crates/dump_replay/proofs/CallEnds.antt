@@ -107,10 +107,10 @@ module _ {R K : Type 0} (input_of : R → Input) (output_of : K → SinkView) (x
       (elim (either (fails_in outcome.inbound) (fails_out outcome.outbound) failed) [
         | inl read ↦ rose_by_reads n.end_faults reads writes
             (subst (λ (count : ℕ). Rose count reads) h.begins.unread
-            (h.calls.reads_counted.rose (in_failed outcome.inbound read)))
+            (h.calls.exchanged.reads_counted.rose (in_failed outcome.inbound read)))
         | inr wrote ↦ rose_by_writes n.end_faults reads writes
             (subst (λ (count : ℕ). Rose count writes) h.begins.unwritten
-            (h.calls.writes_counted.rose (out_failed outcome.outbound wrote)))
+            (h.calls.exchanged.writes_counted.rose (out_failed outcome.outbound wrote)))
       ])
 
   abbrev Left : Called → Type 0

@@ -201,7 +201,7 @@ module _ {R K : Type 0} (reader : R → Input) (to : K → SinkView) (x : Sendin
       ap (λ (ends : R × K). (reader ends.0).left) same ∙ well.sends in
       let told = written_told n.closed well.closed (to h.ends.1).written well.told
       h.begins.nothing_written in
-      let s = h.calls.sent peer [] left told in
+      let s = h.calls.exchanged.written peer [] left told in
       as_other _ (status_of_call x peer) (outcome_status outcome)
       (admitted x.mode x.documents _ h.admitted)
       (called_status x peer outcome
@@ -209,7 +209,7 @@ module _ {R K : Type 0} (reader : R → Input) (to : K → SinkView) (x : Sendin
       (λ fault. ends_well outcome h (ap (λ v. fails_in outcome.inbound || fails_out v) fault
       ∙ or_true (fails_in outcome.inbound)))
       (λ fault. written (h.calls.reports_counted.rose fault))
-      (h.calls.judged peer left) s.2 s.3 via (to h.ends.1) [] s.0 s.4)
+      (h.calls.exchanged.judged peer left) s.2.0 s.2.1 via (to h.ends.1) [] s.0 s.2.2)
 
   pub call_placed : (called : Called) → CallsPlace reader to x via line n n' o o' called
       → IsOr (status_of_call x peer) (status_of_called called)

@@ -1,12 +1,12 @@
 -- What stands behind a session of an initiator that has ended.
 use Rattle.std.proofs.Common.{◌≡◌, ℕ, Bool, true, false, if◌then◌else◌, List, Some, None, Option}
-use Rattle.std.proofs.Common.{sym, refl, ap, ◌∙◌, inl, inr}
+use Rattle.std.proofs.Common.{refl, inl, inr}
 use Rattle.unit_streams.proofs.Pending.{open_going_on, pending_open}
-use Rattle.unit_streams.specs.{Grammar.standing, Judging.ending_at, Judging.is_over_at}
+use Rattle.unit_streams.specs.{Judging.ending_at, Judging.is_over_at}
 use Rattle.nbfx_values.specs.declared.session.Mode.{Mode}
 use Rattle.stream_reader.specs.Stream.{chunk_due, cut_off, is_over_in, may_end_in, payload_open}
 use Rattle.stream_reader.specs.Stream.{record_due, Settings, Stage, stream}
-use Rattle.stream_loop.specs.{Edges.Input, Followed.EndsWith, Followed.Leaves}
+use Rattle.stream_loop.specs.{Edges.Input, Followed.Leaves}
 use Rattle.duplex_server.specs.{Carrying.GoesBehind, ServerStream.Answering}
 use Rattle.duplex_server.specs.ServerStream.{requests_to}
 use Rattle.nmf_records.specs.declared.script.Due.TheVariants as dues

@@ -1,15 +1,13 @@
 -- Which parts are due for requests, by the jobs that they ask for.
 use Rattle.duplex_server.specs.declared.jobs.Related.{Related}
-use Rattle.std.proofs.Common.{◌≡◌, ℕ, false, List, [], ◌∷◌, ◌++◌, Some, None, Ok, Err}
+use Rattle.std.proofs.Common.{◌≡◌, ℕ, false, List, [], ◌∷◌, Some, None, Ok, Err}
 use Rattle.std.proofs.Common.{Option, Result, sym, refl, ap, ◌∙◌, subst, inl, inr}
 use Rattle.nbfx_values.specs.declared.{content.Item.Item, session.Mode.Mode}
 use Rattle.least_payloads.specs.Least.{may_fit}
-use Rattle.unit_streams.specs.Tellers.{state_behind}
 use Rattle.nbfx_encoder.proofs.Leasts.{large_is_unwritten}
 use Rattle.nbfx_encoder.specs.{Placing.Placed, Spelling.encoded, Spelling.Unfit}
 use Rattle.stream_loop.specs.Parts.{Part, part, with_part}
 use Rattle.stream_loop.specs.PartsDue.{AreDue as AreDueBy}
-use Rattle.action_dispatch.specs.declared.answers.Answer.{Answer}
 use Rattle.action_dispatch.specs.{Answers.answered, Refusals.unfit_fault}
 use Rattle.duplex_server.specs.declared.{jobs.Job.Job, requests.Request.Request}
 use Rattle.duplex_server.specs.declared.requests.Request.TheVariants.{Ended, Opened}
@@ -18,7 +16,7 @@ use Rattle.duplex_server.specs.Jobs.{AskFor, AsksAnswer, AsksFor, behind_job, if
 use Rattle.duplex_server.specs.Jobs.{part_for, parts_of, reply_part}
 use Rattle.duplex_server.specs.ServerStream.{Answering, behind, behind_reply, first_fitting}
 use Rattle.duplex_server.specs.ServerStream.{owed_for}
-use Rattle.duplex_server.specs.ServerStream.{payload_of, replies, reply_to, Replying, told_reply}
+use Rattle.duplex_server.specs.ServerStream.{payload_of, reply_to, Replying, told_reply}
 use Rattle.duplex_server.specs.ServerStream.{when_ready}
 use Rattle.duplex_server.specs.Replying.{answers_in, AreDue, IsDue, IsQuiet}
 use Rattle.action_dispatch.specs.declared.answers.Answer.TheVariants as answers

@@ -1,15 +1,15 @@
 -- What is known of a connection whose bytes are known.
-use Rattle.std.proofs.Common.{◌≡◌, ℕ, ◌⊎◌, List, [], ◌++◌, map, Some, None, Option, sym, refl}
-use Rattle.std.proofs.Common.{ap, ◌∙◌, subst, inl, inr, append-nil}
-use Rattle.unit_streams.{proofs.Pending.pending_open, specs.Tellers.told_along}
-use Rattle.unit_streams.specs.Judging.{events_of, History, offence}
+use Rattle.std.proofs.Common.{◌≡◌, ℕ, List, [], ◌++◌, map, Some, None, Option, sym, refl}
+use Rattle.std.proofs.Common.{ap, ◌∙◌, subst, append-nil}
+use Rattle.{io_edges.specs.Faults.CountsFaults, unit_streams.specs.Grammar.Grammar}
+use Rattle.unit_streams.specs.Tellers.{told_along}
 use Rattle.nbfx_values.specs.declared.refusals.Offence.{Offence}
-use Rattle.stream_reader.specs.Stream.{stream, StreamEvent}
+use Rattle.stream_reader.specs.Stream.{Situation, stream, StreamEvent, StreamUnit}
 use Rattle.stream_loop.proofs.Amounts.{first_told, whole_told, wrote_grew}
-use Rattle.stream_loop.proofs.{Bringing.first_of_open, Writing.told_some}
+use Rattle.stream_loop.proofs.Knowing.{first_broken, first_starved, offence_of, whole_of}
 use Rattle.stream_loop.proofs.Grown.{all_written, AllWritten, Grew, grew_more}
 use Rattle.stream_loop.specs.{declared.outbound.Outbound.Outbound, Edges.Input, Writing.Wrote}
-use Rattle.stream_loop.specs.Followed.{AreFirst, Breaks, Decides, Follows, IsWhole, Starves}
+use Rattle.stream_loop.specs.Followed.{AreFirst, Decides, Follows, IsWhole}
 use Rattle.receiver_machine.specs.Owed.{closing_bytes}
 use Rattle.duplex_server.specs.declared.outcome.Inbound.{Inbound, TheVariants.ReadFault}
 use Rattle.duplex_server.specs.declared.outcome.Inbound.TheVariants.{Ended, Memory, Offended}
@@ -21,65 +21,33 @@ use Rattle.stream_loop.specs.declared.outbound.Outbound.TheVariants as outbounds
 
 module _ (x : Answering) (endpoint : Option (List ℕ)) (i i' : Input) (first now : SinkView)
     (bytes : List ℕ) (left : i.left ≡ Some bytes) where
+  abbrev y : Grammar Situation StreamUnit StreamEvent Offence
+  y = stream (requests_to x endpoint)
+
   abbrev Served : Outcome → List StreamEvent → Type 0
   Served outcome = HasServed x outcome first now
 
-  -- a stream that decides it
-  whole_of : (Handled : List StreamEvent → Type 0) (judged : Option Offence)
-      (d : Decides (stream (requests_to x endpoint)) Handled i i' judged)
-      → IsWhole (stream (requests_to x endpoint)) d.events judged bytes
-  whole_of Handled judged d =
-      let Whole : List ℕ → Type 0 = IsWhole (stream (requests_to x endpoint)) d.events judged in
-      let k = told_some (λ all rest. (all ≡ d.bytes ++ rest) × ((rest ≡ [])
-      ⊎ ((more : List ℕ) → Whole (d.bytes ++ more)))) i.left i'.left bytes left d.stream in
-      subst Whole (sym k.2.0) (elim k.2.1 [
-        | inl none ↦ subst Whole (sym (ap (λ l. d.bytes ++ l) none ∙ append-nil d.bytes)) d.whole
-        | inr all ↦ all k.0
-      ])
+  abbrev FollowsBy : Outcome → Inbound → Type 0
+  FollowsBy outcome inbound = Follows y (Served outcome) i i' (ending_of inbound)
 
-  offence_of : (es : List StreamEvent) (judged : Option Offence)
-      → IsWhole (stream (requests_to x endpoint)) es judged bytes
-      → offence (stream (requests_to x endpoint)) bytes ≡ judged
-  unfolding offence
-  offence_of es judged whole = ap (λ (h : History StreamEvent Offence). h.offence) whole
+  whole : (outcome : Outcome) (judged : Option Offence) (d : Decides y (Served outcome) i i' judged)
+      → IsWhole y d.events judged bytes
+  whole outcome judged d = whole_of y i i' bytes left (Served outcome) judged d
 
   -- what is owed for requests
   abbrev told_for : List StreamEvent → List ℕ
   told_for es = told_along (replies x) (start x.statics) (map request_for es)
 
-  owed_is : (es : List StreamEvent) (judged : Option Offence)
-      → IsWhole (stream (requests_to x endpoint)) es judged bytes
+  owed_is : (es : List StreamEvent) (judged : Option Offence) → IsWhole y es judged bytes
       → owed x endpoint bytes ≡ told_for es ++ closing_bytes judged
-  owed_is es judged whole =
-      whole_told (stream (requests_to x endpoint)) request_for (replies x) es judged bytes whole
+  owed_is es judged whole = whole_told y request_for (replies x) es judged bytes whole
 
-  -- first events of the stream
-  first_broken : (Handled : List StreamEvent → Type 0)
-      (b : Breaks (stream (requests_to x endpoint)) Handled i i')
-      → AreFirst (stream (requests_to x endpoint))
-      (events_of (stream (requests_to x endpoint)) b.bytes) bytes
-  first_broken Handled b =
-      let y = stream (requests_to x endpoint) in
-      let k = told_some (λ all rest. all ≡ b.bytes ++ rest) i.left i'.left bytes left b.stream in
-      subst (AreFirst y (events_of y b.bytes)) (sym k.2)
-      (first_of_open y b.bytes (pending_open y b.bytes b.pending) k.0)
-
-  first_starved : (Handled : List StreamEvent → Type 0)
-      (s : Starves (stream (requests_to x endpoint)) Handled i i')
-      → AreFirst (stream (requests_to x endpoint)) s.events bytes
-  first_starved Handled s =
-      let k = told_some (λ all rest. all ≡ s.before ++ s.piece ++ rest) i.left i'.left bytes left
-      s.stream in
-      subst (AreFirst (stream (requests_to x endpoint)) s.events) (sym k.2) (s.first k.0)
-
-  pub judges : (outcome : Outcome)
-      → Serves x endpoint i i' first now outcome
+  judges : (outcome : Outcome) → FollowsBy outcome outcome.inbound
       → Judges x endpoint bytes outcome.inbound
-  judges outcome h = by outcome.inbound h.follows where
-    by : (inbound : Inbound) → Follows (stream (requests_to x endpoint)) (Served outcome) i i'
-        (ending_of inbound) → Judges x endpoint bytes inbound
-    by Ended d = offence_of d.events None (whole_of (Served outcome) None d)
-    by (Offended o) d = offence_of d.events (Some o) (whole_of (Served outcome) (Some o) d)
+  judges outcome h = by outcome.inbound h where
+    by : (inbound : Inbound) → FollowsBy outcome inbound → Judges x endpoint bytes inbound
+    by Ended d = offence_of y d.events None bytes (whole outcome None d)
+    by (Offended o) d = offence_of y d.events (Some o) bytes (whole outcome (Some o) d)
     by ReadFault d = tt
     by Memory d = tt
 
@@ -113,62 +81,59 @@ module _ (x : Answering) (endpoint : Option (List ℕ)) (i i' : Input) (first no
 
   -- a stream that was read to its end
   owes_judged : (judged : Option Offence) (inbound : Inbound)
-      → ((outbound : Outbound) → Grew' (owed x endpoint bytes) → (outbound ≡ outbounds.Done → ⊥)
-      → Owes inbound outbound)
-      → (AllWritten first now (owed x endpoint bytes)
-      → Owes inbound outbounds.Done)
-      → (outbound : Outbound) (es : List StreamEvent) (answers : ℕ)
-      → IsWhole (stream (requests_to x endpoint)) es judged bytes
+      → (AllWritten first now (owed x endpoint bytes) → Owes inbound outbounds.Done)
+      → (Grew' (owed x endpoint bytes) → Owes inbound outbounds.WriteFault)
+      → (Grew' (owed x endpoint bytes) → Owes inbound outbounds.Memory)
+      → (outbound : Outbound) (es : List StreamEvent) (answers : ℕ) → IsWhole y es judged bytes
       → Wrote' outbound (closing_bytes judged) es answers → Owes inbound outbound
-  owes_judged judged inbound partly wholly outbounds.Done es answers whole wrote =
+  owes_judged judged inbound wholly failed starved outbounds.Done es answers whole wrote =
       wholly (all_owed (closing_bytes judged) es answers (owed_is es judged whole) wrote)
-  owes_judged judged inbound partly wholly outbounds.WriteFault es answers whole wrote =
-      partly outbounds.WriteFault (grew_owed outbounds.WriteFault (closing_bytes judged) es answers
-      [] (owed_is es judged whole ∙ sym (append-nil (told_for es ++ closing_bytes judged))) wrote)
-      (λ e. cc)
-  owes_judged judged inbound partly wholly outbounds.Memory es answers whole wrote =
-      partly outbounds.Memory (grew_owed outbounds.Memory (closing_bytes judged) es answers
-      [] (owed_is es judged whole ∙ sym (append-nil (told_for es ++ closing_bytes judged))) wrote)
-      (λ e. cc)
-
-  partly_ended : (outbound : Outbound) → Grew' (owed x endpoint bytes)
-      → (outbound ≡ outbounds.Done → ⊥) → Owes Ended outbound
-  partly_ended outbounds.Done grew never = absurd (never refl)
-  partly_ended outbounds.WriteFault grew never = grew
-  partly_ended outbounds.Memory grew never = grew
-
-  partly_offended : (o : Offence) (outbound : Outbound) → Grew' (owed x endpoint bytes)
-      → (outbound ≡ outbounds.Done → ⊥) → Owes (Offended o) outbound
-  partly_offended o outbounds.Done grew never = absurd (never refl)
-  partly_offended o outbounds.WriteFault grew never = grew
-  partly_offended o outbounds.Memory grew never = grew
+  owes_judged judged inbound wholly failed starved outbounds.WriteFault es answers whole wrote =
+      failed (grew_owed outbounds.WriteFault (closing_bytes judged) es answers []
+      (owed_is es judged whole ∙ sym (append-nil (told_for es ++ closing_bytes judged))) wrote)
+  owes_judged judged inbound wholly failed starved outbounds.Memory es answers whole wrote =
+      starved (grew_owed outbounds.Memory (closing_bytes judged) es answers []
+      (owed_is es judged whole ∙ sym (append-nil (told_for es ++ closing_bytes judged))) wrote)
 
   -- one that wasn't
   first_owed : (outbound : Outbound) (es : List StreamEvent) (answers : ℕ)
-      → AreFirst (stream (requests_to x endpoint)) es bytes → Wrote' outbound [] es answers
+      → AreFirst y es bytes → Wrote' outbound [] es answers
       → Grew' (owed x endpoint bytes)
   first_owed outbound es answers front wrote =
-      let t = first_told (stream (requests_to x endpoint)) request_for (replies x) es bytes front in
+      let t = first_told y request_for (replies x) es bytes front in
       grew_owed outbound [] es answers t.0
       (t.1 ∙ ap (λ l. l ++ t.0) (sym (append-nil (told_for es)))) wrote
 
-  pub owes : (outcome : Outcome)
-      → Serves x endpoint i i' first now outcome
+  owes : (outcome : Outcome) → FollowsBy outcome outcome.inbound
       → (w : List ℕ) → first.written ≡ Some w → (w' : List ℕ) × (now.written ≡ Some w')
       × WritesOwed (owed x endpoint bytes) first.held w w' outcome.inbound outcome.outbound
-  owes outcome h = by outcome.inbound refl h.follows where
-    by : (inbound : Inbound) → outcome.inbound ≡ inbound
-        → Follows (stream (requests_to x endpoint)) (Served outcome) i i' (ending_of inbound)
+  owes outcome h = by outcome.inbound refl h where
+    by : (inbound : Inbound) → outcome.inbound ≡ inbound → FollowsBy outcome inbound
         → Owes inbound outcome.outbound
     by Ended is d =
-        owes_judged None Ended partly_ended (λ all. all) outcome.outbound d.events outcome.answers
-        (whole_of (Served outcome) None d) (rw is at d.handled.wrote)
+        owes_judged None Ended (λ all. all) (λ grew. grew) (λ grew. grew) outcome.outbound d.events
+        outcome.answers (whole outcome None d) (rw is at d.handled.wrote)
     by (Offended o) is d =
-        owes_judged (Some o) (Offended o) (partly_offended o) (λ all. all) outcome.outbound d.events
-        outcome.answers (whole_of (Served outcome) (Some o) d) (rw is at d.handled.wrote)
+        owes_judged (Some o) (Offended o) (λ all. all) (λ grew. grew) (λ grew. grew)
+        outcome.outbound d.events outcome.answers (whole outcome (Some o) d)
+        (rw is at d.handled.wrote)
     by ReadFault is d =
-        first_owed outcome.outbound _ outcome.answers (first_broken (Served outcome) d)
-        (rw is at d.handled.wrote)
+        first_owed outcome.outbound _ outcome.answers (first_broken y i i' bytes left
+        (Served outcome) d) (rw is at d.handled.wrote)
     by Memory is d =
-        first_owed outcome.outbound d.events outcome.answers (first_starved (Served outcome) d)
-        (rw is at d.handled.wrote)
+        first_owed outcome.outbound d.events outcome.answers (first_starved y i i' bytes left
+        (Served outcome) d) (rw is at d.handled.wrote)
+
+-- by what was read and answered, and what failed
+pub serves_by : (x : Answering) (endpoint : Option (List ℕ)) (i i' : Input) (first now : SinkView)
+    (outcome : Outcome) → Follows (stream (requests_to x endpoint)) (HasServed x outcome first now)
+    i i' (ending_of outcome.inbound) → CountsFaults i.faults i'.faults (outcome.inbound ≡ ReadFault)
+    → CountsFaults first.faults now.faults (outcome.outbound ≡ outbounds.WriteFault)
+    → Serves x endpoint i i' first now outcome
+serves_by x endpoint i i' first now outcome follows reads writes = record {
+  judged = λ bytes left. judges x endpoint i i' first now bytes left outcome follows;
+  written = λ bytes w left told. owes x endpoint i i' first now bytes left outcome follows w told;
+  follows = follows;
+  reads_counted = reads;
+  writes_counted = writes;
+}

@@ -6,7 +6,6 @@ use Rattle.stream_loop.specs.{Edges.Input, Followed.WasTaken}
 use Rattle.duplex_server.specs.declared.outcome.Outcome.{Outcome}
 use Rattle.duplex_server.specs.{Carrying.ServesKept, ServerStream.Answering, ServerStream.owed}
 use Rattle.duplex_server.specs.Serving.{Judges, WritesOwed}
-use Rattle.duplex_server.proofs.Judged.{judges, owes}
 use Rattle.io_edges.specs.Views.{SinkView}
 
 -- an input that is known to give these bytes, with those that were taken from it before
@@ -41,10 +40,8 @@ known x endpoint i i' held held' first now outcome same served =
     let h = subst (λ (l : List ℕ). ServesKept x endpoint i i' l held' first now outcome) same
     served in
     record {
-      judged = λ bytes left.
-          judges x endpoint (with_held held bytes i) i' first now (held ++ bytes) refl outcome
-          (h.serves (with_held held bytes i) (held_taken held bytes i left));
-      written = λ bytes w left told.
-          owes x endpoint (with_held held bytes i) i' first now (held ++ bytes) refl outcome
-          (h.serves (with_held held bytes i) (held_taken held bytes i left)) w told;
+      judged = λ bytes left. (h.serves (with_held held bytes i) (held_taken held bytes i
+          left)).judged (held ++ bytes) refl;
+      written = λ bytes w left told. (h.serves (with_held held bytes i) (held_taken held bytes i
+          left)).written (held ++ bytes) w refl told;
     }

@@ -1,21 +1,16 @@
 -- What is known of a connection that was served.
-use Rattle.std.proofs.Common.{◌≡◌, ℕ, ◌-◌, ◌^◌, ◌<◌, List, [], ◌++◌, map, Some, Option, refl}
+use Rattle.std.proofs.Common.{◌≡◌, ℕ, ◌-◌, ◌^◌, ◌<◌, List, [], map, Some, Option, refl}
 use Rattle.std.proofs.Common.{subst, inl, inr, arith}
 use Rattle.io_edges.specs.{Faults.Rose, Wires.added_up}
 use Rattle.stream_reader.specs.Stream.{stream, StreamEvent}
-use Rattle.stream_loop.proofs.{Amounts.wrote_grew, Counts.handled_some}
-use Rattle.stream_loop.proofs.Writing.{told_some}
-use Rattle.stream_loop.specs.{declared.following.FollowEnding.FollowEnding, Edges.Input}
-use Rattle.stream_loop.specs.{Followed.Follows}
+use Rattle.stream_loop.proofs.{Amounts.wrote_grew, Counts.handled_some, Counts.took_some}
 use Rattle.duplex_server.specs.{declared.outcome.Outcome.Outcome, Requests.request_for}
 use Rattle.duplex_server.specs.ServerStream.{Answering, replies, requests_to}
 use Rattle.duplex_server.specs.Served.{Connection, Ends, ends_at}
 use Rattle.duplex_server.specs.Served.{IsServed, moved, told_pair}
 use Rattle.duplex_server.specs.Serving.{closing_of, ending_of, HasServed, Serves}
 use Rattle.duplex_server.proofs.Answered.{serves_empties}
-use Rattle.duplex_server.proofs.Judged.{judges, owes}
 use Rattle.io_edges.specs.Views.{SinkView}
-use Rattle.stream_loop.specs.declared.following.FollowEnding.TheVariants as endings
 use Rattle.stream_loop.specs.Edges.{AreNew}
 
 -- a count with two others is greater where one of these is above 0, or at its last value
@@ -54,18 +49,6 @@ module _ (x : Answering) (endpoint : Option (List ℕ)) {R K : Type 0}
   abbrev ends_of : R × K → Ends
   ends_of = ends_at left taken reads empty_takes view
 
-  -- what was taken is told where it was told before
-  took : (Handled : List StreamEvent → Type 0) (i i' : Input) (ending : FollowEnding _)
-      → Follows (stream (requests_to x endpoint)) Handled i i' ending
-      → (t : List ℕ) → i.taken ≡ Some t → (t' : List ℕ) × (i'.taken ≡ Some t')
-  took Handled i i' (endings.Judged judged) h t is =
-      let k = told_some (λ t t'. t' ≡ t ++ h.bytes) i.taken i'.taken t is h.took in (k.0, k.1)
-  took Handled i i' endings.ReadFault h t is =
-      let k = told_some (λ t t'. t' ≡ t ++ h.bytes) i.taken i'.taken t is h.took in (k.0, k.1)
-  took Handled i i' endings.Memory h t is =
-      let k = told_some (λ t t'. t' ≡ t ++ h.before ++ h.piece) i.taken i'.taken t is h.took in
-      (k.0, k.1)
-
   -- a connection that was served
   module _ (ends ends' : R × K) (outcome : Outcome) (h : Serves x endpoint (ends_of ends).input
       (ends_of ends').input (view ends.1) (view ends'.1) outcome) where
@@ -80,10 +63,6 @@ module _ (x : Answering) (endpoint : Option (List ℕ)) {R K : Type 0}
         → IsServed x endpoint told now_met
     is_served told new = record {
       begins = new;
-      judged = λ bytes left. judges x endpoint (ends_of ends).input (ends_of ends').input
-          (view ends.1) (view ends'.1) bytes left outcome h;
-      written = λ bytes w left before. owes x endpoint (ends_of ends).input
-          (ends_of ends').input (view ends.1) (view ends'.1) bytes left outcome h w before;
       serves = h;
       read_fault = λ count failed. rose_by_reads count (reads ends'.0) (view ends'.1).faults
           (subst (λ (n : ℕ). Rose n (reads ends'.0)) new.unread (h.reads_counted.rose failed));
@@ -100,8 +79,8 @@ module _ (x : Answering) (endpoint : Option (List ℕ)) {R K : Type 0}
     pair_told was_taken was_written =
         let s = handled_some (stream (requests_to x endpoint)) Served (ends_of ends).input
         (ends_of ends').input (ending_of outcome.inbound) h.follows in
-        let t = took Served (ends_of ends).input (ends_of ends').input
-        (ending_of outcome.inbound) h.follows [] was_taken in
+        let t = took_some (stream (requests_to x endpoint)) Served (ends_of ends).input
+        (ends_of ends').input (ending_of outcome.inbound) h.follows [] was_taken in
         let w = wrote_grew (replies x) outcome.outbound
         (closing_of (ending_of outcome.inbound)) (view ends.1) (map request_for s.0)
         (λ s. outcome.answers ≡ s.answers) (view ends'.1) s.1.wrote [] was_written in

@@ -1,6 +1,6 @@
 -- No Preamble Ack comes in an initiator's stream.
 use Rattle.std.proofs.Common.{◌≡◌, ℕ, ◌+◌, Bool, true, false, List, [], ◌∷◌, ◌==◌, if◌then◌else◌}
-use Rattle.std.proofs.Common.{Some, None, Option, sym, refl, subst}
+use Rattle.std.proofs.Common.{Some, None, Option, refl, subst}
 use Rattle.unit_streams.proofs.Standing.{standing_last}
 use Rattle.unit_streams.specs.{Front.whole, Grammar.standing, Judging.event_at, Judging.given_at}
 use Rattle.nbfx_values.specs.declared.session.Mode.{Mode}
@@ -13,7 +13,7 @@ use Rattle.stream_reader.proofs.{Grammar.readable}
 use Rattle.stream_reader.proofs.Outcomes.{goes_on, is_refused, is_whole, outcome, wants_chunk}
 use Rattle.stream_reader.specs.Stream.{accepted, after, after_bare, beginning, behind_payload}
 use Rattle.stream_reader.specs.Stream.{chunk_due, chunked, completed, completed_bare, completed_payload}
-use Rattle.stream_reader.specs.Stream.{direction_of, due_behind, due_in, ended, ends, Form, frame}
+use Rattle.stream_reader.specs.Stream.{direction_of, due_behind, due_in, ended, ends, Form}
 use Rattle.stream_reader.specs.Stream.{last_chunk, led, message, on_open, on_payload, opened}
 use Rattle.stream_reader.specs.Stream.{OpenPayload, payload_by, payload_open, peer_fault, record_due}
 use Rattle.stream_reader.specs.Stream.{Settings, Situation, sized, Stage, stream, StreamEvent}

@@ -13,7 +13,7 @@ use Rattle.duplex_server.specs.ServerStream.{Answering, replies, requests_to}
 use Rattle.duplex_server.specs.Replaying.{owed_for_events, Replays, WritesEvents}
 use Rattle.duplex_server.specs.Requests.{request_for}
 use Rattle.duplex_server.specs.Serving.{closing_of, ending_of, HasServed, Serves}
-use Rattle.duplex_server.proofs.{Judged.judges, Judged.owes, Streams.ends_within}
+use Rattle.duplex_server.proofs.Streams.{ends_within}
 use Rattle.io_edges.specs.Views.{SinkView}
 use Rattle.stream_loop.specs.declared.outbound.Outbound.TheVariants as outbounds
 use Rattle.duplex_server.specs.declared.outcome.Inbound.TheVariants as inbounds
@@ -45,8 +45,8 @@ module _ (x : Answering) (endpoint : Option (List ℕ)) (i i' : Input) where
         → Replays x endpoint i i' first
         now outcome.inbound outcome.outbound
     replayed outcome h = record {
-      judged = λ bytes left. judges x endpoint i i' first now bytes left outcome h;
-      written = λ bytes w left told. owes x endpoint i i' first now bytes left outcome h w told;
+      judged = h.judged;
+      written = h.written;
       follows = follows_as (stream (requests_to x endpoint))
           (HasServed x outcome first now) (λ events.
           Told first.written now.written

@@ -12,7 +12,7 @@ use Rattle.duplex_server.specs.{Carrying.ServesKept, declared.outcome.Outcome.Ou
 use Rattle.duplex_server.specs.Requests.{request_for}
 use Rattle.duplex_server.specs.ServerStream.{Answering, messages_along, replies, requests_to}
 use Rattle.duplex_server.specs.Serving.{closing_of, ending_of, HasServed, inbound_of, Serves}
-use Rattle.duplex_server.proofs.Behind.{goes_behind}
+use Rattle.duplex_server.proofs.{Behind.goes_behind, Judged.serves_by}
 use Rattle.io_edges.specs.Views.{SinkView}
 use Rattle.stream_loop.specs.declared.following.FollowEnding.TheVariants as endings
 
@@ -73,17 +73,16 @@ module _ (x : Answering) (first now : SinkView) (outcome : Outcome) (ending : Fo
     some = handled_some (stream (requests_to x endpoint)) Handled i i' ending follows
 
     pub serves : Serves x endpoint i i' first now outcome
-    serves = record {
-      follows = subst (λ (e : FollowEnding Offence). Follows (stream (requests_to x endpoint))
-          (HasServed x outcome first now) i i' e) ending_is
-          (follows_as (stream (requests_to x endpoint)) Handled
-          (HasServed x outcome first now) i i' ending all follows);
-      reads_counted = subst (λ (v : Inbound). CountsFaults i.faults i'.faults (v ≡ ReadFault))
-          (sym is) (reads_counted i.faults i'.faults ending counted);
-      writes_counted = writes_counted (replies x) outcome.outbound
-          (closing_of (ending_of outcome.inbound)) first (map request_for some.0)
-          (λ s. outcome.answers ≡ s.answers) now (all some.0 some.1).wrote;
-    }
+    serves = serves_by x endpoint i i' first now outcome
+        (subst (λ (e : FollowEnding Offence). Follows (stream (requests_to x endpoint))
+        (HasServed x outcome first now) i i' e) ending_is
+        (follows_as (stream (requests_to x endpoint)) Handled
+        (HasServed x outcome first now) i i' ending all follows))
+        (subst (λ (v : Inbound). CountsFaults i.faults i'.faults (v ≡ ReadFault))
+        (sym is) (reads_counted i.faults i'.faults ending counted))
+        (writes_counted (replies x) outcome.outbound
+        (closing_of (ending_of outcome.inbound)) first (map request_for some.0)
+        (λ s. outcome.answers ≡ s.answers) now (all some.0 some.1).wrote)
 
   -- the same of a session whose first bytes were carried, and what stands behind it
   pub kept : (endpoint : Option (List ℕ)) (i0 i' : Input) (held held' : List ℕ)

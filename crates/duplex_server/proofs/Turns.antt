@@ -120,8 +120,6 @@ module _ (x : Answering) (endpoint : Option (List ℕ)) {R K : Type 0} (seen : R
       served = All-push (IsServed x endpoint n.closed) connections c h.served (record {
         begins = new_before n.closed mid.closed (Leaves connections) c.handed h.closed
             one.served.begins;
-        judged = one.served.judged;
-        written = one.served.written;
         serves = one.served.serves;
         read_fault = one.served.read_fault;
         write_fault = one.served.write_fault;

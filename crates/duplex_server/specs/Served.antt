@@ -10,8 +10,7 @@ use Rattle.stream_loop.specs.Edges.{AreNew, Input, input_at}
 use Rattle.duplex_server.specs.declared.outcome.{Inbound.TheVariants.ReadFault, Outcome.Outcome}
 use Rattle.duplex_server.specs.declared.stopping.ServeFault.{ServeFault}
 use Rattle.duplex_server.specs.Lines.{connection_line, lines_from}
-use Rattle.duplex_server.specs.{ServerStream.Answering, ServerStream.owed}
-use Rattle.duplex_server.specs.Serving.{Judges, Serves, WritesOwed}
+use Rattle.duplex_server.specs.{ServerStream.Answering, Serving.Serves}
 use Rattle.io_edges.specs.Views.{SinkView}
 use Rattle.io_edges.specs.declared.SinkFault.TheVariants as sinks
 use Rattle.duplex_server.specs.declared.stopping.ServeFault.TheVariants as stops
@@ -50,19 +49,10 @@ abbrev pub with_faults : ℕ → Connection → ℕ
 with_faults count c = added_up count c.closed.input.faults c.closed.sink.faults
 
 module _ (x : Answering) (endpoint : Option (List ℕ)) where
-  -- What is known of a connection that was served, to the Via that is served alone or to any. Of
-  -- all that its initiator sends, where the source tells that: how it is judged, and what is
-  -- written of it. Whatever is told: what was read, which events were answered, and what failed.
+  -- What is known of a connection that was served, to the Via that is served alone or to any.
   -- Where a read or a write failed, its ends met a fault, so they add to any count of faults.
   pub record IsServed (told : Option (List (List ℕ × List ℕ))) (c : Connection) : Type 0 where
     pub begins : AreNew told c.handed.input c.handed.sink
-    pub judged : (bytes : List ℕ) → c.handed.input.left ≡ Some bytes
-        → Judges x endpoint bytes c.outcome.inbound
-    pub written : (bytes w : List ℕ) → c.handed.input.left ≡ Some bytes
-        → c.handed.sink.written ≡ Some w
-        → (w' : List ℕ) × (c.closed.sink.written ≡ Some w')
-        × WritesOwed (owed x endpoint bytes) c.handed.sink.held w w' c.outcome.inbound
-        c.outcome.outbound
     pub serves : Serves x endpoint c.handed.input c.closed.input c.handed.sink c.closed.sink
         c.outcome
     pub read_fault : (count : ℕ) → c.outcome.inbound ≡ ReadFault

@@ -1,16 +1,16 @@
 -- What was read and written where a connection is served, however that ends.
 use Rattle.std.specs.Prelude.{◌≡◌, ℕ, List, [], ◌++◌, map, Some, None, Option, ⊤}
-use Rattle.io_edges.specs.{Faults.CountsFaults, Flow.GrowsByPrefix}
+use Rattle.io_edges.specs.Flow.{GrowsByPrefix}
 use Rattle.{unit_streams.specs.Judging.offence, nbfx_values.specs.declared.refusals.Offence.Offence}
 use Rattle.stream_reader.specs.Stream.{stream, StreamEvent}
 use Rattle.stream_loop.specs.declared.{following.FollowEnding.FollowEnding}
 use Rattle.stream_loop.specs.declared.{outbound.Outbound.Outbound}
-use Rattle.stream_loop.specs.{Edges.Input, Followed.Follows, Writing.Wrote}
+use Rattle.stream_loop.specs.{Edges.Input, Exchanged.Exchanged, Writing.Wrote}
 use Rattle.receiver_machine.specs.Owed.{closing_bytes}
 use Rattle.duplex_server.specs.declared.outcome.Inbound.{Inbound, TheVariants.ReadFault}
 use Rattle.duplex_server.specs.declared.outcome.Inbound.TheVariants.{Ended, Memory, Offended}
 use Rattle.duplex_server.specs.{declared.outcome.Outcome.Outcome, Requests.request_for}
-use Rattle.duplex_server.specs.ServerStream.{Answering, messages_along, replies, requests_to}
+use Rattle.duplex_server.specs.ServerStream.{Answering, messages_along, owed, replies, requests_to}
 use Rattle.io_edges.specs.Views.{SinkView}
 use Rattle.stream_loop.specs.declared.following.FollowEnding.TheVariants as endings
 use Rattle.stream_loop.specs.declared.outbound.Outbound.TheVariants as outbounds
@@ -61,13 +61,19 @@ module _ (x : Answering) where
     pub wrote : Wrote (replies x) outcome.outbound (closing_of (ending_of outcome.inbound)) first
         (map request_for events) (λ s. outcome.answers ≡ s.answers) now
 
-  -- What is known of a connection that was served, to the Via that is served alone, or to any: what
-  -- was read of its stream, which events of it were answered, and what the calls that failed by the
-  -- outside left of the counts of the source and of the sink.
-  pub record Serves (endpoint : Option (List ℕ)) (i i' : Input) (first now : SinkView)
-      (outcome : Outcome) : Type 0 where
-    pub follows : Follows (stream (requests_to x endpoint)) (HasServed outcome first now) i i'
-        (ending_of outcome.inbound)
-    pub reads_counted : CountsFaults i.faults i'.faults (outcome.inbound ≡ ReadFault)
-    pub writes_counted : CountsFaults first.faults now.faults
-        (outcome.outbound ≡ outbounds.WriteFault)
+-- to the Via that is served alone, or to any
+module _ (x : Answering) (endpoint : Option (List ℕ)) where
+  -- A session was answered, by what is known of the events that were: of all that the source gives,
+  -- where it tells that, how it is judged and what is written of it; what was read; and what the
+  -- calls that failed by the outside left of the counts of the source and of the sink.
+  abbrev pub IsAnswered : (Handled : List StreamEvent → Type 0) → Inbound → Outbound
+      → (i i' : Input) → (first now : SinkView) → Type 0
+  IsAnswered Handled inbound outbound i i' first now =
+      Exchanged (stream (requests_to x endpoint)) (λ bytes. Judges x endpoint bytes inbound)
+      (λ bytes w w'. WritesOwed (owed x endpoint bytes) first.held w w' inbound outbound) Handled
+      (ending_of inbound) (inbound ≡ ReadFault) (outbound ≡ outbounds.WriteFault) i i' first now
+
+  -- a connection was served: its documents and answers are counted, and what was put is known
+  abbrev pub Serves : (i i' : Input) → (first now : SinkView) → Outcome → Type 0
+  Serves i i' first now outcome =
+      IsAnswered (HasServed x outcome first now) outcome.inbound outcome.outbound i i' first now

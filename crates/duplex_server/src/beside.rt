@@ -248,17 +248,8 @@ pub fn serve_two<R: Threads + Wait + Sync, S: Source + Drop, K: Sink + Send + Dr
     endpoint: &Endpoint,
     service: &V,
 ) -> (Outcome, S, K)
-    ensures judged { (bytes : List ℕ) → S.left source ≡ Some bytes
-        → Judges (answering (V.served service.now) statics.now quotas.now)
-        (endpoint_of endpoint.now) bytes result.0.inbound }
-    ensures written { (bytes w : List ℕ) → S.left source ≡ Some bytes
-        → (K.view sink).written ≡ Some w → (w' : List ℕ) × ((K.view result.2).written ≡ Some w')
-        × WritesOwed (owed (answering (V.served service.now) statics.now quotas.now)
-        (endpoint_of endpoint.now) bytes) (K.view sink).held w w' result.0.inbound
-        result.0.outbound }
-
-    // Which bytes were read, which of their events were answered, and which answers were put,
-    // however that ends.
+    // How the bytes are judged and what is written of them; which were read, which of their events
+    // were answered, and which answers were put, however that ends.
     ensures served { Serves (answering (V.served service.now) statics.now quotas.now)
         (endpoint_of endpoint.now)
         (input_at S.left S.taken S.faults S.empty_takes source)

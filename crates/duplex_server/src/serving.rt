@@ -1,11 +1,11 @@
 //! A connection served on one thread.
 
-ghost use Rattle.std.specs.Prelude.{◌≡◌, ℕ, List, Some};
+ghost use Rattle.std.specs.Prelude.{◌≡◌};
 ghost use Rattle.stream_loop.specs.Edges.{input_at};
 ghost use Rattle.stream_reader.specs.Sides.{endpoint_of};
 ghost use Rattle.duplex_server.specs.Carrying.{ServesKept};
-ghost use Rattle.duplex_server.specs.ServerStream.{answering, owed};
-ghost use Rattle.duplex_server.specs.Serving.{Judges, Serves, WritesOwed, inbound_of};
+ghost use Rattle.duplex_server.specs.ServerStream.{answering};
+ghost use Rattle.duplex_server.specs.Serving.{Serves, inbound_of};
 
 use crate::following::follow_requests;
 use crate::jobs::last_bytes;
@@ -146,17 +146,8 @@ pub fn serve_one<S: Source, K: Sink, V: Service>(
     endpoint: &Endpoint,
     service: &V,
 ) -> Outcome
-    ensures judged { (bytes : List ℕ) → S.left source.old ≡ Some bytes
-        → Judges (answering (V.served service.now) statics.now quotas.now)
-        (endpoint_of endpoint.now) bytes result.inbound }
-    ensures written { (bytes w : List ℕ) → S.left source.old ≡ Some bytes
-        → (K.view sink.old).written ≡ Some w → (w' : List ℕ) × ((K.view sink.new).written ≡ Some w')
-        × WritesOwed (owed (answering (V.served service.now) statics.now quotas.now)
-        (endpoint_of endpoint.now) bytes) (K.view sink.old).held w w' result.inbound
-        result.outbound }
-
-    // Which bytes were read, which of their events were answered, and which answers were put,
-    // however that ends.
+    // How the bytes are judged and what is written of them; which were read, which of their events
+    // were answered, and which answers were put, however that ends.
     ensures served { Serves (answering (V.served service.now) statics.now quotas.now)
         (endpoint_of endpoint.now)
         (input_at S.left S.taken S.faults S.empty_takes source.old)

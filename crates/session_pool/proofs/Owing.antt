@@ -18,7 +18,7 @@ use Rattle.duplex_server.specs.declared.outcome.{Inbound.Inbound, Outcome.Outcom
 use Rattle.duplex_server.specs.declared.outcome.Inbound.TheVariants as inbounds
 use Rattle.duplex_server.specs.ServerStream.{Answering, owed, requests_to}
 use Rattle.duplex_server.specs.Serving.{Judges, Serves, WritesOwed}
-use Rattle.duplex_server.proofs.{Answered.serves_empties, Judged.judges, Judged.owes}
+use Rattle.duplex_server.proofs.Answered.{serves_empties}
 use Rattle.io_edges.specs.Views.{SinkView}
 use Rattle.session_pool.specs.OwedTurns.{behind_end, on_rest, owed_turns}
 use Rattle.session_pool.specs.declared.turns.{Turns.Turns, TurnsEnd.TurnsEnd}
@@ -137,15 +137,14 @@ module _ (x : Answering) (endpoint : Option (List ℕ)) where
       (serves : Serves x endpoint i mid sink later outcome) (bytes w : List ℕ)
       (left : i.left ≡ Some bytes) (written : sink.written ≡ Some w) where
     clean : offence (stream (requests_to x endpoint)) bytes ≡ None
-    clean = by outcome.inbound well.inbound
-        (judges x endpoint i mid sink later bytes left outcome serves) where
-          by : (inbound : Inbound) → inbound ≡ inbounds.Ended → Judges x endpoint bytes inbound
-              → offence (stream (requests_to x endpoint)) bytes ≡ None
-          by inbound is judged = rw is at judged
+    clean = by outcome.inbound well.inbound (serves.judged bytes left) where
+      by : (inbound : Inbound) → inbound ≡ inbounds.Ended → Judges x endpoint bytes inbound
+          → offence (stream (requests_to x endpoint)) bytes ≡ None
+      by inbound is judged = rw is at judged
 
     all : later.written ≡ Some (w ++ sink.held ++ owed x endpoint bytes)
     all =
-        let o = owes x endpoint i mid sink later bytes left outcome serves w written in
+        let o = serves.written bytes w left written in
         o.1 ∙ ap Some (subst (λ (v : Inbound). WritesOwed (owed x endpoint bytes) sink.held w o.0 v
         outbounds.Done) well.inbound (subst (WritesOwed (owed x endpoint bytes) sink.held w o.0
         outcome.inbound) well.outbound o.2))
@@ -340,14 +339,13 @@ module _ (x : Answering) (endpoint : Option (List ℕ)) where
 
       out : (w' : List ℕ) × (sink'.written ≡ Some w') × WritesOwed (owed x endpoint o.rest)
           h.later.held o.before w' s.last.inbound s.last.outbound
-      out = owes x endpoint h.next i' h.later sink' o.rest o.left s.last s.serves o.before o.written
+      out = s.serves.written o.rest o.before o.left o.written
 
       -- where it was refused nothing is owed beyond
       refused : (offence : Offence) → s.last.inbound ≡ inbounds.Offended offence → beyond ≡ []
       refused offence is = ap (λ (v : Option (List ℕ)). on_rest v (Owed k))
           (none_behind (stream (requests_to x endpoint)) ends (closes (requests_to x endpoint))
-          o.rest offence (subst (Judges x endpoint o.rest) is (judges x endpoint h.next i' h.later
-          sink' o.rest o.left s.last s.serves)))
+          o.rest offence (subst (Judges x endpoint o.rest) is (s.serves.judged o.rest o.left)))
 
       joined : (w' : List ℕ) → w' ≡ o.before ++ h.later.held ++ owed x endpoint o.rest
           → w' ≡ w ++ sink.held ++ (o.gained ++ owed x endpoint o.rest)

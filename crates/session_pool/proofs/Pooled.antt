@@ -1,5 +1,5 @@
 -- Connections that are accepted, served and closed, one more behind others.
-use Rattle.std.proofs.Common.{◌≡◌, ℕ, ◌+◌, ◌≤◌, ◌<◌, All, List, [], ◌∷◌, ◌++◌, map, length, Some}
+use Rattle.std.proofs.Common.{◌≡◌, ℕ, ◌+◌, All, List, [], ◌∷◌, ◌++◌, map, length, Some}
 use Rattle.std.proofs.Common.{None}
 use Rattle.std.proofs.Common.{IfSome, Option, sym, refl, ap, ◌∙◌, subst, inl, inr, append_assoc}
 use Rattle.std.proofs.Common.{append-nil, arith, length-append}
@@ -8,7 +8,7 @@ use Rattle.std.proofs.lemmas.List.Elements.{All-push, All-tail}
 use Rattle.io_edges.specs.{Faults.CountsFaults, Flow.Told, Views.SinkView, Wires.added_up}
 use Rattle.io_edges.specs.Wires.{Fresh, Network}
 use Rattle.stream_reader.specs.Sides.{endpoint_of}
-use Rattle.stream_loop.specs.Edges.{AreNew, input_at}
+use Rattle.stream_loop.specs.Edges.{AreNew}
 use Rattle.action_dispatch.specs.Answers.{Serves}
 use Rattle.duplex_server.specs.declared.connection.Server.{Server}
 use Rattle.duplex_server.specs.ServerStream.{Answering, answering}

@@ -1,38 +1,26 @@
 -- What is told of a connection's ends behind its sessions, where it was told before.
 use Rattle.std.proofs.Common.{◌≡◌, ℕ, List, [], ◌∷◌, ◌++◌, map, Some, Option, ap, ◌∙◌}
 use Rattle.std.specs.Option.{option_map}
-use Rattle.nbfx_values.specs.declared.refusals.Offence.{Offence}
-use Rattle.stream_reader.specs.Stream.{stream, StreamEvent}
-use Rattle.stream_loop.proofs.{Amounts.wrote_grew, Counts.handled_some, Writing.told_some}
-use Rattle.stream_loop.specs.{declared.following.FollowEnding.FollowEnding, Edges.Input}
-use Rattle.stream_loop.specs.Followed.{Follows}
+use Rattle.stream_reader.specs.Stream.{stream}
+use Rattle.stream_loop.proofs.{Amounts.wrote_grew, Counts.handled_some, Counts.took_some}
+use Rattle.stream_loop.proofs.Writing.{told_some}
+use Rattle.stream_loop.specs.Edges.{Input}
 use Rattle.duplex_server.specs.{declared.outcome.Outcome.Outcome, Requests.request_for}
 use Rattle.duplex_server.specs.ServerStream.{Answering, replies, requests_to}
 use Rattle.duplex_server.specs.Serving.{closing_of, ending_of, HasServed, Serves}
 use Rattle.io_edges.specs.Views.{SinkView}
 use Rattle.session_pool.specs.declared.turns.{Turns.Turns, TurnsEnd.TurnsEnd}
 use Rattle.session_pool.specs.Turns.{behind_session, Ends, InTurn, Rests, ServesTurns}
-use Rattle.stream_loop.specs.declared.following.FollowEnding.TheVariants as endings
 use Rattle.session_pool.specs.declared.turns.TurnsEnd.TheVariants as stops
 
 module _ (x : Answering) (endpoint : Option (List ℕ)) where
   -- of one session
-  took : (Handled : List StreamEvent → Type 0) (i i' : Input) (ending : FollowEnding Offence)
-      → Follows (stream (requests_to x endpoint)) Handled i i' ending
-      → (t : List ℕ) → i.taken ≡ Some t → (t' : List ℕ) × (i'.taken ≡ Some t')
-  took Handled i i' (endings.Judged judged) h t is =
-      let k = told_some (λ t t'. t' ≡ t ++ h.bytes) i.taken i'.taken t is h.took in (k.0, k.1)
-  took Handled i i' endings.ReadFault h t is =
-      let k = told_some (λ t t'. t' ≡ t ++ h.bytes) i.taken i'.taken t is h.took in (k.0, k.1)
-  took Handled i i' endings.Memory h t is =
-      let k = told_some (λ t t'. t' ≡ t ++ h.before ++ h.piece) i.taken i'.taken t is h.took in
-      (k.0, k.1)
-
   serves_taken : (i i' : Input) (sink sink' : SinkView) (outcome : Outcome)
       → Serves x endpoint i i' sink sink' outcome → (t : List ℕ) → i.taken ≡ Some t
       → (t' : List ℕ) × (i'.taken ≡ Some t')
   serves_taken i i' sink sink' outcome h t is =
-      took (HasServed x outcome sink sink') i i' (ending_of outcome.inbound) h.follows t is
+      took_some (stream (requests_to x endpoint)) (HasServed x outcome sink sink') i i'
+      (ending_of outcome.inbound) h.follows t is
 
   serves_written : (i i' : Input) (sink sink' : SinkView) (outcome : Outcome)
       → Serves x endpoint i i' sink sink' outcome → (w : List ℕ) → sink.written ≡ Some w

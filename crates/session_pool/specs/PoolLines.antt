@@ -1,6 +1,6 @@
 -- The lines of connections that were served at once.
 use Rattle.std.specs.Prelude.{◌≡◌, ℕ, ◌+◌, ◌-◌, ◌^◌, min, List, [], ◌∷◌, ◌++◌, map, length, codes}
-use Rattle.std.specs.Prelude.{decimal, Some, None, Ok, Err, IfErr, OnOk, Option, Result, ⊤}
+use Rattle.std.specs.Prelude.{decimal, Some, None, Ok, Err, OnOk, Option, Result, ⊤}
 use Rattle.io_edges.specs.{declared.SinkFault.SinkFault, Puts.Puts, Views.SinkView, Wires.Network}
 use Rattle.stream_loop.specs.declared.outbound.Outbound.{Outbound}
 use Rattle.duplex_server.specs.declared.{outcome.Outcome.Outcome, stopping.ServeFault.ServeFault}

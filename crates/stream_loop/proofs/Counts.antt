@@ -1,10 +1,10 @@
 -- What a stream that is followed leaves of the counts of faults, and that some events were handled.
-use Rattle.std.proofs.Common.{◌≡◌, ℕ, List, Ok, refl, inl, inr}
+use Rattle.std.proofs.Common.{◌≡◌, ℕ, List, ◌++◌, Some, Ok, refl, inl, inr}
 use Rattle.io_edges.{proofs.Putting.Puts-then, specs.Faults.CountsFaults}
 use Rattle.unit_streams.specs.{Grammar.Grammar, Judging.events_of, Tellers.Teller}
 use Rattle.stream_loop.specs.declared.{following.FollowEnding.FollowEnding}
 use Rattle.stream_loop.specs.declared.{outbound.Outbound.Outbound}
-use Rattle.stream_loop.specs.{Edges.Input, Followed.Follows}
+use Rattle.stream_loop.{proofs.Writing.told_some, specs.Edges.Input, specs.Followed.Follows}
 use Rattle.stream_loop.specs.Writing.{Ends, Wrote}
 use Rattle.io_edges.specs.Views.{SinkView}
 use Rattle.io_edges.specs.Puts.{Puts}
@@ -18,6 +18,18 @@ pub handled_some : {Z U E R : Type 0} (g : Grammar Z U E R) (Handled : List E �
 handled_some g Handled i i' (endings.Judged judged) h = (h.events, h.handled)
 handled_some g Handled i i' endings.ReadFault h = (events_of g h.bytes, h.handled)
 handled_some g Handled i i' endings.Memory h = (h.events, h.handled)
+
+-- what was taken stays told
+pub took_some : {Z U E R : Type 0} (g : Grammar Z U E R) (Handled : List E → Type 0) (i i' : Input)
+    (ending : FollowEnding R) → Follows g Handled i i' ending → (t : List ℕ) → i.taken ≡ Some t
+    → (t' : List ℕ) × (i'.taken ≡ Some t')
+took_some g Handled i i' (endings.Judged judged) h t is =
+    let k = told_some (λ t t'. t' ≡ t ++ h.bytes) i.taken i'.taken t is h.took in (k.0, k.1)
+took_some g Handled i i' endings.ReadFault h t is =
+    let k = told_some (λ t t'. t' ≡ t ++ h.bytes) i.taken i'.taken t is h.took in (k.0, k.1)
+took_some g Handled i i' endings.Memory h t is =
+    let k = told_some (λ t t'. t' ≡ t ++ h.before ++ h.piece) i.taken i'.taken t is h.took in
+    (k.0, k.1)
 
 -- counts of calls that failed so where others failed
 pub counts_as : (f f' : ℕ) (A B : Type 0) → (A → B) → (B → A) → CountsFaults f f' A

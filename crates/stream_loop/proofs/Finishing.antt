@@ -1,6 +1,6 @@
 -- How the reporting of a stream ended, by what was put for the bytes that were read, and what was
 -- then written.
-use Rattle.std.proofs.Common.{◌≡◌, ℕ, ◌+◌, ◌-◌, Bool, ◌⊎◌, ◌↔◌, List, [], ◌++◌, length, take, IfOk}
+use Rattle.std.proofs.Common.{◌≡◌, ℕ, ◌+◌, ◌-◌, ◌⊎◌, ◌↔◌, List, [], ◌++◌, length, take, IfOk}
 use Rattle.std.proofs.Common.{IfErr, OnOk, OnErr, Some, None, Ok, Err, Option, Result, IsErrOf, sym}
 use Rattle.std.proofs.Common.{refl, ap, ◌∙◌, subst, inl, inr, append_assoc, append-nil, arith}
 use Rattle.{std.specs.Prelude.⊤, io_edges.proofs.Putting.Puts-then}

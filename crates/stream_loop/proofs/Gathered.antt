@@ -1,6 +1,6 @@
 -- What is written of what was gathered: all, or first bytes of it, a part at a time.
 use Rattle.std.proofs.Common.{◌≡◌, ℕ, ◌+◌, ◌-◌, ◌<◌, ◌≤◌, List, [], ◌∷◌, ◌++◌, length, take}
-use Rattle.std.proofs.Common.{drop, Some, Ok, Err, Result, sym, refl, ap, ◌∙◌, subst, inl}
+use Rattle.std.proofs.Common.{drop, Some, Ok, Err, sym, refl, ap, ◌∙◌, subst, inl}
 use Rattle.std.proofs.Common.{inr, append_assoc, append-nil, arith, take-append-drop, take_all}
 use Rattle.std.proofs.Math.Seq.{take-add, take-append-add, take-nil}
 use Rattle.std.proofs.lemmas.{Bool.cases_lt, List.take-append-le}

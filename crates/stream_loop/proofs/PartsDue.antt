@@ -89,6 +89,20 @@ module _ {S E R : Type 0} (t : Teller S E R) (count : S → ℕ) where
     next : (n : ℕ) (closing : List ℕ) → due_next counting n closing rest
         ≡ due_next t (state_behind t s first) closing others
 
+  -- an event before them of which no part is
+  behind_quiet : (s : S) (event : E) (events : List E) (done rest : List Part)
+      → IsQuiet t count s event → Split (t.next s event) events done rest
+      → Split s (event ∷ events) done rest
+  unfolding AreDue state_behind
+  behind_quiet s event events done rest quiet more = record {
+    first = event ∷ more.first;
+    others = more.others;
+    joined = ap (λ l. event ∷ l) more.joined;
+    due = inl (quiet, more.due);
+    none = more.none;
+    next = more.next;
+  }
+
   split_at : (s : S) (events : List E) (done rest : List Part)
       → Due' s events (done ++ rest) → Split s events done rest
   unfolding AreDue state_behind head_of tail_of
@@ -102,16 +116,8 @@ module _ {S E R : Type 0} (t : Teller S E R) (count : S → ℕ) where
   }
   split_at s [] [] (one ∷ rest) due = cc
   split_at s [] (one ∷ done) rest due = cc
-  split_at s (event ∷ events) [] (one ∷ rest) (inl h) =
-      let more = split_at (t.next s event) events [] (one ∷ rest) h.1 in
-      record {
-        first = event ∷ more.first;
-        others = more.others;
-        joined = ap (λ l. event ∷ l) more.joined;
-        due = inl (h.0, more.due);
-        none = more.none;
-        next = more.next;
-      }
+  split_at s (event ∷ events) [] (one ∷ rest) (inl h) = behind_quiet s event events [] (one ∷ rest)
+      h.0 (split_at (t.next s event) events [] (one ∷ rest) h.1)
   split_at s (event ∷ events) [] (one ∷ rest) (inr h) = record {
     first = [];
     others = event ∷ events;
@@ -121,16 +127,8 @@ module _ {S E R : Type 0} (t : Teller S E R) (count : S → ℕ) where
     next = λ n closing.
         ap (λ (l : List Part). (head_of one l).bytes) h.2 ∙ h.3.0;
   }
-  split_at s (event ∷ events) (one ∷ done) rest (inl h) =
-      let more = split_at (t.next s event) events (one ∷ done) rest h.1 in
-      record {
-        first = event ∷ more.first;
-        others = more.others;
-        joined = ap (λ l. event ∷ l) more.joined;
-        due = inl (h.0, more.due);
-        none = more.none;
-        next = more.next;
-      }
+  split_at s (event ∷ events) (one ∷ done) rest (inl h) = behind_quiet s event events (one ∷ done)
+      rest h.0 (split_at (t.next s event) events (one ∷ done) rest h.1)
   split_at s (event ∷ events) (one ∷ done) rest (inr h) =
       let same = ap (head_of one) h.2 in
       let more = split_at (t.next s event) events done rest

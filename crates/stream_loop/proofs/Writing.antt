@@ -1,6 +1,6 @@
 -- What is told before and afterwards, what counts say, and what is written after what was.
-use Rattle.std.proofs.Common.{◌≡◌, ℕ, Bool, true, List, [], ◌++◌, length, take, OnOk, OnErr, Some}
-use Rattle.std.proofs.Common.{None, Ok, Err, Option, Result, IsErrOf, sym, refl, ap, ◌∙◌, subst}
+use Rattle.std.proofs.Common.{◌≡◌, ℕ, List, [], ◌++◌, length, take, OnOk, OnErr, Some}
+use Rattle.std.proofs.Common.{None, Ok, Err, Option, Result, sym, refl, ap, ◌∙◌, subst}
 use Rattle.std.proofs.Common.{inl, inr, append_assoc, append-nil, arith, take_all}
 use Rattle.std.{specs.Prelude.⊤, proofs.lemmas.Bool.cases_lt, proofs.lemmas.List.take-append-le}
 use Rattle.io_edges.proofs.Putting.{Puts-then}
@@ -8,7 +8,6 @@ use Rattle.io_edges.specs.{declared.SinkFault.SinkFault, Faults.CountsFaults, Pu
 use Rattle.io_edges.specs.Flow.{GrowsByPrefix, Passes, Told}
 use Rattle.stream_loop.specs.Reported.{Grows}
 use Rattle.io_edges.specs.Views.{SinkView}
-use Rattle.io_edges.specs.declared.SinkFault.TheVariants as faults
 
 -- what was told before, and what it became
 pub told_some : (P : List ℕ → List ℕ → Type 0) (old new : Option (List ℕ)) (w : List ℕ)

@@ -23,14 +23,10 @@ read_behind-reader-requires-clause-come g c =
 
 -- the call was over before the Ack
 pub returns-in-Err : goal.returns-in-Err
-returns-in-Err g c =
-    let k = c.in-Err.ensures.over.known c.args.docs.now in record {
-      judged = k.judged;
-      reported = k.reported;
-      written = k.written;
-      called = k.calls;
-      ended = c.in-Err.ensures.ended;
-    }
+returns-in-Err g c = record {
+  called = c.in-Err.ensures.over.known c.args.docs.now;
+  ended = c.in-Err.ensures.ended;
+}
 
 -- the documents were sent
 pub returns : goal.returns
@@ -49,17 +45,14 @@ returns g c =
     let d = c.send_list-sent in
     let b = c.read_behind-reader in
     let e = c.close_call.ensures in
-    let k = knows_behind s a.via.now a.docs.now i (input_of g f.new.source)
-    (input_of g b.new.source) (g.K.Sink.view a.sink.now) (g.K.Sink.view f.new.sink)
-    (g.K.Sink.view d.new.sink) output (g.O.Sink.view f.new.output) (g.O.Sink.view b.new.output)
-    (g.O.Sink.view c.close_call.new.output) c.in-Ok.reader b.result.0 b.result.1
-    c.close_call.result has
-    (b.ensures.followed (reads_by s) i a.output.now has.read has.come) b.ensures.counted e.closed
-    e.inbound (λ start before puts flushed. rw (e.outbound, e.sent) (d.ensures.sends start before
-    puts flushed)) in record {
-      judged = k.judged;
-      reported = k.reported;
-      written = k.written;
-      called = k.calls;
+    record {
+      called = knows_behind s a.via.now a.docs.now i (input_of g f.new.source)
+          (input_of g b.new.source) (g.K.Sink.view a.sink.now) (g.K.Sink.view f.new.sink)
+          (g.K.Sink.view d.new.sink) output (g.O.Sink.view f.new.output) (g.O.Sink.view b.new.output)
+          (g.O.Sink.view c.close_call.new.output) c.in-Ok.reader b.result.0 b.result.1
+          c.close_call.result has
+          (b.ensures.followed (reads_by s) i a.output.now has.read has.come) b.ensures.counted e.closed
+          e.inbound (λ start before puts flushed. rw (e.outbound, e.sent) (d.ensures.sends start before
+          puts flushed));
       ended = λ not. d.ensures.ended;
     }

@@ -33,8 +33,7 @@ returns g c =
       report = f.result;
     } in
     let fin = rw m.tags_are at f.ensures in
-    let peer = peer_called x via line i i' k k' _ _ _ (outcome_of called) f.result n.calls fin
-    n.judged n.written n.reported in record {
+    let peer = peer_called x via line i i' k k' _ _ _ (outcome_of called) f.result n fin in record {
       order = m.order;
       all = m.all;
       calls = subst (λ (o : SinkView). CallsPeer x via line i i' k k' o

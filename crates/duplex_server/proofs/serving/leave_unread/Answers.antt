@@ -1,7 +1,7 @@
-use Rattle.std.proofs.Common.{◌≡◌, [], map, refl}
+use Rattle.std.proofs.Common.{[], refl}
 use Rattle.unit_streams.specs.Judging.{events_in, events_of}
 use Rattle.stream_reader.specs.Sides.{endpoint_of}
-use Rattle.stream_reader.specs.Stream.{ends, Settings, stream, StreamEvent}
+use Rattle.stream_reader.specs.Stream.{ends, Settings, stream}
 use Rattle.stream_loop.proofs.{LoopSteps.first_pending, Parts.given_none, Taking.unbegun}
 use Rattle.stream_loop.proofs.Writing.{counted_none}
 use Rattle.stream_loop.specs.Edges.{Input, input_at}
@@ -10,7 +10,6 @@ use Rattle.duplex_server.specs.ServerStream.{Answering, answering, messages_alon
 use Rattle.duplex_server.specs.ServerStream.{requests_to}
 use Rattle.duplex_server.specs.{Replying.answers_in, Serving.HasServed}
 use Rattle.duplex_server.proofs.{Served.served, Served.serves, Streams.ends_within}
-use Rattle.duplex_server.proofs.serving.leave_unread.Given.{Over}
 use Rattle.stream_loop.{specs.PartsDue.AreDue, proofs.PartsDue.wrote_so}
 use Rattle.io_edges.specs.Views.{SinkView}
 use Rattle.stream_loop.specs.declared.following.FollowEnding.TheVariants as endings

@@ -1,4 +1,4 @@
-use Rattle.std.proofs.Common.{◌≡◌, ℕ, List, sym, subst}
+use Rattle.std.proofs.Common.{ℕ, List, sym, subst}
 use Rattle.stream_loop.{proofs.Reading.none_taken, specs.Followed.WasTaken}
 use Rattle.stream_loop.specs.Edges.{Input, input_at}
 use Rattle.duplex_server.proofs.serving.serve_connection.Goals as goal

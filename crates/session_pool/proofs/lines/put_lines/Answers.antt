@@ -1,4 +1,4 @@
-use Rattle.std.proofs.Common.{◌≡◌, ◌+◌, ℕ, List, [], Ok, Err, take, get_or, sym, refl, ap, ◌∙◌}
+use Rattle.std.proofs.Common.{◌+◌, ℕ, List, Ok, Err, get_or, sym, refl, ap}
 use Rattle.std.proofs.Common.{subst, arith}
 use Rattle.std.proofs.Common.{take_all}
 use Rattle.std.proofs.lemmas.Result.{err_from_is_err_and}

@@ -1,5 +1,5 @@
 use Rattle.std.specs.Prelude.{◌≡◌, ◌≤◌, List, length, vec_capacity, vec_len}
-use Rattle.io_edges.specs.Wires.{Network, network_at}
+use Rattle.io_edges.specs.Wires.{network_at}
 use Rattle.duplex_server.specs.Served.{ends_at}
 use Rattle.session_pool.specs.Serving.{AreServing, Hands}
 use Rattle.session_pool.proofs.pooling.accept_each.Given as goal

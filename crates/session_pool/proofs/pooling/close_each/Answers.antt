@@ -1,6 +1,6 @@
 use Rattle.std.proofs.Common.{◌≡◌, ℕ, All, List, [], ◌∷◌, ◌++◌, length, sym, refl, ap, ◌∙◌, subst}
 use Rattle.std.proofs.Common.{append_assoc, append-nil, arith, Option}
-use Rattle.std.specs.Vec.Iter.{into_iter_items, into_iter_len}
+use Rattle.std.specs.Vec.Iter.{into_iter_items}
 use Rattle.io_edges.specs.Wires.{Network, network_at}
 use Rattle.stream_loop.specs.Edges.{AreNew, input_at}
 use Rattle.duplex_server.specs.declared.connection.Server.{Server}

@@ -1,4 +1,4 @@
-use Rattle.std.proofs.Common.{◌≡◌, ℕ, ◌<◌, Bool, true, false, All, List, [], ◌++◌, ◌∷◌, length}
+use Rattle.std.proofs.Common.{◌≡◌, ℕ, Bool, true, false, All, List, [], ◌∷◌, length}
 use Rattle.std.proofs.Common.{Ok, sym, refl}
 use Rattle.std.proofs.Common.{ap, ◌∙◌, subst, arith, length-append}
 use Rattle.stream_reader.specs.Sides.{endpoint_of}
@@ -7,7 +7,7 @@ use Rattle.stream_loop.specs.declared.outbound.Outbound.TheVariants.{Done}
 use Rattle.duplex_server.specs.declared.outcome.Outcome.{Outcome}
 use Rattle.duplex_server.specs.{Carrying.FillsCarry, ServerStream.Answering, ServerStream.answering}
 use Rattle.session_pool.specs.SoFar.{IsSoFar}
-use Rattle.session_pool.proofs.Along.{as_many, filled_so_far, last_done, no_more, none_so_far}
+use Rattle.session_pool.proofs.Along.{filled_so_far, last_done, no_more, none_so_far}
 use Rattle.session_pool.proofs.Along.{not_read, one_unwell, one_well}
 use Rattle.session_pool.proofs.serving.serve_each.Given.{Over}
 use Rattle.session_pool.proofs.serving.serve_each.Goals as goal

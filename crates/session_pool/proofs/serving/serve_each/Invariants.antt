@@ -1,4 +1,4 @@
-use Rattle.std.specs.Prelude.{◌≡◌, ◌≤◌, length, vec_capacity, vec_items}
+use Rattle.std.specs.Prelude.{◌≡◌, ◌≤◌, length, vec_capacity}
 use Rattle.stream_reader.specs.Sides.{endpoint_of}
 use Rattle.stream_loop.specs.Edges.{input_at}
 use Rattle.duplex_server.specs.ServerStream.{answering}

@@ -1,4 +1,4 @@
-use Rattle.std.proofs.Common.{◌≡◌, ℕ, List, [], map, None, refl, subst}
+use Rattle.std.proofs.Common.{◌≡◌, List, [], map, None, refl, subst}
 use Rattle.std.specs.Option.{option_map}
 use Rattle.unit_streams.specs.declared.Memory.{Memory}
 use Rattle.unit_streams.specs.{Grammar.Grammar}

@@ -1,5 +1,5 @@
-use Rattle.std.proofs.Common.{◌≡◌, ℕ, List, [], sym, refl, subst}
-use Rattle.unit_streams.specs.{Grammar.Grammar, Judging.events_in, Judging.events_of}
+use Rattle.std.proofs.Common.{ℕ, List, [], sym, refl, subst}
+use Rattle.unit_streams.specs.{Judging.events_in, Judging.events_of}
 use Rattle.stream_loop.specs.{Edges.Input, Edges.input_at, Followed.WasTaken}
 use Rattle.stream_loop.proofs.{LoopSteps.first_pending, Reading.none_taken, Taking.unbegun}
 use Rattle.stream_loop.proofs.following.follow_stream.Given.{Over}

@@ -1,4 +1,4 @@
-use Rattle.std.proofs.Common.{◌≡◌, List, [], ◌∷◌, ◌++◌, Some, None, sym, refl, subst, append_assoc}
+use Rattle.std.proofs.Common.{◌≡◌, List, [], ◌∷◌, ◌++◌, Some, None, refl, subst, append_assoc}
 use Rattle.unit_streams.specs.Tellers.{state_behind}
 use Rattle.stream_loop.proofs.Parts.{given_stopped}
 use Rattle.duplex_server.specs.declared.requests.Request.{Request}

@@ -1,4 +1,4 @@
-use Rattle.std.proofs.Common.{◌≡◌, true, false, sym, ap, ◌∙◌}
+use Rattle.std.proofs.Common.{sym, ap, ◌∙◌}
 use Rattle.receiver_machine.specs.ReceiverState.{settings_of}
 use Rattle.duplex_server.proofs.NoAcks.{end_told, ends_by}
 use Rattle.duplex_server.proofs.requests.RequestReaderReadingEnd.is_end.Goals as goal

@@ -1,4 +1,4 @@
-use Rattle.std.proofs.Common.{◌≡◌, ℕ, sym, refl, subst, arith}
+use Rattle.std.proofs.Common.{sym, refl, subst, arith}
 use Rattle.io_edges.specs.Wires.{Network, network_at}
 use Rattle.session_pool.specs.{declared.pooling.PoolReport.PoolReport, Serving.Closes}
 use Rattle.session_pool.proofs.Pooled.{pools_all}
