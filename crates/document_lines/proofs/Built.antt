@@ -15,10 +15,11 @@ use Rattle.line_notation.specs.LineReaderState.{answer_of, at_start, document_of
 use Rattle.line_notation.specs.LineReaderState.{ends, failed, going, on, outcome}
 use Rattle.line_notation.specs.LineReaderState.{Placed as PlacedLine, Standing, standing_of}
 use Rattle.document_lines.specs.{declared.InputFault.InputFault, Laws.AcceptedIsBuilt, Laws.IsBuilt}
-use Rattle.document_lines.specs.Input.{behind_line, completed_line, ending_fault, envelope_of}
-use Rattle.document_lines.specs.Input.{envelopes_and_end, fault_of, lines_of_documents, payload_at}
-use Rattle.document_lines.specs.Input.{refused_line, Settings, Situation, table_of}
-use Rattle.document_lines.proofs.Lines.{cut_line, readable}
+use Rattle.document_lines.specs.Input.{behind_line, completed_line, document_rules, ending_fault}
+use Rattle.document_lines.specs.Input.{envelope_of, envelopes_and_end, fault_of, lines_of_documents}
+use Rattle.document_lines.specs.Input.{payload_at, refused_line, Settings, Situation, table_of}
+use Rattle.line_streams.proofs.Walking.{cuts, lines_of}
+use Rattle.document_lines.proofs.Lines.{readable}
 
 -- a reader of lines that hasn't failed
 abbrev pub IsGoing : Standing → Type 0
@@ -30,9 +31,6 @@ module _ (x : Settings) where
   abbrev pub g : Grammar Situation (List ℕ) (List ℕ) InputFault
   g = lines_of_documents x
 
-  abbrev pub lines_of : List (Counted (List ℕ)) → List (List ℕ)
-  lines_of units = map (λ (one : Counted (List ℕ)). one.unit) units
-
   -- the envelopes that events bring
   abbrev pub joined : List (List ℕ) → List ℕ
   joined es = flat_map (λ e. e) es
@@ -41,7 +39,7 @@ module _ (x : Settings) where
   abbrev pub Writes : Situation → ℕ → List (Counted (List ℕ)) → Situation → Type 0
   Writes z from units z' =
       envelopes_from x.limits x.kind x.mode z.table z.documents
-      (documents_from z.lines (lines_of units)) ≡ Ok (
+      (documents_from z.lines (lines_of (document_rules x) units)) ≡ Ok (
         joined (events_along g z from units),
         z'.table,
       )
@@ -67,7 +65,7 @@ module _ (x : Settings) where
       document : (v : Result (Placed (List ℕ)) Unfit) → fault_of x k v ≡ None
           → UnitsLead g (behind n table k v) from units bytes z' rest
           → envelope_then x.mode k v (λ table. envelopes_from x.limits x.kind x.mode table (k + 1)
-          (documents_from (going n [] None) (lines_of units)))
+          (documents_from (going n [] None) (lines_of (document_rules x) units)))
           ≡ Ok (
             joined (option_to_list (envelope_of x v) ++ events_along g (behind n table k v) from
                 units),
@@ -85,7 +83,7 @@ module _ (x : Settings) where
       → UnitsLead g (behind_line x (at lines table k) (standing_of n o) (answer_of n o)) from
       units bytes z' rest
       → envelopes_from x.limits x.kind x.mode table k (document_of (answer_of n o) ++ documents_from
-      (standing_of n o) (lines_of units))
+      (standing_of n o) (lines_of (document_rules x) units))
       ≡ Ok (
         joined (option_to_list (completed_line x (at lines table k) (answer_of n o))
             ++ events_along g (behind_line x (at lines table k) (standing_of n o) (answer_of n o))
@@ -107,17 +105,6 @@ module _ (x : Settings) where
       leads (n + 1) (going n items array) table k (from + one.size) units (drop one.size bytes) z'
       rest (walk units (from + one.size) (drop one.size bytes) z' rest)
       (outcome items array one.unit) l.1 l.2
-
-  -- the units are the lines of the bytes
-  pub cuts : (units : List (Counted (List ℕ))) (z : Situation) (from : ℕ) (bytes : List ℕ)
-      (z' : Situation) (rest : List ℕ) → UnitsLead g z from units bytes z' rest
-      → cut bytes ≡ (lines_of units ++ (cut rest).0, (cut rest).1)
-  unfolding UnitsLead
-  cuts [] z from bytes z' rest l = ap cut l.1
-  cuts (one ∷ units) z from bytes z' rest l =
-      cut_line bytes one.unit one.size l.0
-      ∙ ap (λ (c : List (List ℕ) × List ℕ). (one.unit ∷ c.0, c.1))
-      (cuts units (g.after z from one.unit) (from + one.size) (drop one.size bytes) z' rest l.2)
 
   -- input may end at the end of a line alone
   at_feed : (b : Bool) (z : Situation) → ending_fault x b z ≡ None → b ≡ false
@@ -158,10 +145,10 @@ module _ (x : Settings) where
 
     built_of : offence g bytes ≡ None → IsBuilt x bytes
     built_of none = record {
-      lines = lines_of a.units;
-      lines_are = cuts a.units g.start 0 bytes a.situation a.rest a.lead
-          ∙ ap (λ r. (lines_of a.units ++ (cut r).0, (cut r).1)) nothing_left
-          ∙ ap (λ l. (l, [])) (append-nil (lines_of a.units));
+      lines = lines_of (document_rules x) a.units;
+      lines_are = cuts (document_rules x) a.units g.start 0 bytes a.situation a.rest a.lead
+          ∙ ap (λ r. (lines_of (document_rules x) a.units ++ (cut r).0, (cut r).1)) nothing_left
+          ∙ ap (λ l. (l, [])) (append-nil (lines_of (document_rules x) a.units));
       envelopes = (joined es, a.situation.table);
       all_fit = walk a.units 0 bytes a.situation a.rest at_start
           (record { statics = x.statics; strings = [] }) 0 tt a.lead;

@@ -25,11 +25,12 @@ use Rattle.line_notation.specs.LineReaderState.{placed_array, placed_at, Standin
 use Rattle.line_notation.specs.LineReaderState.{standing_from, standing_of}
 use Rattle.document_lines.specs.declared.InputFault.{InputFault, TheVariants.Line as RefusedLine}
 use Rattle.document_lines.specs.Input.{behind_line, ending_fault, fault_of, is_full, is_singleton}
-use Rattle.document_lines.specs.Input.{line_at, lines_of_documents, refused_line, Settings}
-use Rattle.document_lines.specs.Input.{Situation, start_of, table_of, with_byte}
+use Rattle.document_lines.specs.Input.{document_rules, lines_of_documents, refused_line, Settings}
+use Rattle.document_lines.specs.Input.{Situation, start_of, table_of}
 use Rattle.document_lines.specs.Laws.{FittingIsAccepted, MayBeBuilt}
-use Rattle.document_lines.proofs.Built.{at, lines_of}
-use Rattle.document_lines.proofs.Lines.{other_cut, readable, short_enough}
+use Rattle.line_streams.proofs.{LineFacts.other_cut, LineFacts.short_enough, Walking.lines_of}
+use Rattle.line_streams.specs.LineRules.{line_at, with_byte}
+use Rattle.document_lines.proofs.{Built.at, Lines.readable}
 use Rattle.document_lines.proofs.Written.{led_documents, led_lines}
 use Rattle.line_notation.specs.declared.line.Line.TheVariants as says
 
@@ -41,7 +42,7 @@ Cut = List (List ℕ) × List ℕ
 -- the first line of bytes that are cut so
 line_of_cut : (bytes line : List ℕ) (lines : List (List ℕ)) (rest : List ℕ)
     → cut bytes ≡ (line ∷ lines, rest)
-    → (line_at bytes ≡ whole line (length line + 1))
+    → (line_at {R = InputFault} bytes ≡ whole line (length line + 1))
     × (cut (drop (length line + 1) bytes) ≡ (lines, rest))
 line_of_cut [] line lines rest e = absurd (no_lines e) where
   no_lines : ◌≡◌ {A = Cut} ([], []) (line ∷ lines, rest) → ⊥
@@ -49,8 +50,8 @@ line_of_cut [] line lines rest e = absurd (no_lines e) where
 line_of_cut (b ∷ bytes) line lines rest e = by_feed (line_of_cut bytes) (b == 10) refl e where
   by_more : (l : List ℕ) (ls : List (List ℕ)) (r : List ℕ) → cut bytes ≡ (l ∷ ls, r)
       → (b == 10) ≡ false → cut_before b (l ∷ ls, r) ≡ (line ∷ lines, rest)
-      → ((line_at bytes ≡ whole l (length l + 1)) × (cut (drop (length l + 1) bytes) ≡ (ls, r)))
-      → (line_at (b ∷ bytes) ≡ whole line (length line + 1))
+      → ((line_at {R = InputFault} bytes ≡ whole l (length l + 1)) × (cut (drop (length l + 1) bytes) ≡ (ls, r)))
+      → (line_at {R = InputFault} (b ∷ bytes) ≡ whole line (length line + 1))
       × (cut (drop (length line + 1) (b ∷ bytes)) ≡ (lines, rest))
   by_more l ls r is feed e later =
       let all : ◌≡◌ {A = List (List ℕ)} ((b ∷ l) ∷ ls) (line ∷ lines) = ap (λ (v : Cut). v.0) e in
@@ -59,11 +60,11 @@ line_of_cut (b ∷ bytes) line lines rest e = by_feed (line_of_cut bytes) (b == 
       let tail : r ≡ rest = ap (λ (v : Cut). v.1) e in
       let size : length l + 1 + 1 ≡ suc (length l) + 1 = omega arith in
       let next : suc (length l) + 1 ≡ suc (length l + 1) = omega arith in
-      subst (λ (t : List ℕ). (line_at (b ∷ bytes) ≡ whole t (length t + 1))
+      subst (λ (t : List ℕ). (line_at {R = InputFault} (b ∷ bytes) ≡ whole t (length t + 1))
       × (cut (drop (length t + 1) (b ∷ bytes)) ≡ (lines, rest))) first
-      (subst (λ (k : List (List ℕ)). (line_at (b ∷ bytes) ≡ whole (b ∷ l) (length (b ∷ l) + 1))
+      (subst (λ (k : List (List ℕ)). (line_at {R = InputFault} (b ∷ bytes) ≡ whole (b ∷ l) (length (b ∷ l) + 1))
       × (cut (drop (length (b ∷ l) + 1) (b ∷ bytes)) ≡ (k, rest))) others
-      (subst (λ (k : List ℕ). (line_at (b ∷ bytes) ≡ whole (b ∷ l) (length (b ∷ l) + 1))
+      (subst (λ (k : List ℕ). (line_at {R = InputFault} (b ∷ bytes) ≡ whole (b ∷ l) (length (b ∷ l) + 1))
       × (cut (drop (length (b ∷ l) + 1) (b ∷ bytes)) ≡ (ls, k))) tail (
         rw feed (ap (with_byte b) later.0 ∙ ap (λ (n : ℕ). whole (b ∷ l) n) size),
         ap (λ (n : ℕ). cut (drop n (b ∷ bytes))) next ∙ later.1,
@@ -72,8 +73,8 @@ line_of_cut (b ∷ bytes) line lines rest e = by_feed (line_of_cut bytes) (b == 
   by_cut : (v : Cut) → cut bytes ≡ v → (b == 10) ≡ false
       → cut_before b v ≡ (line ∷ lines, rest)
       → ((l : List ℕ) (ls : List (List ℕ)) (r : List ℕ) → cut bytes ≡ (l ∷ ls, r)
-      → (line_at bytes ≡ whole l (length l + 1)) × (cut (drop (length l + 1) bytes) ≡ (ls, r)))
-      → (line_at (b ∷ bytes) ≡ whole line (length line + 1))
+      → (line_at {R = InputFault} bytes ≡ whole l (length l + 1)) × (cut (drop (length l + 1) bytes) ≡ (ls, r)))
+      → (line_at {R = InputFault} (b ∷ bytes) ≡ whole line (length line + 1))
       × (cut (drop (length line + 1) (b ∷ bytes)) ≡ (lines, rest))
   by_cut ([], r) is feed e later = absurd (no_lines r e) where
     no_lines : (r : List ℕ) → ◌≡◌ {A = Cut} ([], b ∷ r) (line ∷ lines, rest) → ⊥
@@ -82,9 +83,9 @@ line_of_cut (b ∷ bytes) line lines rest e = by_feed (line_of_cut bytes) (b == 
   by_cut (l ∷ ls, r) is feed e later = by_more l ls r is feed e (later l ls r is)
 
   by_feed : ((l : List ℕ) (ls : List (List ℕ)) (r : List ℕ) → cut bytes ≡ (l ∷ ls, r)
-      → (line_at bytes ≡ whole l (length l + 1)) × (cut (drop (length l + 1) bytes) ≡ (ls, r)))
+      → (line_at {R = InputFault} bytes ≡ whole l (length l + 1)) × (cut (drop (length l + 1) bytes) ≡ (ls, r)))
       → (v : Bool) → (b == 10) ≡ v → cut (b ∷ bytes) ≡ (line ∷ lines, rest)
-      → (line_at (b ∷ bytes) ≡ whole line (length line + 1))
+      → (line_at {R = InputFault} (b ∷ bytes) ≡ whole line (length line + 1))
       × (cut (drop (length line + 1) (b ∷ bytes)) ≡ (lines, rest))
   by_feed later true feed e =
       let h : ◌≡◌ {A = Cut} ([] ∷ (cut bytes).0, (cut bytes).1) (line ∷ lines, rest)
@@ -94,7 +95,7 @@ line_of_cut (b ∷ bytes) line lines rest e = by_feed (line_of_cut bytes) (b == 
       let first : [] ≡ line = cc in
       let others : (cut bytes).0 ≡ lines = cc in
       let tail : (cut bytes).1 ≡ rest = ap (λ (v : Cut). v.1) h in
-      subst (λ (t : List ℕ). (line_at (b ∷ bytes) ≡ whole t (length t + 1))
+      subst (λ (t : List ℕ). (line_at {R = InputFault} (b ∷ bytes) ≡ whole t (length t + 1))
       × (cut (drop (length t + 1) (b ∷ bytes)) ≡ (lines, rest))) first (
         rw feed refl,
         ap (λ (k : List (List ℕ)). (k, (cut bytes).1)) others
@@ -259,7 +260,7 @@ module _ (x : Settings) where
       : Type 0 where
     units : List (Counted (List ℕ))
     situation : Situation
-    lines_are : lines_of x units ≡ lines
+    lines_are : lines_of (document_rules x) units ≡ lines
     lead : UnitsLead g z from units bytes situation []
 
   -- the first fits, and so do the others
@@ -426,10 +427,10 @@ module _ (x : Settings) where
       rest = [];
       lead = leading.lead;
       units_short = short_below g (readable x) x.limits.session
-          (λ y from n lt. short_enough x.limits.session n lt) leading.units (start_of x) 0
+          (λ y from n lt. short_enough (document_rules x) n lt) leading.units (start_of x) 0
           (let n = total in let few = may.short in omega (arith, n, few));
       rest_begun = refl;
-      rest_short = λ n least most. short_enough x.limits.session n
+      rest_short = λ n least most. short_enough (document_rules x) n
           (let few = may.short in omega (arith, most, few));
       may_end = may_end;
     }

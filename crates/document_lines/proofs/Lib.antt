@@ -1,17 +1,13 @@
 -- input of a few lines, by computation
 mod Worked
--- lines by their bytes (src/reader.rt)
+-- what holds of them as of any lines
 pub mod Lines
 -- where a line leads, and what an encoder of lines makes of it (src/line_encoder.rt)
 pub mod Standings
 pub mod Sending
--- what bytes of a line bring and lead to, and a piece of them
-pub mod LineSteps
-pub mod FeedSteps
 -- the envelopes that documents bring (specs/Laws)
 pub mod Built
--- how far lines lead, what is written of any input, and which input isn't refused (specs/Laws)
-pub mod Walking
+-- what is written of any input, and which input isn't refused (specs/Laws)
 pub mod Written
 pub mod Fitting
 -- where lines lead that come behind others, and what that says of all bytes

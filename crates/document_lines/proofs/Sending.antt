@@ -1,10 +1,14 @@
 -- What an encoder of lines answers and is, by where the line led.
 use Rattle.std.proofs.Common.{◌≡◌, ℕ, ◌+◌, true, false, not, ◌&&◌, List, if◌then◌else◌, ◌==◌, Some}
 use Rattle.std.proofs.Common.{None, Ok, Err, Option, Result, sym, refl, ap, ◌∙◌, subst, inl, inr}
-use Rattle.std.proofs.{Common.arith, Common.ne_eqb, lemmas.Bool.cases_Bool}
+use Rattle.std.proofs.Common.{arith, ne_eqb, ◌≤◌, max}
+use Rattle.std.proofs.{lemmas.Bool.cases_Bool, Math.Nat.le-max_left, Math.Nat.le-max_right}
+use Rattle.string_tables.specs.{StaticStrings.Entry, StringTable.StringTable}
+use Rattle.nbfx_values.specs.{declared.session.Kind.Kind, Limits.Limits}
 use Rattle.nbfx_values.specs.declared.{content.Item.Item, session.Mode.Mode}
 use Rattle.nbfx_values.specs.declared.session.Mode.TheVariants.{Duplex, Simplex, Singleton}
-use Rattle.nbfx_encoder.specs.declared.sender.SendState.TheVariants.{Ready, Spent}
+use Rattle.nbfx_encoder.specs.declared.sender.{Sender.Sender, SendState.TheVariants.Ready}
+use Rattle.nbfx_encoder.specs.declared.sender.SendState.TheVariants.{Spent}
 use Rattle.nbfx_encoder.specs.{declared.sender.Side.TheVariants.Initiator, Spelling.encoded}
 use Rattle.nbfx_encoder.specs.Sending.{behind_message, first_state, KeepsSettings, kind_in}
 use Rattle.nbfx_encoder.specs.Sending.{limits_in, mode_in, names_in, state_in}
@@ -18,9 +22,12 @@ use Rattle.line_notation.specs.Between.{is_between, IsUnrefused, next_line}
 use Rattle.line_notation.specs.LineReaderState.{after, answer}
 use Rattle.document_lines.specs.declared.InputFault.{InputFault, TheVariants.Line}
 use Rattle.document_lines.specs.declared.line_encoder.LineEncoder.{LineEncoder}
-use Rattle.document_lines.specs.DocumentReaderState.{IsAt, IsSent, LineAnswers, SendAnswers}
-use Rattle.document_lines.specs.Input.{behind_line, completed_line, is_full, is_singleton}
-use Rattle.document_lines.specs.Input.{payload_at, refused_line, Settings, Situation}
+use Rattle.line_streams.specs.LineStreamState.{LineAnswers}
+use Rattle.document_lines.specs.LineEncoderState.{IsAt, IsSent, KeepsAll, KeepsSet}
+use Rattle.document_lines.specs.LineEncoderState.{SendAnswers, settings_in}
+use Rattle.document_lines.specs.Input.{behind_line, completed_line, document_rules, is_full}
+use Rattle.document_lines.specs.Input.{is_singleton, payload_at, refused_line, Settings, Situation}
+use Rattle.document_lines.specs.Input.{start_of}
 use Rattle.document_lines.proofs.Standings.{done_leads, more_leads, no_lone}
 
 -- before the first document a message may be sent
@@ -46,7 +53,7 @@ module _ (x : Settings) (z : Situation) (old new : LineEncoder) (at : IsAt x z o
     (line : List ℕ) (lines : new.lines ≡ after z.lines line)
   where
     abbrev Answered : Result (Option (List ℕ)) (FeedFault InputFault) → Type 0
-    Answered = LineAnswers x z line new
+    Answered = LineAnswers (document_rules x) (λ behind. IsAt x behind new) z line
 
     -- a line that completes a document
     module _ (doc : List Item) (a : answer z.lines line ≡ Ok (Done doc))
@@ -168,3 +175,56 @@ module _ (x : Settings) (z : Situation) (old new : LineEncoder) (at : IsAt x z o
         let P : Result LineStep LineFault → Type 0
         = λ r. refused_line x z (after z.lines line) r ≡ Some (Line n kind) in
         subst P (sym a) refl
+
+-- ---- what it is set to
+
+same_set : (limits l : Limits) (kind k : Kind) (mode m : Mode) (statics s : List Entry)
+    → limits ≡ l → kind ≡ k → mode ≡ m → statics ≡ s
+    → ◌≡◌ {A = Settings} (record { limits = limits; kind = kind; mode = mode; statics = statics })
+    (record { limits = l; kind = k; mode = m; statics = s })
+same_set limits l kind k mode m statics s a b c d = rw (a, b, c, d) refl
+
+pub set_as : (e : LineEncoder) (x : Settings) → IsAt x (start_of x) e → settings_in e ≡ x
+unfolding settings_in
+set_as e x at = same_set _ _ _ _ _ _ _ _ at.limits at.kind at.mode
+    (ap (λ (t : StringTable). t.statics) at.table)
+
+pub set_still : (old new : LineEncoder) → KeepsSet old new → settings_in new ≡ settings_in old
+unfolding settings_in
+set_still old new kept = same_set _ _ _ _ _ _ _ _ kept.limits kept.kind kept.mode kept.statics
+
+-- what changes nothing but the room of the next envelope leaves it as it is
+pub at_still : (x : Settings) (z : Situation) (old new : LineEncoder) → KeepsAll old new
+    → IsAt x z old → IsAt x z new
+at_still x z old new kept at = record {
+  limits = ap limits_in kept.sender ∙ at.limits;
+  kind = ap kind_in kept.sender ∙ at.kind;
+  mode = kept.mode ∙ at.mode;
+  sends = ap mode_in kept.sender ∙ at.sends;
+  lines = kept.lines ∙ at.lines;
+  table = ap names_in kept.sender ∙ at.table;
+  documents = kept.documents ∙ at.documents;
+  state = ap state_in kept.sender ∙ at.state;
+  unrefused = at.unrefused;
+  full = at.full;
+}
+
+pub set_of_all : (old new : LineEncoder) → KeepsAll old new → KeepsSet old new
+set_of_all old new kept = record {
+  limits = ap limits_in kept.sender;
+  kind = ap kind_in kept.sender;
+  mode = kept.mode;
+  statics = ap (λ (s : Sender). (names_in s).statics) kept.sender;
+}
+
+-- ---- how many lines and documents there were
+
+-- of two counts each is one more at most
+pub one_more : (a a' b b' : ℕ) → a' ≤ a + 1 → b' ≤ b + 1 → max a' b' ≤ max a b + 1
+one_more a a' b b' less few =
+    let l = le-max_left a b in
+    let r = le-max_right a b in
+    max_below a' b' (max a b + 1) (omega (arith, less, l)) (omega (arith, few, r))
+  where
+    max_below : (m n most : ℕ) → m ≤ most → n ≤ most → max m n ≤ most
+    max_below m n most p q = grind (arith, p, q)

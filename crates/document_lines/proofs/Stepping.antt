@@ -19,9 +19,11 @@ use Rattle.line_notation.specs.LineReaderState.{on, outcome, Placed, Standing, s
 use Rattle.line_notation.specs.LineReaderState.{HasReadFew, standing_from}
 use Rattle.stream_loop.specs.declared.reading_end.FeedFault.{FeedFault, TheVariants.Refused}
 use Rattle.line_streams.specs.LineStreamState.{LineAnswers}
-use Rattle.line_streams.specs.LineRules.{end_refused, line_at, LineRules, lines_by}
+use Rattle.line_streams.specs.LineRules.{end_refused, IsSilent, line_at, LineRules, lines_by}
+use Rattle.line_streams.specs.LineRules.{refusal_in as refusal_of}
 use Rattle.line_streams.proofs.Cutting.{behind_lines, cut_append, free_cut}
-use Rattle.line_streams.proofs.{LineFacts.begun_no_feed, LineFacts.bounded}
+use Rattle.line_streams.proofs.LineFacts.{answered_by, begun_no_feed, bounded, each_silent}
+use Rattle.line_streams.proofs.LineFacts.{refused_by}
 use Rattle.line_streams.proofs.Walking.{all_lines, at_most, at_refusal, at_the_end, brought as walked}
 use Rattle.line_streams.proofs.Walking.{cuts, fills, goes_out, history_so, led_cut, line_alone}
 use Rattle.line_streams.proofs.Walking.{lines_of, refused_at, refuses, some_of, Stop, total, Walk}
@@ -85,23 +87,22 @@ none_more z z' fault is = let same = ap next_line is in omega (arith, same)
 
 module _ (quota : ℕ) (old new : Standing) (line : List ℕ) where
   -- wherever lines have led to where it stands
-  abbrev pub Answered : Result LineStep (FeedFault InputFault) → Type 0
+  abbrev pub Answered : Result (Option LineStep) (FeedFault InputFault) → Type 0
   Answered result = (z : Standing) → IsIn old z
       → LineAnswers (step_rules quota) (IsIn new) z line result
 
   pub step_answered : (step : LineStep) → Ok step ≡ answer old line → new ≡ after old line
-      → Answered (Ok step)
+      → Answered (Ok (Some step))
   step_answered step is leads z (same, unrefused) =
-      let said : answer z line ≡ Ok step = ap (λ y. answer y line) (sym same) ∙ sym is in (
-        after z line,
-        ap (brought (after z line)) said,
-        (leads ∙ ap (λ y. after y line) same, unrefused_behind z line step said),
-      )
+      let said : answer z line ≡ Ok step = ap (λ y. answer y line) (sym same) ∙ sym is in
+      answered_by (IsIn new) z (after z line) step (brought (after z line) (answer z line))
+      (ap (brought (after z line)) said)
+      (leads ∙ ap (λ y. after y line) same, unrefused_behind z line step said)
 
   pub step_refused : (n : ℕ) (kind : LineKind) → Err (Bad n kind) ≡ answer old line
       → Answered (Err (Refused (Line n kind)))
   step_refused n kind is z (same, unrefused) =
-      ap (brought (after z line)) (ap (λ y. answer y line) (sym same) ∙ sym is)
+      ap (λ v. refusal_of (brought (after z line) v)) (ap (λ y. answer y line) (sym same) ∙ sym is)
 
 -- ---- all lines
 
@@ -111,6 +112,9 @@ module _ (quota : ℕ) where
 
   abbrev pub g : Grammar Standing (List ℕ) LineStep InputFault
   g = lines_by rules
+
+  silent : IsSilent rules
+  silent = each_silent (λ z line. brought (after z line) (answer z line))
 
   -- where lines lead that aren't refused, and the documents of their steps
   record Led (z : Standing) (lines : List (List ℕ)) (z' : Standing) (steps : List LineStep)
@@ -188,7 +192,7 @@ module _ (quota : ℕ) where
     -- a line that is refused
     module _ (line : List ℕ) (n : ℕ) (fault : InputFault)
         (is : line_at {R = InputFault} w.rest ≡ whole line n) (fits : 0 + size + n ≤ quota)
-        (refused : rules.brings z line ≡ Err fault)
+        (refused : rules.refused z line ≡ Some fault)
       where
         all_cut : cut (take (size + n) bytes) ≡ (lines ++ line ∷ [], [])
         all_cut =
@@ -199,7 +203,7 @@ module _ (quota : ℕ) where
 
         why : IsWhy fault (take (size + n) bytes)
         why =
-            let r = refused_why z line fault refused in
+            let r = refused_why z line fault (refused_by _ fault refused) in
             record {
               number = r.0;
               kind = r.1;
@@ -307,7 +311,7 @@ module _ (quota : ℕ) where
     of_rest (refuses line n fault is fits refused) = record {
       fault = Some fault;
       brings = at_refusal rules _ z _ (walked rules bytes).between w.rest line n fault is fits
-          refused;
+          refused silent;
       said = said_refused line n fault is fits refused;
     }
     of_rest (fills k within free full) = record {

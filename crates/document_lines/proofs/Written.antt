@@ -3,12 +3,11 @@ use Rattle.std.proofs.Common.{◌≡◌, ℕ, ◌+◌, ◌≤◌, Bool, true, fa
 use Rattle.std.proofs.Common.{◌∷◌, ◌++◌, length, take, drop, if◌then◌else◌, nat_lt, ◌==◌, Some}
 use Rattle.std.proofs.Common.{None, Ok, Err, Option, Result, sym, refl, ap, ◌∙◌, subst, inl, inr}
 use Rattle.std.proofs.Common.{append-nil, arith, length-append, ltb-false, ltb-true, eqb-true}
-use Rattle.std.proofs.{Math.Seq.take-add, lemmas.List.drop-take, lemmas.List.nil_from_length}
+use Rattle.std.proofs.lemmas.List.{nil_from_length}
 use Rattle.std.proofs.lemmas.Bool.{and_parts, cases_Bool, eqb-false, not-true, or_cases}
-use Rattle.unit_streams.proofs.{Accepted.leads_length, Pieces.told_flat}
-use Rattle.unit_streams.proofs.Units.{between_first, Brings, short_below, units_bring}
+use Rattle.unit_streams.proofs.Pieces.{told_flat}
 use Rattle.unit_streams.specs.{Front.begun, Front.whole, Grammar.Grammar}
-use Rattle.unit_streams.specs.Judging.{History, history, history_from, led_by, offence, only}
+use Rattle.unit_streams.specs.Judging.{History, history_from, offence, only}
 use Rattle.unit_streams.specs.Tellers.{report, told_along}
 use Rattle.unit_streams.specs.Units.{Counted, events_along, size_of, UnitsLead}
 use Rattle.nbfx_values.specs.declared.content.Item.{Item}
@@ -31,15 +30,17 @@ use Rattle.line_notation.specs.Lines.{AreLinesOf, cut, has_no_feed}
 use Rattle.document_lines.{specs.declared.InputFault.InputFault, proofs.Standings.no_lone}
 use Rattle.document_lines.specs.declared.InputFault.TheVariants.{Line, TooLong, Unfit as DoesNotFit}
 use Rattle.document_lines.specs.Input.{behind_line, ending_fault, envelopes_and_end, fault_of}
-use Rattle.document_lines.specs.Input.{is_full, is_singleton, line_at, lines_of_documents}
+use Rattle.document_lines.specs.Input.{document_rules, is_full, is_singleton, lines_of_documents}
 use Rattle.document_lines.specs.Input.{refused_line, Settings, Situation, start_of}
 use Rattle.document_lines.specs.Laws.{Explains, InputIsWritten, IsWritten, RefusesNoMemory}
 use Rattle.document_lines.specs.Refused.{HasNoDocument, IsBadLine, RefusesLine}
-use Rattle.document_lines.proofs.Built.{cuts, joined, lines_of, walk as envelopes_of}
-use Rattle.line_streams.proofs.Cutting.{behind_lines as behind_all, cut_append, free_cut}
-use Rattle.document_lines.proofs.Lines.{begun_no_feed, cut_line, readable, short_enough}
-use Rattle.document_lines.proofs.Walking.{at_quota, at_refusal, at_the_end, fills, goes_out}
-use Rattle.document_lines.proofs.Walking.{refuses, Stop, Walk, walk}
+use Rattle.document_lines.proofs.Built.{joined, walk as envelopes_of}
+use Rattle.document_lines.specs.Input.{silent}
+use Rattle.line_streams.{specs.LineRules.line_at, proofs.Cutting.free_cut}
+use Rattle.line_streams.proofs.LineFacts.{begun_no_feed, cut_line}
+use Rattle.line_streams.proofs.Walking.{all_lines, at_most, at_refusal, at_the_end, brought, cuts}
+use Rattle.line_streams.proofs.Walking.{fills, goes_out, history_so, led_cut, lines_of, refuses}
+use Rattle.line_streams.proofs.Walking.{Stop, total, Walk}
 use Rattle.nbfx_encoder.specs.declared.faults.EncodeFault.TheVariants as encode
 
 -- lines may end between documents
@@ -69,17 +70,17 @@ module _ (x : Settings) where
 
   pub led_lines : (units : List (Counted (List ℕ))) (z : Situation) (from : ℕ) (bytes : List ℕ)
       (z' : Situation) (rest : List ℕ) → UnitsLead g z from units bytes z' rest
-      → z'.lines ≡ standing_from z.lines (lines_of x units)
+      → z'.lines ≡ standing_from z.lines (lines_of (document_rules x) units)
   unfolding UnitsLead
   led_lines [] z from bytes z' rest l = ap (λ (y : Situation). y.lines) (sym l.0)
   led_lines (one ∷ units) z from bytes z' rest l =
       led_lines units (g.after z from one.unit) (from + one.size) (drop one.size bytes) z' rest l.2
-      ∙ ap (λ (b : LineStanding). standing_from b (lines_of x units))
+      ∙ ap (λ (b : LineStanding). standing_from b (lines_of (document_rules x) units))
       (behind_lines z (after z.lines one.unit) (answer z.lines one.unit))
 
   pub led_documents : (units : List (Counted (List ℕ))) (z : Situation) (from : ℕ) (bytes : List ℕ)
       (z' : Situation) (rest : List ℕ) → UnitsLead g z from units bytes z' rest
-      → z'.documents ≡ z.documents + length (documents_from z.lines (lines_of x units))
+      → z'.documents ≡ z.documents + length (documents_from z.lines (lines_of (document_rules x) units))
   unfolding UnitsLead
   led_documents [] z from bytes z' rest l =
       ap (λ (y : Situation). y.documents) (sym l.0) ∙ omega arith
@@ -88,10 +89,10 @@ module _ (x : Settings) where
       let a : Result LineStep LineFault = answer z.lines one.unit in
       let later = led_documents units (g.after z from one.unit) (from + one.size)
       (drop one.size bytes) z' rest l.2 in
-      let same = ap (λ (s : LineStanding). length (documents_from s (lines_of x units)))
+      let same = ap (λ (s : LineStanding). length (documents_from s (lines_of (document_rules x) units)))
       (behind_lines z b a) in
       let first = behind_documents z b a in
-      let both = length-append (document_of a) (documents_from b (lines_of x units)) in
+      let both = length-append (document_of a) (documents_from b (lines_of (document_rules x) units)) in
       omega (arith, later, same, first, both)
 
   -- a line that isn't refused is one line more
@@ -113,7 +114,7 @@ module _ (x : Settings) where
       (z' : Situation) (rest : List ℕ) → UnitsLead g z from units bytes z' rest
       → IsUnrefused z.lines
       → IsUnrefused z'.lines
-      × (next_line z'.lines ≡ next_line z.lines + length (lines_of x units))
+      × (next_line z'.lines ≡ next_line z.lines + length (lines_of (document_rules x) units))
   unfolding UnitsLead
   led_next [] z from bytes z' rest l on = (
     subst (λ (y : Situation). IsUnrefused y.lines) l.0 on,
@@ -184,45 +185,14 @@ module _ (x : Settings) where
       (subst IsUnrefused (sym is) (next_of z z.lines one.unit on l.1).0)
       (most_of z one.unit most z.lines refl on l.1)
 
-  -- ---- the lines of first bytes, of which the last have no line feed
-
-  line_alone : (z : Situation) (from : ℕ) (bytes line : List ℕ) (n : ℕ)
-      → line_at bytes ≡ whole line n → cut (take n bytes) ≡ (line ∷ [], [])
-  line_alone z from bytes line n is =
-      let all : n ≡ n + 0 = omega arith in
-      cut_line (take n bytes) line n (((readable x).reads z from).whole_alone bytes line n is)
-      ∙ ap (λ (r : List ℕ). (line ∷ (cut r).0, (cut r).1))
-      (ap (λ (j : ℕ). drop n (take j bytes)) all ∙ drop-take n 0 bytes)
-
-  led_cut : (units : List (Counted (List ℕ))) (z : Situation) (from : ℕ) (bytes : List ℕ)
-      (z' : Situation) (rest : List ℕ) → UnitsLead g z from units bytes z' rest → (k : ℕ)
-      → has_no_feed (take k rest) ≡ true
-      → cut (take (size_of units + k) bytes) ≡ (lines_of x units, take k rest)
-  unfolding UnitsLead size_of
-  led_cut [] z from bytes z' rest l k free =
-      let none : 0 + k ≡ k = omega arith in
-      ap (λ (j : ℕ). cut (take j bytes)) none ∙ ap (λ (b : List ℕ). cut (take k b)) l.1
-      ∙ free_cut (take k rest) free
-  led_cut (one ∷ units) z from bytes z' rest l k free =
-      let n : ℕ = one.size in
-      let m : ℕ = size_of units + k in
-      let sum : n + size_of units + k ≡ n + m = omega arith in
-      let tail : List ℕ = take m (drop n bytes) in
-      ap (λ (j : ℕ). cut (take j bytes)) sum ∙ ap cut (take-add n m bytes)
-      ∙ cut_append (take n bytes) tail
-      ∙ ap (λ (c : List (List ℕ) × List ℕ). behind_all c.0 (cut (c.1 ++ tail)))
-      (line_alone z from bytes one.unit n l.0)
-      ∙ ap (behind_all (one.unit ∷ []))
-      (led_cut units (g.after z from one.unit) (from + n) (drop n bytes) z' rest l.2 k free)
-
   -- ---- all of it
 
   module _ (bytes : List ℕ) where
-    w : Walk x (start_of x) 0 bytes
-    w = walk x (length bytes) (start_of x) 0 bytes (omega arith) (omega arith)
+    abbrev w : Walk (document_rules x) (start_of x) 0 bytes
+    w = all_lines (document_rules x) bytes
 
     abbrev written_lines : List (List ℕ)
-    written_lines = lines_of x w.units
+    written_lines = lines_of (document_rules x) w.units
 
     abbrev es : List (List ℕ)
     es = events_along g (start_of x) 0 w.units
@@ -230,17 +200,8 @@ module _ (x : Settings) where
     abbrev z : Situation
     z = w.situation
 
-    brought : Brings g (readable x) [] (start_of x) 0 w.units bytes z w.rest
-    brought = units_bring g (readable x) w.units [] (start_of x) 0 bytes z w.rest
-        (between_first g (readable x)) w.lead
-        (short_below g (readable x) x.limits.session
-        (λ y from n lt. short_enough x.limits.session n lt) w.units (start_of x) 0 w.within)
-
     all_cut : cut bytes ≡ (written_lines ++ (cut w.rest).0, (cut w.rest).1)
-    all_cut = cuts x w.units (start_of x) 0 bytes z w.rest w.lead
-
-    total : length bytes ≡ size_of w.units + length w.rest
-    total = leads_length g (readable x) w.units (start_of x) 0 bytes z w.rest w.lead
+    all_cut = cuts (document_rules x) w.units (start_of x) 0 bytes z w.rest w.lead
 
     next : IsUnrefused z.lines × (next_line z.lines ≡ 0 + 1 + length written_lines)
     next = led_next w.units (start_of x) 0 bytes z w.rest w.lead tt
@@ -276,9 +237,9 @@ module _ (x : Settings) where
     answers_so line e = ap (λ (s : LineStanding). answer s line) (sym leads_to) ∙ e
 
     -- a line that is refused
-    module _ (line : List ℕ) (n : ℕ) (is : line_at w.rest ≡ whole line n) where
+    module _ (line : List ℕ) (n : ℕ) (is : line_at {R = InputFault} w.rest ≡ whole line n) where
       next_is : more_lines ≡ line ∷ (cut (drop n w.rest)).0
-      next_is = ap (λ (c : List (List ℕ) × List ℕ). c.0) (cut_line w.rest line n is)
+      next_is = ap (λ (c : List (List ℕ) × List ℕ). c.0) (cut_line {R = InputFault} w.rest line n is)
 
       unfit_by : (doc : List Item) → answer z.lines line ≡ Ok (Done doc)
           → (v : Result (Placed (List ℕ)) Unfit) → encoded x.limits x.kind z.table doc ≡ v
@@ -378,7 +339,7 @@ module _ (x : Settings) where
           (ap (λ (s : LineStanding). after s line) e) other.cut other.count fault refused
 
     -- the end of the input
-    module _ (is : line_at w.rest ≡ begun) where
+    module _ (is : line_at {R = InputFault} w.rest ≡ begun) where
       abbrev from : ℕ
       from = 0 + size_of w.units
 
@@ -476,34 +437,36 @@ module _ (x : Settings) where
       brings : history_from g ([] ++ take (size_of w.units) bytes) w.rest ≡ only fault
       why : Why fault
 
-    of_rest : Stop x z (0 + size_of w.units) w.rest → Rest
+    of_rest : Stop (document_rules x) z (0 + size_of w.units) w.rest → Rest
     of_rest (refuses line n fault is fits refused) = record {
       fault = Some fault;
-      brings = at_refusal x _ z _ brought.between w.rest line n fault is fits refused;
+      brings = at_refusal (document_rules x) _ z _ (brought (document_rules x) bytes).between w.rest
+          line n fault is fits refused (silent x);
       why = why_refused line n is z.lines refl next.0 fault refused;
     }
     of_rest (fills k within free full) = record {
       fault = Some TooLong;
-      brings = at_quota x _ z _ brought.between w.rest k within free full;
+      brings = at_most (document_rules x) _ z _ (brought (document_rules x) bytes).between w.rest k
+          within free full;
       why = (
-        let n = total in omega (arith, n, within, full),
+        let n = total (document_rules x) bytes in omega (arith, n, within, full),
         let sum : x.limits.session ≡ size_of w.units + k = omega (arith, full) in
             ap (λ (j : ℕ). (cut (take j bytes)).0) sum
             ∙ ap (λ (c : List (List ℕ) × List ℕ). c.0)
-            (led_cut w.units (start_of x) 0 bytes z w.rest w.lead k free),
+            (led_cut (document_rules x) w.units (start_of x) 0 bytes z w.rest w.lead k free),
       );
     }
     of_rest (goes_out is less) = record {
       fault = ending_fault x (nat_lt (0 + size_of w.units) (0 + size_of w.units + length w.rest)) z;
-      brings = at_the_end x _ z _ brought.between w.rest is less;
+      brings = at_the_end (document_rules x) _ z _ (brought (document_rules x) bytes).between w.rest
+          is less;
       why = why_ended is;
     }
 
     all_of : Rest → IsWritten x bytes
-    unfolding report offence history
+    unfolding report offence
     all_of r =
-        let h : history_from g [] bytes ≡ record { events = es ++ []; offence = r.fault }
-        = brought.history ∙ ap (led_by es) r.brings in
+        let h = history_so (document_rules x) bytes r.fault r.brings in
         let o = ap (λ (v : History (List ℕ) InputFault). v.offence) h in record {
           lines = written_lines;
           more = (cut w.rest).0;
@@ -515,8 +478,7 @@ module _ (x : Settings) where
               ap (λ (v : History (List ℕ) InputFault). told_along envelopes_and_end tt v.events
               ++ envelopes_and_end.ends tt v.offence) h
               ∙ ap (λ l. l ++ envelopes_and_end.ends tt r.fault)
-              (told_flat envelopes_and_end (λ e. e) (λ s e. refl) (es ++ []) tt
-              ∙ ap (joined x) (append-nil es))
+              (told_flat envelopes_and_end (λ e. e) (λ s e. refl) es tt)
               ∙ ap (λ v. joined x es ++ envelopes_and_end.ends tt v) (sym o);
           why = subst Why (sym o) r.why;
         }

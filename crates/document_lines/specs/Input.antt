@@ -1,7 +1,7 @@
 -- Lines of documents as a stream: its units are lines, its events the envelopes of documents.
-use Rattle.std.specs.Prelude.{ℕ, ◌+◌, Bool, true, false, not, ◌&&◌, ◌||◌, List, [], ◌∷◌, Result}
-use Rattle.std.specs.Prelude.{if◌then◌else◌, nat_lt, nat_le, ◌==◌, Some, None, Ok, Err, Option}
-use Rattle.unit_streams.specs.Front.{begun, Front, whole, wrong}
+use Rattle.std.proofs.{Common.refl, lemmas.Option.none-some}
+use Rattle.std.specs.Prelude.{◌≡◌, ℕ, ◌+◌, Bool, true, false, not, ◌&&◌, ◌||◌, List, [], ◌∷◌, Result}
+use Rattle.std.specs.Prelude.{if◌then◌else◌, ◌==◌, Some, None, Ok, Err, Option}
 use Rattle.unit_streams.specs.{Grammar.Grammar, Tellers.Teller}
 use Rattle.string_tables.specs.{StaticStrings.Entry, StringTable.StringTable}
 use Rattle.nbfx_values.specs.{declared.content.Item.Item, Limits.Limits}
@@ -14,6 +14,7 @@ use Rattle.line_notation.specs.declared.reader.LineKind.TheVariants.{Cut, WrongC
 use Rattle.line_notation.specs.declared.reader.LineStep.TheVariants.{Done, More}
 use Rattle.line_notation.specs.Between.{is_between, next_line}
 use Rattle.line_notation.specs.LineReaderState.{after, answer, at_start, Standing}
+use Rattle.line_streams.specs.LineRules.{IsSilent, LineRules, lines_by}
 use Rattle.document_lines.specs.declared.InputFault.{InputFault}
 use Rattle.document_lines.specs.declared.InputFault.TheVariants.{Line, TooLong, Unfit as DoesNotFit}
 
@@ -30,17 +31,6 @@ pub record Situation : Type 0 where
   pub lines : Standing
   pub table : StringTable
   pub documents : ℕ
-
--- a line at the front of some bytes, with one byte more before it
-abbrev pub with_byte : ℕ → Front (List ℕ) InputFault → Front (List ℕ) InputFault
-with_byte b begun = begun
-with_byte b (whole line n) = whole (b ∷ line) (n + 1)
-with_byte b (wrong fault n) = wrong fault (n + 1)
-
--- the line at the front of some bytes, up to its line feed
-abbrev pub line_at : List ℕ → Front (List ℕ) InputFault
-line_at [] = begun
-line_at (b ∷ bytes) = if b == 10 then whole [] 1 else with_byte b (line_at bytes)
 
 abbrev pub is_singleton : Mode → Bool
 is_singleton Singleton = true
@@ -110,18 +100,37 @@ module _ (x : Settings) where
     documents = 0;
   }
 
-  -- the grammar of lines of documents
-  abbrev pub lines_of_documents : Grammar Situation (List ℕ) (List ℕ) InputFault
-  lines_of_documents = record {
+  -- what lines of documents mean, and their grammar
+  abbrev pub document_rules : LineRules Situation (List ℕ) InputFault
+  document_rules = record {
     start = start_of;
-    unit_at = λ z from bytes. line_at bytes;
-    after = λ z from line. behind_line z (after z.lines line) (answer z.lines line);
-    refused = λ z from line. refused_line z (after z.lines line) (answer z.lines line);
-    completed = λ z from to line. completed_line z (answer z.lines line);
-    is_over = λ z. false;
-    at_length = λ z from n. if nat_le x.limits.session n then Some TooLong else None;
-    at_end = λ z from n. ending_fault (nat_lt from n) z;
+    after = λ z line. behind_line z (after z.lines line) (answer z.lines line);
+    refused = λ z line. refused_line z (after z.lines line) (answer z.lines line);
+    brings = λ z line. completed_line z (answer z.lines line);
+    at_end = ending_fault;
+    most = x.limits.session;
+    too_long = TooLong;
   }
+
+  abbrev pub lines_of_documents : Grammar Situation (List ℕ) (List ℕ) InputFault
+  lines_of_documents = lines_by document_rules
+
+-- a line that is refused completes no document
+module _ (x : Settings) (z : Situation) where
+  unwritten : (v : Result (Placed (List ℕ)) Unfit) (fault : InputFault)
+      → fault_of x z.documents v ≡ Some fault → envelope_of x v ≡ None
+  unwritten (Ok payload) fault e = absurd (none-some fault e)
+  unwritten (Err why) fault e = refl
+
+  incomplete : (behind : Standing) (a : Result LineStep LineFault) (fault : InputFault)
+      → refused_line x z behind a ≡ Some fault → completed_line x z a ≡ None
+  incomplete behind (Ok (Done doc)) fault e = unwritten (payload_at x z doc) fault e
+  incomplete behind (Ok More) fault e = refl
+  incomplete behind (Err (Bad n kind)) fault e = refl
+  incomplete behind (Err Memory) fault e = refl
+
+pub silent : (x : Settings) → IsSilent (document_rules x)
+silent x z line fault e = incomplete x z (after z.lines line) (answer z.lines line) fault e
 
 -- what is written of them: each envelope, and at last, where nothing is refused, an End record
 abbrev pub envelopes_and_end : Teller (Unit {0}) (List ℕ) InputFault

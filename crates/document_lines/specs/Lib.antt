@@ -1,7 +1,8 @@
--- Cited by whoever reads documents in lines to write them: the grammar (Input), where a reader
--- stands (DocumentReaderState), why a line is refused (Refused), and what holds by the definitions
--- alone (Laws).
+-- Cited by whoever reads documents in lines to write them: the grammar (Input), where an encoder of
+-- lines is (LineEncoderState) and what a reader has read (DocumentReaderState), why a line is refused
+-- (Refused), and what holds by the definitions alone (Laws).
 pub mod Input
+pub mod LineEncoderState
 pub mod DocumentReaderState
 pub mod Refused
 pub mod Laws

@@ -6,7 +6,7 @@ use Rattle.line_notation.specs.declared.reader.LineFault.TheVariants.{Bad, Memor
 use Rattle.line_notation.specs.declared.reader.LineStep.{LineStep, TheVariants.More}
 use Rattle.line_notation.specs.Between.{is_between, IsUnrefused, next_line}
 use Rattle.line_notation.specs.LineReaderState.{after, answer, at_start, document_of, Standing}
-use Rattle.line_streams.specs.LineRules.{LineRules}
+use Rattle.line_streams.specs.LineRules.{each_brings, LineRules}
 use Rattle.document_lines.specs.declared.InputFault.{InputFault}
 use Rattle.document_lines.specs.declared.InputFault.TheVariants.{Line, TooLong}
 
@@ -26,11 +26,6 @@ IsIn held z = (held ≡ z) × IsUnrefused z
 
 -- what the lines of documents mean, of which so many bytes are too many
 abbrev pub step_rules : (quota : ℕ) → LineRules Standing LineStep InputFault
-step_rules quota = record {
-  start = at_start;
-  brings = λ z line. brought (after z line) (answer z line);
-  at_end = λ within_line z.
-      if within_line || not (is_between z) then Some (Line (next_line z) Cut) else None;
-  most = quota;
-  too_long = TooLong;
-}
+step_rules quota = each_brings at_start (λ z line. brought (after z line) (answer z line))
+    (λ within_line z.
+    if within_line || not (is_between z) then Some (Line (next_line z) Cut) else None) quota TooLong

@@ -1,16 +1,17 @@
 //! Lines, one after the other, as the envelopes of the documents that they complete.
 
-ghost use Rattle.std.specs.Prelude.{◌≡◌, ◌+◌, ◌<◌, ◌≤◌, ◌^◌, ◌==◌, ◌&&◌, not, [], Err};
+ghost use Rattle.std.specs.Prelude.{◌≡◌, ◌+◌, ◌-◌, ◌<◌, ◌≤◌, ◌^◌, ◌==◌, ◌&&◌, max, not, [], Err};
 ghost use Rattle.line_notation.specs.Between.{next_line};
 ghost use Rattle.line_notation.specs.LineReaderState.{HasReadFew};
 ghost use Rattle.nbfx_values.specs.QuotasOf.{limits_of};
 ghost use Rattle.nbfx_encoder.specs.Sending.{KeepsSettings, kind_in, limits_in, mode_in, names_in, state_in};
 ghost use Rattle.nbfx_encoder.specs.Spelling.{encoded};
-ghost use Rattle.document_lines.specs.Input.{Settings, Situation, ending_fault, is_singleton, start_of};
+ghost use Rattle.document_lines.specs.Input.{Settings, Situation, document_rules, ending_fault, is_singleton, start_of};
 
 use crate::InputFault;
 use crate::envelope::Envelope;
 use line_notation::{LineFault, LineKind, LineReader, LineStep};
+use line_streams::LineEnd;
 use nbfx_encoder::{EncodeFault, SendFault, SendState, Sender, Side};
 use nbfx_values::{Doc, Kind, Mode, Quotas};
 use static_dictionary::StaticTable;
@@ -55,7 +56,8 @@ pub struct LineEncoder<'s> {
 }
 
 impl<'s> LineEncoder<'s> {
-    ghost use Rattle.document_lines.specs.DocumentReaderState.{IsAt, KeepsAll, KeepsSet, LineAnswers, SendAnswers};
+    ghost use Rattle.line_streams.specs.LineStreamState.{LineAnswers};
+    ghost use Rattle.document_lines.specs.LineEncoderState.{IsAt, KeepsAll, KeepsSet, SendAnswers};
 
     /// Before the first line.
     pub fn new(
@@ -100,7 +102,7 @@ impl<'s> LineEncoder<'s> {
         requires lines { HasReadFew self.old.lines }
         requires documents { self.old.documents < 2 ^ 63 }
         ensures answers { (x : Settings) (z : Situation) → IsAt x z self.old
-            → LineAnswers x z line.now self.new result }
+            → LineAnswers (document_rules x) (λ behind. IsAt x behind self.new) z line.now result }
         ensures lines { next_line self.new.lines ≤ next_line self.old.lines + 1 }
         ensures documents { self.new.documents ≤ self.old.documents + 1 }
         ensures set { KeepsSet self.old self.new }
@@ -177,5 +179,47 @@ impl<'s> LineEncoder<'s> {
             return Some(wrong_count(line));
         }
         None
+    }
+}
+
+impl<'s> LineEnd for LineEncoder<'s> {
+    ghost use Rattle.std.specs.Prelude.{Bool};
+    ghost use Rattle.document_lines.specs.LineEncoderState.{IsIn, settings_in};
+    ghost use Rattle.document_lines.specs.Input.{Settings as InputSettings, Situation as InputSituation, silent};
+
+    type Event = Envelope;
+
+    type Refusal = InputFault;
+
+    ghost Situation = { InputSituation };
+
+    ghost Settings = { InputSettings };
+
+    ghost settings = { settings_in };
+
+    ghost rules = { document_rules };
+
+    ghost silent = { silent };
+
+    ghost is_in = { IsIn };
+
+    ghost count = { λ encoder. max (next_line encoder.lines - 1) encoder.documents };
+
+    ghost most_lines = { 2 ^ 63 };
+
+    fn line(&mut self, line: &[u8]) -> Result<Option<Envelope>, FeedFault<InputFault>> {
+        LineEncoder::line(self, line)
+    }
+
+    fn fault_at_end(&self, within_line: bool) -> Option<InputFault> {
+        LineEncoder::fault_at_end(self, within_line)
+    }
+
+    fn too_long(&self) -> InputFault {
+        InputFault::TooLong
+    }
+
+    fn reuse(&mut self, envelope: Envelope) {
+        LineEncoder::reuse(self, envelope);
     }
 }

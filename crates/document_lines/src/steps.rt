@@ -51,8 +51,9 @@ impl DocumentSteps {
 
 impl LineEnd for DocumentSteps {
     ghost use Rattle.std.specs.Prelude.{Bool};
-    ghost use Rattle.line_notation.specs.LineReaderState.{Standing};
-    ghost use Rattle.document_lines.specs.Steps.{IsIn, step_rules};
+    ghost use Rattle.line_notation.specs.LineReaderState.{Standing, after, answer};
+    ghost use Rattle.line_streams.proofs.LineFacts.{each_silent};
+    ghost use Rattle.document_lines.specs.Steps.{IsIn, brought, step_rules};
 
     type Event = LineStep;
 
@@ -60,7 +61,13 @@ impl LineEnd for DocumentSteps {
 
     ghost Situation = { Standing };
 
-    ghost rules = { λ steps. step_rules steps.quota };
+    ghost Settings = { ℕ };
+
+    ghost settings = { λ steps. steps.quota };
+
+    ghost rules = { step_rules };
+
+    ghost silent = { λ quota. each_silent (λ z line. brought (after z line) (answer z line)) };
 
     ghost is_in = { λ steps. IsIn steps.lines };
 
@@ -70,15 +77,15 @@ impl LineEnd for DocumentSteps {
 
     // A document that isn't given back was as long as the next one may be: a list that grew item by
     // item would be moved, and have memory for twice as many.
-    fn line(&mut self, line: &[u8]) -> Result<LineStep, FeedFault<InputFault>> {
+    fn line(&mut self, line: &[u8]) -> Result<Option<LineStep>, FeedFault<InputFault>> {
         let Ok(()) = self.make_room() else {
             return Err(FeedFault::Memory);
         };
         match self.lines.line(line) {
-            Ok(LineStep::More) => Ok(LineStep::More),
+            Ok(LineStep::More) => Ok(Some(LineStep::More)),
             Ok(LineStep::Done(doc)) => {
                 self.wanted = doc.items().len();
-                Ok(LineStep::Done(doc))
+                Ok(Some(LineStep::Done(doc)))
             }
             Err(LineFault::Bad { line, kind }) => {
                 Err(FeedFault::Refused(InputFault::Line { line, kind }))

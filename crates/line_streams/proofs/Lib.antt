@@ -4,7 +4,8 @@ pub mod LineFacts
 pub mod LineSteps
 pub mod Cutting
 pub mod Walking
--- a reader: where a search finds a line feed (Finding), and what a piece is answered with
--- (StreamFacts)
+-- a reader: where a search finds a line feed (Finding), what bytes of a line are answered with
+-- (StreamFacts), and a piece (Feeding)
 pub mod Finding
 pub mod StreamFacts
+pub mod Feeding

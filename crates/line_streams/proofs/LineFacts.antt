@@ -1,7 +1,7 @@
 -- A line is known by its own bytes, and input of so many bytes has an end.
 use Rattle.std.proofs.Common.{◌≡◌, ℕ, zero, suc, ◌+◌, ◌<◌, ◌≤◌, Bool, true, false, ◌⊎◌, List, [], ◌∷◌}
 use Rattle.std.proofs.Common.{◌++◌, length, drop, take, if◌then◌else◌, nat_le, ◌==◌, Some, None, Option}
-use Rattle.std.proofs.Common.{Ok, Err, Result, sym, refl, ap, ◌∙◌, inl, inr, arith, le-leb, leb-false}
+use Rattle.std.proofs.Common.{Ok, Err, Result, sym, refl, ap, ◌∙◌, subst, inl, inr, arith, le-leb, leb-false}
 use Rattle.std.proofs.lemmas.Bool.{lt-leb}
 use Rattle.unit_streams.proofs.Passing.{going_at, going_refusal, refusal_from}
 use Rattle.unit_streams.proofs.Peeling.{extent, peels_front}
@@ -11,7 +11,7 @@ use Rattle.unit_streams.specs.{Going.IsPending, Grammar.IsReadable, Grammar.stan
 use Rattle.unit_streams.specs.{Judging.refusal_at, Tellers.Closes}
 use Rattle.line_notation.specs.Lines.{cut, cut_before, has_no_feed}
 use Rattle.line_streams.specs.LineRules.{event_in, length_refused, line_at, LineRules, lines_by}
-use Rattle.line_streams.specs.LineRules.{refusal_in, with_byte}
+use Rattle.line_streams.specs.LineRules.{refusal_in, situation_behind, with_byte}
 
 module _ {R : Type 0} where
   -- a byte more before a line
@@ -225,8 +225,24 @@ module _ {Z E R : Type 0} (x : LineRules Z E R) where
       (going_at (lines_by x) readable bytes none))
       ∙ sym (refusal_from (lines_by x) bytes at refl) ∙ none)
 
--- a line that is refused brings nothing, and one that brings something isn't refused
-pub refused_empty : {Z E R : Type 0} (v : Result (Z × E) R) (r : R) → refusal_in v ≡ Some r
-    → (v ≡ Err r) × (event_in v ≡ None)
-refused_empty (Ok brought) r e = cc
-refused_empty (Err other) r e = (ap Err cc, refl)
+-- ---- where each line brings an event or is refused
+
+module _ {Z E R : Type 0} where
+  pub refused_by : (v : Result (Z × E) R) (r : R) → refusal_in v ≡ Some r → v ≡ Err r
+  refused_by (Ok brought) r e = cc
+  refused_by (Err other) r e = ap Err cc
+
+  -- so one that is refused brings nothing
+  pub each_silent : (brings : Z → List ℕ → Result (Z × E) R) (z : Z) (line : List ℕ) (r : R)
+      → refusal_in (brings z line) ≡ Some r → event_in (brings z line) ≡ None
+  each_silent brings z line r e = ap event_in (refused_by (brings z line) r e)
+
+  -- how it is answered
+  pub answered_by : (IsIn : Z → Type 0) (z z' : Z) (event : E) (v : Result (Z × E) R)
+      → v ≡ Ok (z', event) → IsIn z'
+      → (refusal_in v ≡ None) × (event_in v ≡ Some event) × IsIn (situation_behind z v)
+  answered_by IsIn z z' event v is at = (
+    ap refusal_in is,
+    ap event_in is,
+    subst IsIn (sym (ap (situation_behind z) is)) at,
+  )

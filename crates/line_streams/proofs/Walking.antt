@@ -1,6 +1,6 @@
 -- How far the lines of any input lead that aren't refused, and what the input brings from there on.
 use Rattle.std.proofs.Common.{◌≡◌, ℕ, zero, suc, ◌+◌, ◌-◌, ◌<◌, ◌≤◌, true, List, [], ◌∷◌, ◌++◌, map, length}
-use Rattle.std.proofs.Common.{take, drop, Some, None, Err, Option, sym, refl, ap, ◌∙◌}
+use Rattle.std.proofs.Common.{take, drop, Some, None, Option, sym, refl, ap, ◌∙◌}
 use Rattle.std.proofs.Common.{subst, inl, inr, append-nil, arith, length-append, length-drop}
 use Rattle.std.proofs.Common.{take-append-drop, length-take-le}
 use Rattle.std.proofs.{Math.Seq.take-add, lemmas.List.drop-take}
@@ -17,11 +17,11 @@ use Rattle.unit_streams.specs.Grammar.{Grammar, Standing, standing, with_more}
 use Rattle.unit_streams.specs.Judging.{ending_at, history_from, led_by, only, refusal_at}
 use Rattle.unit_streams.specs.Units.{Counted, events_along, size_of, UnitsLead}
 use Rattle.line_notation.specs.Lines.{cut, has_no_feed}
-use Rattle.line_streams.specs.LineRules.{end_refused, event_in, length_refused, line_at, LineRules}
-use Rattle.line_streams.specs.LineRules.{lines_by, refusal_in}
+use Rattle.line_streams.specs.LineRules.{end_refused, IsSilent, length_refused, line_at, LineRules}
+use Rattle.line_streams.specs.LineRules.{lines_by}
 use Rattle.line_streams.proofs.Cutting.{behind_lines as behind_all, cut_append, free_cut}
 use Rattle.line_streams.proofs.LineFacts.{begun_no_feed, cut_line, free_take, long_enough, never_wrong}
-use Rattle.line_streams.proofs.LineFacts.{readable, refused_empty, short_enough}
+use Rattle.line_streams.proofs.LineFacts.{readable, short_enough}
 use Rattle.line_streams.proofs.LineSteps.{begins_going, begins_quiet, begins_standing}
 
 module _ {Z E R : Type 0} (x : LineRules Z E R) where
@@ -34,7 +34,7 @@ module _ {Z E R : Type 0} (x : LineRules Z E R) where
   -- is no line more
   pub data Stop (z : Z) (from : ℕ) (rest : List ℕ) : Type 0 where
     refuses : (line : List ℕ) (n : ℕ) (fault : R) → line_at {R = R} rest ≡ whole line n
-        → from + n ≤ x.most → x.brings z line ≡ Err fault → Stop z from rest
+        → from + n ≤ x.most → x.refused z line ≡ Some fault → Stop z from rest
     fills : (k : ℕ) → k ≤ length rest → has_no_feed (take k rest) ≡ true
         → from + k ≡ x.most → Stop z from rest
     goes_out : line_at {R = R} rest ≡ begun → from + length rest < x.most → Stop z from rest
@@ -62,7 +62,7 @@ module _ {Z E R : Type 0} (x : LineRules Z E R) where
   }
 
   further : (z : Z) (from : ℕ) (bytes line : List ℕ) (n : ℕ) → line_at {R = R} bytes ≡ whole line n
-      → 0 < n → refusal_in (x.brings z line) ≡ None
+      → 0 < n → x.refused z line ≡ None
       → Walk (g.after z from line) (from + n) (drop n bytes) → Walk z from bytes
   unfolding UnitsLead size_of
   further z from bytes line n is some none w = record {
@@ -91,9 +91,9 @@ module _ {Z E R : Type 0} (x : LineRules Z E R) where
     full k within free fills_it = stopped z from bytes low (fills k within free fills_it)
 
     by_refusal : (line : List ℕ) (n : ℕ) → line_at {R = R} bytes ≡ whole line n
-        → from + n ≤ x.most → (v : Option R) → refusal_in (x.brings z line) ≡ v → Walk z from bytes
-    by_refusal line n is fits (Some fault) v = stopped z from bytes low
-        (refuses line n fault is fits (refused_empty (x.brings z line) fault v).0)
+        → from + n ≤ x.most → (v : Option R) → x.refused z line ≡ v → Walk z from bytes
+    by_refusal line n is fits (Some fault) v =
+        stopped z from bytes low (refuses line n fault is fits v)
     by_refusal line n is fits None v = further z from bytes line n is
         (some_of z from bytes line n is).0 v (next line n is fits)
 
@@ -116,7 +116,7 @@ module _ {Z E R : Type 0} (x : LineRules Z E R) where
               (arith, over, low)) in
               full k (omega (arith, over, low, some.1)) (begun_no_feed (take k bytes) before)
               (omega (arith, low))
-          | inr fits ↦ by_refusal line n is fits (refusal_in (x.brings z line)) refl
+          | inr fits ↦ by_refusal line n is fits (x.refused z line) refl
         ]
 
   pub walk : (fuel : ℕ) (z : Z) (from : ℕ) (bytes : List ℕ) → length bytes ≤ fuel
@@ -147,7 +147,7 @@ module _ {Z E R : Type 0} (x : LineRules Z E R) where
 
       -- a line that is refused
       module _ (line : List ℕ) (n : ℕ) (fault : R) (is : line_at {R = R} rest ≡ whole line n)
-          (fits : from + n ≤ x.most) (refused : x.brings z line ≡ Err fault)
+          (fits : from + n ≤ x.most) (refused : x.refused z line ≡ Some fault)
         where
           short : (i : ℕ) → i < n → g.at_length here.situation here.from (length p + i) ≡ None
           short i lt = short_enough x (length p + i) (omega (arith, lt, fits, place))
@@ -159,12 +159,12 @@ module _ {Z E R : Type 0} (x : LineRules Z E R) where
               (ap (λ b. line_at (b ++ rest)) at.begun ∙ is)
               ∙ ap (λ v. option_or v (g.at_length (g.after here.situation here.from line)
               (here.from + n) (length p + n)))
-              (ap (λ (y : Z). refusal_in (x.brings y line)) at.situation ∙ ap refusal_in refused)
+              (ap (λ (y : Z). x.refused y line) at.situation ∙ refused)
 
-          pub at_refusal : history_from g p rest ≡ only (Some fault)
-          at_refusal =
+          pub at_refusal : IsSilent x → history_from g p rest ≡ only (Some fault)
+          at_refusal silent =
               let q = unit_quiet g (readable x) p z from at rest line n is short
-              (ap event_in refused) in
+              (silent z line fault refused) in
               history_behind g p rest n q.within q.unrefused
               ∙ ap (λ es. led_by es (history_from g (p ++ take n rest) (drop n rest)))
               (quiet_events g p rest n q)

@@ -1,15 +1,17 @@
--- Input whose units are lines, each of which brings an event, as a stream.
-use Rattle.std.specs.Prelude.{ℕ, ◌+◌, Bool, false, List, [], ◌∷◌, if◌then◌else◌, nat_lt, nat_le}
+-- Input whose units are lines, each of which may bring an event, as a stream.
+use Rattle.std.specs.Prelude.{◌≡◌, ℕ, ◌+◌, Bool, false, List, [], ◌∷◌, if◌then◌else◌, nat_lt, nat_le}
 use Rattle.std.specs.Prelude.{◌==◌, Some, None, Ok, Err, Option, Result}
 use Rattle.unit_streams.specs.Front.{begun, Front, whole, wrong}
 use Rattle.unit_streams.specs.Grammar.{Grammar}
 
 -- what lines mean: situations are in Z, events in E and refusals in R
 pub record LineRules (Z E R : Type 0) : Type 0 where
-  -- the situation before the first line
+  -- the situation before the first line, and behind a line
   pub start : Z
-  -- the situation behind a line, and the event that it brings, or why it is refused
-  pub brings : Z → List ℕ → Result (Z × E) R
+  pub after : Z → List ℕ → Z
+  -- why a line is refused, and the event that it brings
+  pub refused : Z → List ℕ → Option R
+  pub brings : Z → List ℕ → Option E
   -- why the input may not end, within a line or behind one
   pub at_end : (within_line : Bool) → Z → Option R
   -- so many bytes are too many, which refuses them
@@ -41,7 +43,25 @@ module _ {Z E R : Type 0} where
   refusal_in (Ok brought) = None
   refusal_in (Err r) = Some r
 
+  -- rules by which each line brings an event or is refused
+  abbrev pub each_brings : (start : Z) → (brings : Z → List ℕ → Result (Z × E) R)
+      → (at_end : Bool → Z → Option R) → (most : ℕ) → (too_long : R) → LineRules Z E R
+  each_brings start brings at_end most too_long = record {
+    start = start;
+    after = λ z line. situation_behind z (brings z line);
+    refused = λ z line. refusal_in (brings z line);
+    brings = λ z line. event_in (brings z line);
+    at_end = at_end;
+    most = most;
+    too_long = too_long;
+  }
+
   module _ (x : LineRules Z E R) where
+    -- a line that is refused brings nothing
+    abbrev pub IsSilent : Type 0
+    IsSilent = (z : Z) (line : List ℕ) (r : R) → x.refused z line ≡ Some r
+        → x.brings z line ≡ None
+
     -- as many bytes as are too many are refused
     abbrev pub length_refused : ℕ → Option R
     length_refused n = if nat_le x.most n then Some x.too_long else None
@@ -54,9 +74,9 @@ module _ {Z E R : Type 0} where
     lines_by = record {
       start = x.start;
       unit_at = λ z from bytes. line_at bytes;
-      after = λ z from line. situation_behind z (x.brings z line);
-      refused = λ z from line. refusal_in (x.brings z line);
-      completed = λ z from to line. event_in (x.brings z line);
+      after = λ z from line. x.after z line;
+      refused = λ z from line. x.refused z line;
+      completed = λ z from to line. x.brings z line;
       is_over = λ z. false;
       at_length = λ z from n. length_refused n;
       at_end = λ z from n. end_refused from n z;

@@ -1,13 +1,14 @@
 //! A reader of lines, in any pieces.
 
-ghost use Rattle.std.specs.Prelude.{◌≡◌, ℕ, ◌+◌, ◌<◌, ◌≤◌, List, [], ◌++◌, length, OnOk};
-ghost use Rattle.line_streams.specs.LineStreamState.{LineAnswers, PieceAnswers, Reached};
+ghost use Rattle.std.specs.Prelude.{◌≡◌, ℕ, ◌+◌, ◌<◌, ◌≤◌, List, [], ◌++◌, length, IfErr, IfOk, OnOk};
+ghost use Rattle.unit_streams.specs.Judging.{ending_at};
+ghost use Rattle.line_streams.specs.LineRules.{lines_by};
+ghost use Rattle.line_streams.specs.LineStreamState.{LineAnswers, PieceAnswers, Reached, UnitAnswers};
 
 use crate::line_end::LineEnd;
 use memchr::memchr;
 use std::alloc::Global;
 use stream_loop::{FeedFault, ReadingEnd};
-use unit_streams::Memory;
 
 const LINE_FEED: u8 = b'\n';
 
@@ -57,9 +58,10 @@ impl<L: LineEnd> LineStream<L> {
     }
 
     // Takes bytes of the unfinished line.
-    fn begin(&mut self, bytes: &[u8]) -> Result<(), Memory>
+    fn begin(&mut self, bytes: &[u8]) -> Result<(), FeedFault<L::Refusal>>
         requires { self.old.taken + length bytes.now ≤ self.old.most }
         ensures begun { OnOk result (self.new.begun.items ≡ self.old.begun.items ++ bytes.now) }
+        ensures refused { IfErr result (λ fault. fault ≡ FeedFault.Memory) }
         ensures taken { self.new.taken ≡ self.old.taken + length bytes.now }
         ensures lines { self.new.lines ≡ self.old.lines }
         ensures most { self.new.most ≡ self.old.most }
@@ -67,19 +69,19 @@ impl<L: LineEnd> LineStream<L> {
         self.taken += bytes.len() as u64;
         match self.begun.extend_from_slice(bytes) {
             Ok(()) => Ok(()),
-            Err(_) => Err(Memory),
+            Err(_) => Err(FeedFault::Memory),
         }
     }
 
     // Answers the line that ends with these bytes, after which its line feed comes.
-    fn end_line(&mut self, bytes: &[u8]) -> Result<L::Event, FeedFault<L::Refusal>>
+    fn end_line(&mut self, bytes: &[u8]) -> Result<Option<L::Event>, FeedFault<L::Refusal>>
         requires { self.old.taken + length bytes.now + 1 ≤ self.old.most }
         ensures answers { (z : L.Situation) → L.is_in self.old.lines z
-            → LineAnswers (L.rules self.old.lines) (L.is_in self.new.lines) z
+            → LineAnswers (L.rules (L.settings self.old.lines)) (L.is_in self.new.lines) z
             (self.old.begun.items ++ bytes.now) result }
         ensures begun { OnOk result (self.new.begun.items ≡ []) }
         ensures taken { self.new.taken ≡ self.old.taken + length bytes.now + 1 }
-        ensures rules { L.rules self.new.lines ≡ L.rules self.old.lines }
+        ensures settings { L.settings self.new.lines ≡ L.settings self.old.lines }
         ensures most { self.new.most ≡ self.old.most }
     {
         self.taken += bytes.len() as u64 + 1;
@@ -94,39 +96,75 @@ impl<L: LineEnd> LineStream<L> {
         answer
     }
 
-    // Reads a piece, up to its first line feed or as far as may be.
-    fn read(&mut self, piece: &[u8]) -> Result<(usize, Option<L::Event>), FeedFault<L::Refusal>>
-        ensures answers { (L.rules self.old.lines).most ≡ self.old.most → (p : List ℕ)
-            → Reached (L.rules self.old.lines) (L.is_in self.old.lines) self.old.begun.items
+    /// Why the input may not end here, if it may not.
+    pub fn fault_at_end(&self) -> Option<L::Refusal>
+        ensures { (p : List ℕ) → Reached (L.rules (L.settings self.now.lines))
+            (L.is_in self.now.lines) self.now.begun.items self.now.taken p
+            → result ≡ ending_at (lines_by (L.rules (L.settings self.now.lines))) p }
+    {
+        self.lines.fault_at_end(!self.begun.is_empty())
+    }
+
+    // Reads bytes of one line: up to its line feed, or all of them where it isn't there.
+    fn unit(&mut self, bytes: &[u8]) -> Result<(usize, Option<L::Event>), FeedFault<L::Refusal>>
+        requires some { 0 < length bytes.now }
+        requires fits { self.old.taken + length bytes.now ≤ self.old.most }
+        ensures answers { (L.rules (L.settings self.old.lines)).most ≡ self.old.most → (p : List ℕ)
+            → Reached (L.rules (L.settings self.old.lines)) (L.is_in self.old.lines) self.old.begun.items
             self.old.taken p
-            → PieceAnswers (L.rules self.old.lines) p piece.now
-            (Reached (L.rules self.old.lines) (L.is_in self.new.lines) self.new.begun.items
+            → UnitAnswers (L.rules (L.settings self.old.lines)) p bytes.now
+            (Reached (L.rules (L.settings self.old.lines)) (L.is_in self.new.lines) self.new.begun.items
             self.new.taken) result }
-        ensures rules { L.rules self.new.lines ≡ L.rules self.old.lines }
+        ensures some { IfOk result (λ answer. 0 < answer.0) }
+        ensures within { IfOk result (λ answer. answer.0 ≤ length bytes.now) }
+        ensures taken { IfOk result (λ answer. self.new.taken ≡ self.old.taken + answer.0) }
+        ensures settings { L.settings self.new.lines ≡ L.settings self.old.lines }
         ensures most { self.new.most ≡ self.old.most }
     {
-        let (within, _) = piece.split_at(self.room(piece.len()));
-        match memchr(LINE_FEED, within) {
-            Some(end) => {
-                let event = self.end_line(&within[..end])?;
-                Ok((end + 1, Some(event)))
-            }
-            None => {
-                let Ok(()) = self.begin(within) else {
-                    return Err(FeedFault::Memory);
-                };
-                if self.taken >= self.most {
-                    return Err(FeedFault::Refused(self.lines.too_long()));
-                }
-                Ok((within.len(), None))
+        let Some(end) = memchr(LINE_FEED, bytes) else {
+            self.begin(bytes)?;
+            return Ok((bytes.len(), None));
+        };
+        match self.end_line(&bytes[..end]) {
+            Ok(event) => Ok((end + 1, event)),
+            Err(fault) => Err(fault),
+        }
+    }
+
+    /// Reads a piece, as [`feed`](ReadingEnd::feed) does: up to the first line that brings an event,
+    /// or as far as may be.
+    pub fn read(&mut self, piece: &[u8]) -> Result<(usize, Option<L::Event>), FeedFault<L::Refusal>>
+        ensures answers { (L.rules (L.settings self.old.lines)).most ≡ self.old.most → (p : List ℕ)
+            → Reached (L.rules (L.settings self.old.lines)) (L.is_in self.old.lines) self.old.begun.items
+            self.old.taken p
+            → PieceAnswers (L.rules (L.settings self.old.lines)) p piece.now
+            (Reached (L.rules (L.settings self.old.lines)) (L.is_in self.new.lines) self.new.begun.items
+            self.new.taken) result }
+        ensures within { IfOk result (λ answer. answer.0 ≤ length piece.now) }
+        ensures settings { L.settings self.new.lines ≡ L.settings self.old.lines }
+        ensures most { self.new.most ≡ self.old.most }
+    {
+        let room = self.room(piece.len());
+        let mut used = 0;
+        while used < room {
+            let (n, event) = match self.unit(&piece[used..room]) {
+                Ok(answer) => answer,
+                Err(fault) => return Err(fault),
+            };
+            used += n;
+            if event.is_some() {
+                return Ok((used, event));
             }
         }
+        if self.taken >= self.most {
+            return Err(FeedFault::Refused(self.lines.too_long()));
+        }
+        Ok((used, None))
     }
 }
 
 impl<L: LineEnd> ReadingEnd for LineStream<L> {
     ghost use Rattle.std.specs.Prelude.{Bool, false};
-    ghost use Rattle.line_streams.specs.LineRules.{lines_by};
 
     type Event = L::Event;
 
@@ -140,10 +178,10 @@ impl<L: LineEnd> ReadingEnd for LineStream<L> {
 
     ghost event_for = { λ event. event };
 
-    ghost grammar = { λ s. lines_by (L.rules s.lines) };
+    ghost grammar = { λ s. lines_by (L.rules (L.settings s.lines)) };
 
-    ghost stands = { λ s p. ((L.rules s.lines).most ≡ s.most)
-        × Reached (L.rules s.lines) (L.is_in s.lines) s.begun.items s.taken p };
+    ghost stands = { λ s p. ((L.rules (L.settings s.lines)).most ≡ s.most)
+        × Reached (L.rules (L.settings s.lines)) (L.is_in s.lines) s.begun.items s.taken p };
 
     ghost taken = { λ s. s.taken };
 
@@ -158,7 +196,7 @@ impl<L: LineEnd> ReadingEnd for LineStream<L> {
     }
 
     fn end_of_input(&mut self) -> Result<(), L::Refusal> {
-        match self.lines.fault_at_end(!self.begun.is_empty()) {
+        match self.fault_at_end() {
             Some(fault) => Err(fault),
             None => Ok(()),
         }

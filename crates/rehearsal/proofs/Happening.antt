@@ -17,7 +17,7 @@ use Rattle.rehearsal.specs.Forms.{Form, form_of, is_heard, sends, submission, su
 use Rattle.rehearsal.specs.History.{brought, history_rules, played, Settings, Situation}
 use Rattle.rehearsal.specs.History.{situation_after, submitted_in}
 use Rattle.rehearsal.specs.PlayerState.{Plays}
-use Rattle.line_streams.specs.LineStreamState.{LineAnswers}
+use Rattle.line_streams.{specs.LineStreamState.LineAnswers, proofs.LineFacts.answered_by}
 
 -- one text may stand in Body
 is-body : (text : List ℕ) → is_utf8 text ≡ true → IsBody (body_of text)
@@ -87,7 +87,7 @@ module _ (z : Situation) (old : Player) (line : List ℕ) (plays : Plays z old) 
         → body ≡ delivered_by world event → counts ≡ counts_of next → new.world ≡ Some next
         → new.lines ≡ old.lines + 1
         → (x : Settings) → LineAnswers (history_rules x) (λ behind. Plays behind new) z line
-        (Ok (record { body = body; counts = counts }))
+        (Ok (Some (record { body = body; counts = counts })))
     played-so e new next body counts next_is body_is counts_are there lines x =
         let same = same-world in
         let next_so : next ≡ kept_after z.kept event
@@ -96,11 +96,10 @@ module _ (z : Situation) (old : Player) (line : List ℕ) (plays : Plays z old) 
         = body_is ∙ ap (λ (k : Kept). delivered_by k event) same in
         let counts_so : counts ≡ counts_of (kept_after z.kept event)
         = counts_are ∙ ap counts_of next_so in
-        let brings : played z.kept event ≡ record { body = body; counts = counts } = cc in (
-          situation_after z event,
-          ap (brought z) e ∙ ap (λ (p : Played). Ok (situation_after z event, p)) brings,
-          record {
-            kept = there ∙ ap Some next_so;
-            lines = lines ∙ ap (λ n. n + 1) plays.lines;
-          },
-        )
+        let brings : played z.kept event ≡ record { body = body; counts = counts } = cc in
+        answered_by (λ behind. Plays behind new) z (situation_after z event) _
+        (brought z (event_of line))
+        (ap (brought z) e ∙ ap (λ (p : Played). Ok (situation_after z event, p)) brings) (record {
+          kept = there ∙ ap Some next_so;
+          lines = lines ∙ ap (λ n. n + 1) plays.lines;
+        })

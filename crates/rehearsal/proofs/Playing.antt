@@ -31,7 +31,8 @@ use Rattle.rehearsal.specs.History.{AcceptedIsInForm, history_rules, InputIsPlay
 use Rattle.rehearsal.specs.History.{no_counts, played, run_over, Settings, Situation, situation_after}
 use Rattle.rehearsal.specs.History.{told}
 use Rattle.rehearsal.specs.Laws.{PendingIsPlayed}
-use Rattle.line_streams.proofs.{Cutting.free_cut, LineFacts.begun_no_feed, LineFacts.cut_line}
+use Rattle.line_streams.proofs.Cutting.{free_cut}
+use Rattle.line_streams.proofs.LineFacts.{begun_no_feed, cut_line, each_silent, refused_by}
 use Rattle.rehearsal.proofs.{Happening.may-happen}
 use Rattle.line_streams.proofs.Walking.{all_lines, at_most, at_refusal, at_the_end, brought, cuts}
 use Rattle.line_streams.proofs.Walking.{fills, goes_out, history_so, led_cut, lines_of, refuses, Stop}
@@ -230,8 +231,8 @@ module _ (x : Settings) where
     of_rest (refuses line n fault is fits refused) = record {
       fault = Some fault;
       brings = at_refusal rules _ z _ (brought rules bytes).between w.rest line n fault is fits
-          refused;
-      why = why_refused line n fault is refused;
+          refused (each_silent (λ y l. brought_by y (event_of l)));
+      why = why_refused line n fault is (refused_by _ fault refused);
     }
     of_rest (fills k within free full) = record {
       fault = Some TooLong;

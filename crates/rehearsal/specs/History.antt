@@ -13,7 +13,7 @@ use Rattle.reliable_sequence.specs.Rehearsal.{nothing_kept, Rehearsal, rehearsal
 use Rattle.rehearsal.specs.declared.fault.HistoryFault.{HistoryFault, TheVariants.Line}
 use Rattle.rehearsal.specs.declared.fault.HistoryFault.TheVariants.{TooLong}
 use Rattle.rehearsal.specs.declared.{played.Played.Played, TheConstants.MOST_BYTES}
-use Rattle.line_streams.specs.LineRules.{LineRules, lines_by}
+use Rattle.line_streams.specs.LineRules.{each_brings, LineRules, lines_by}
 use Rattle.rehearsal.specs.{Forms.event_of}
 
 -- the sequence whose history it is
@@ -46,13 +46,9 @@ brought z (Ok event) = Ok (situation_after z event, played z.kept event)
 brought z (Err kind) = Err (Line (z.lines + 1) kind)
 
 abbrev pub history_rules : Settings → LineRules Situation Played HistoryFault
-history_rules x = record {
-  start = first_situation x;
-  brings = λ z line. brought z (event_of line);
-  at_end = λ within_line z. if within_line then Some (Line (z.lines + 1) NotALine) else None;
-  most = MOST_BYTES;
-  too_long = TooLong;
-}
+history_rules x = each_brings (first_situation x) (λ z line. brought z (event_of line))
+    (λ within_line z. if within_line then Some (Line (z.lines + 1) NotALine) else None) MOST_BYTES
+    TooLong
 
 -- the grammar of the lines of a history
 abbrev pub history : Settings → Grammar Situation (List ℕ) Played HistoryFault

@@ -46,9 +46,9 @@ impl Player {
         })
     }
 
-    /// Plays a line, which is given without its line feed, and answers what it brings. It fails
+    /// Plays a line, which is given without its line feed, and answers what each brings. It fails
     /// where the line is refused, or without memory.
-    pub fn play(&mut self, line: &[u8]) -> Result<Played, FeedFault<HistoryFault>>
+    pub fn play(&mut self, line: &[u8]) -> Result<Option<Played>, FeedFault<HistoryFault>>
         requires { self.old.lines < 2 ^ 62 }
         ensures answers { (x : Settings) (z : Situation) → Plays z self.old
             → LineAnswers (history_rules x) (λ behind. Plays behind self.new) z line.now result }
@@ -71,6 +71,6 @@ impl Player {
         let counts = world.counts();
         self.lines += 1;
         self.world = Some(world);
-        Ok(Played { body, counts })
+        Ok(Some(Played { body, counts }))
     }
 }

@@ -27,7 +27,9 @@ pub struct HistoryLines<'s> {
 }
 
 impl<'s> LineEnd for HistoryLines<'s> {
-    ghost use Rattle.rehearsal.specs.History.{Situation as Stand, history_rules};
+    ghost use Rattle.line_streams.proofs.LineFacts.{each_silent};
+    ghost use Rattle.rehearsal.specs.Forms.{event_of};
+    ghost use Rattle.rehearsal.specs.History.{Settings as Sequence, Situation as Stand, brought, history_rules};
     ghost use Rattle.rehearsal.specs.PlayerState.{Plays, set_to};
 
     type Event = Played;
@@ -36,7 +38,13 @@ impl<'s> LineEnd for HistoryLines<'s> {
 
     ghost Situation = { Stand };
 
-    ghost rules = { λ lines. history_rules (set_to lines) };
+    ghost Settings = { Sequence };
+
+    ghost settings = { set_to };
+
+    ghost rules = { history_rules };
+
+    ghost silent = { λ x. each_silent (λ z line. brought z (event_of line)) };
 
     ghost is_in = { λ lines z. Plays z lines.player };
 
@@ -44,7 +52,7 @@ impl<'s> LineEnd for HistoryLines<'s> {
 
     ghost most_lines = { 2 ^ 62 };
 
-    fn line(&mut self, line: &[u8]) -> Result<Played, FeedFault<HistoryFault>> {
+    fn line(&mut self, line: &[u8]) -> Result<Option<Played>, FeedFault<HistoryFault>> {
         self.player.play(line)
     }
 

@@ -1,4 +1,4 @@
-use Rattle.std.proofs.Common.{◌≡◌, ◌∙◌, sym, ap}
+use Rattle.std.proofs.Common.{◌∙◌, sym, ap}
 use Rattle.line_streams.proofs.StreamFacts.{starts}
 use Rattle.document_lines.specs.declared.steps.DocumentSteps.{DocumentSteps}
 use Rattle.document_lines.specs.{StepReaderState.StandsFor, Steps.IsIn, Steps.step_rules}
