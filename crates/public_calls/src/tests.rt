@@ -7,6 +7,7 @@ mod edges;
 mod envelopes;
 mod lanes;
 mod lists;
+mod pooled;
 mod records;
 mod senders;
 mod sequences;
@@ -41,6 +42,7 @@ fn documents_go_to_a_peer_and_through_a_sequence(rt: HostRuntime) -> Result<(), 
     lanes::a_failed_write_ends_the_writing_alone(&rt)?;
     served::a_fault_goes_in_place_of_an_answer_that_does_not_fit(&rt)?;
     served::two_threads_write_what_one_does(&rt)?;
+    pooled::connections_are_served_at_once(&rt)?;
     sequences::what_comes_is_taken_or_refused(&rt)?;
     sequences::bodies_are_submitted_or_refused(&rt)?;
     sequences::a_body_goes_through_a_world(&rt)

@@ -13,7 +13,7 @@ use std::sync::Wait;
 use std::test::Fail;
 use std::thread::Threads;
 
-const STATICS: &[u8] = b"id,string\n0,mustUnderstand\n2,Envelope\n\
+pub const STATICS: &[u8] = b"id,string\n0,mustUnderstand\n2,Envelope\n\
 4,http://www.w3.org/2003/05/soap-envelope\n6,http://www.w3.org/2005/08/addressing\n\
 8,Header\n10,Action\n14,Body\n26,MessageID\n";
 
@@ -23,7 +23,7 @@ const FRONT: &[u8] = b"\x00\x01\x00\x01\x02\x02\x0Dnet.tcp://h/e\x03\x08\x0C\
 \x99\x08urn:echo\x44\x1A\xAD\x33\x22\x11\x00\x55\x44\x77\x66\x88\x99\xAA\xBB\xCC\xDD\xEE\xFF\
 \x01\x56\x0E\x42\x01\x9B\xC0\x0F";
 
-fn session(alloc: Global) -> Result<Vec<u8>, AllocError> {
+pub fn session(alloc: Global) -> Result<Vec<u8>, AllocError> {
     let mut bytes = FRONT.to_vec(alloc)?;
     for _ in 0..4_032 {
         bytes.push(b'a')?;
@@ -33,7 +33,7 @@ fn session(alloc: Global) -> Result<Vec<u8>, AllocError> {
 }
 
 // Quotas of both directions, which differ from the usual ones in that on payloads.
-fn with_payload(most: u32) -> Result<Two, Fail> {
+pub fn with_payload(most: u32) -> Result<Two, Fail> {
     let quotas = Quotas::of(most, 5, 2_048, 262_144, 2_048, 1 << 48).ok_or("good quotas")?;
     Ok(Two {
         forward: quotas,
