@@ -39,20 +39,21 @@ use Rattle.line_notation.specs.declared.line.Line.TheVariants as says
 abbrev Cut : Type 0
 Cut = List (List ℕ) × List ℕ
 
+-- bytes have this line first, behind which they are cut so
+abbrev HasFirst : (bytes line : List ℕ) → (lines : List (List ℕ)) → (rest : List ℕ) → Type 0
+HasFirst bytes line lines rest = (line_at {R = InputFault} bytes ≡ whole line (length line + 1))
+    × (cut (drop (length line + 1) bytes) ≡ (lines, rest))
+
 -- the first line of bytes that are cut so
 line_of_cut : (bytes line : List ℕ) (lines : List (List ℕ)) (rest : List ℕ)
-    → cut bytes ≡ (line ∷ lines, rest)
-    → (line_at {R = InputFault} bytes ≡ whole line (length line + 1))
-    × (cut (drop (length line + 1) bytes) ≡ (lines, rest))
+    → cut bytes ≡ (line ∷ lines, rest) → HasFirst bytes line lines rest
 line_of_cut [] line lines rest e = absurd (no_lines e) where
   no_lines : ◌≡◌ {A = Cut} ([], []) (line ∷ lines, rest) → ⊥
   no_lines e = let h : ◌≡◌ {A = List (List ℕ)} [] (line ∷ lines) = ap (λ (v : Cut). v.0) e in cc
 line_of_cut (b ∷ bytes) line lines rest e = by_feed (line_of_cut bytes) (b == 10) refl e where
   by_more : (l : List ℕ) (ls : List (List ℕ)) (r : List ℕ) → cut bytes ≡ (l ∷ ls, r)
       → (b == 10) ≡ false → cut_before b (l ∷ ls, r) ≡ (line ∷ lines, rest)
-      → ((line_at {R = InputFault} bytes ≡ whole l (length l + 1)) × (cut (drop (length l + 1) bytes) ≡ (ls, r)))
-      → (line_at {R = InputFault} (b ∷ bytes) ≡ whole line (length line + 1))
-      × (cut (drop (length line + 1) (b ∷ bytes)) ≡ (lines, rest))
+      → HasFirst bytes l ls r → HasFirst (b ∷ bytes) line lines rest
   by_more l ls r is feed e later =
       let all : ◌≡◌ {A = List (List ℕ)} ((b ∷ l) ∷ ls) (line ∷ lines) = ap (λ (v : Cut). v.0) e in
       let first : b ∷ l ≡ line = cc in
@@ -60,12 +61,9 @@ line_of_cut (b ∷ bytes) line lines rest e = by_feed (line_of_cut bytes) (b == 
       let tail : r ≡ rest = ap (λ (v : Cut). v.1) e in
       let size : length l + 1 + 1 ≡ suc (length l) + 1 = omega arith in
       let next : suc (length l) + 1 ≡ suc (length l + 1) = omega arith in
-      subst (λ (t : List ℕ). (line_at {R = InputFault} (b ∷ bytes) ≡ whole t (length t + 1))
-      × (cut (drop (length t + 1) (b ∷ bytes)) ≡ (lines, rest))) first
-      (subst (λ (k : List (List ℕ)). (line_at {R = InputFault} (b ∷ bytes) ≡ whole (b ∷ l) (length (b ∷ l) + 1))
-      × (cut (drop (length (b ∷ l) + 1) (b ∷ bytes)) ≡ (k, rest))) others
-      (subst (λ (k : List ℕ). (line_at {R = InputFault} (b ∷ bytes) ≡ whole (b ∷ l) (length (b ∷ l) + 1))
-      × (cut (drop (length (b ∷ l) + 1) (b ∷ bytes)) ≡ (ls, k))) tail (
+      subst (λ (t : List ℕ). HasFirst (b ∷ bytes) t lines rest) first
+      (subst (λ (k : List (List ℕ)). HasFirst (b ∷ bytes) (b ∷ l) k rest) others
+      (subst (λ (k : List ℕ). HasFirst (b ∷ bytes) (b ∷ l) ls k) tail (
         rw feed (ap (with_byte b) later.0 ∙ ap (λ (n : ℕ). whole (b ∷ l) n) size),
         ap (λ (n : ℕ). cut (drop n (b ∷ bytes))) next ∙ later.1,
       )))
@@ -73,9 +71,7 @@ line_of_cut (b ∷ bytes) line lines rest e = by_feed (line_of_cut bytes) (b == 
   by_cut : (v : Cut) → cut bytes ≡ v → (b == 10) ≡ false
       → cut_before b v ≡ (line ∷ lines, rest)
       → ((l : List ℕ) (ls : List (List ℕ)) (r : List ℕ) → cut bytes ≡ (l ∷ ls, r)
-      → (line_at {R = InputFault} bytes ≡ whole l (length l + 1)) × (cut (drop (length l + 1) bytes) ≡ (ls, r)))
-      → (line_at {R = InputFault} (b ∷ bytes) ≡ whole line (length line + 1))
-      × (cut (drop (length line + 1) (b ∷ bytes)) ≡ (lines, rest))
+      → HasFirst bytes l ls r) → HasFirst (b ∷ bytes) line lines rest
   by_cut ([], r) is feed e later = absurd (no_lines r e) where
     no_lines : (r : List ℕ) → ◌≡◌ {A = Cut} ([], b ∷ r) (line ∷ lines, rest) → ⊥
     no_lines r e =
@@ -83,10 +79,8 @@ line_of_cut (b ∷ bytes) line lines rest e = by_feed (line_of_cut bytes) (b == 
   by_cut (l ∷ ls, r) is feed e later = by_more l ls r is feed e (later l ls r is)
 
   by_feed : ((l : List ℕ) (ls : List (List ℕ)) (r : List ℕ) → cut bytes ≡ (l ∷ ls, r)
-      → (line_at {R = InputFault} bytes ≡ whole l (length l + 1)) × (cut (drop (length l + 1) bytes) ≡ (ls, r)))
-      → (v : Bool) → (b == 10) ≡ v → cut (b ∷ bytes) ≡ (line ∷ lines, rest)
-      → (line_at {R = InputFault} (b ∷ bytes) ≡ whole line (length line + 1))
-      × (cut (drop (length line + 1) (b ∷ bytes)) ≡ (lines, rest))
+      → HasFirst bytes l ls r) → (v : Bool) → (b == 10) ≡ v
+      → cut (b ∷ bytes) ≡ (line ∷ lines, rest) → HasFirst (b ∷ bytes) line lines rest
   by_feed later true feed e =
       let h : ◌≡◌ {A = Cut} ([] ∷ (cut bytes).0, (cut bytes).1) (line ∷ lines, rest)
       = rw feed at e in
@@ -95,8 +89,7 @@ line_of_cut (b ∷ bytes) line lines rest e = by_feed (line_of_cut bytes) (b == 
       let first : [] ≡ line = cc in
       let others : (cut bytes).0 ≡ lines = cc in
       let tail : (cut bytes).1 ≡ rest = ap (λ (v : Cut). v.1) h in
-      subst (λ (t : List ℕ). (line_at {R = InputFault} (b ∷ bytes) ≡ whole t (length t + 1))
-      × (cut (drop (length t + 1) (b ∷ bytes)) ≡ (lines, rest))) first (
+      subst (λ (t : List ℕ). HasFirst (b ∷ bytes) t lines rest) first (
         rw feed refl,
         ap (λ (k : List (List ℕ)). (k, (cut bytes).1)) others
             ∙ ap (λ (k : List ℕ). (lines, k)) tail,

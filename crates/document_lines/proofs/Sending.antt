@@ -1,7 +1,7 @@
 -- What an encoder of lines answers and is, by where the line led.
 use Rattle.std.proofs.Common.{◌≡◌, ℕ, ◌+◌, true, false, not, ◌&&◌, List, if◌then◌else◌, ◌==◌, Some}
 use Rattle.std.proofs.Common.{None, Ok, Err, Option, Result, sym, refl, ap, ◌∙◌, subst, inl, inr}
-use Rattle.std.proofs.Common.{arith, ne_eqb, ◌≤◌, max}
+use Rattle.std.proofs.Common.{arith, ne_eqb, ◌-◌, ◌≤◌, max}
 use Rattle.std.proofs.{lemmas.Bool.cases_Bool, Math.Nat.le-max_left, Math.Nat.le-max_right}
 use Rattle.string_tables.specs.{StaticStrings.Entry, StringTable.StringTable}
 use Rattle.nbfx_values.specs.{declared.session.Kind.Kind, Limits.Limits}
@@ -19,16 +19,16 @@ use Rattle.line_notation.specs.declared.reader.LineKind.{LineKind, TheVariants.W
 use Rattle.line_notation.specs.declared.reader.LineStep.{LineStep}
 use Rattle.line_notation.specs.declared.reader.LineStep.TheVariants.{Done, More}
 use Rattle.line_notation.specs.Between.{is_between, IsUnrefused, next_line}
-use Rattle.line_notation.specs.LineReaderState.{after, answer}
+use Rattle.line_notation.specs.LineReaderState.{after, answer, failed, Standing}
 use Rattle.document_lines.specs.declared.InputFault.{InputFault, TheVariants.Line}
 use Rattle.document_lines.specs.declared.line_encoder.LineEncoder.{LineEncoder}
 use Rattle.line_streams.specs.LineStreamState.{LineAnswers}
-use Rattle.document_lines.specs.LineEncoderState.{IsAt, IsSent, KeepsAll, KeepsSet}
-use Rattle.document_lines.specs.LineEncoderState.{SendAnswers, settings_in}
+use Rattle.document_lines.specs.LineEncoderState.{IsAt, IsIn, IsSent, KeepsAll, SendAnswers}
+use Rattle.document_lines.specs.LineEncoderState.{settings_in}
 use Rattle.document_lines.specs.Input.{behind_line, completed_line, document_rules, is_full}
 use Rattle.document_lines.specs.Input.{is_singleton, payload_at, refused_line, Settings, Situation}
 use Rattle.document_lines.specs.Input.{start_of}
-use Rattle.document_lines.proofs.Standings.{done_leads, more_leads, no_lone}
+use Rattle.document_lines.proofs.Standings.{done_leads, more_leads, next_after, no_lone}
 
 -- before the first document a message may be sent
 pub ready_first : (mode : Mode)
@@ -189,9 +189,24 @@ unfolding settings_in
 set_as e x at = same_set _ _ _ _ _ _ _ _ at.limits at.kind at.mode
     (ap (λ (t : StringTable). t.statics) at.table)
 
-pub set_still : (old new : LineEncoder) → KeepsSet old new → settings_in new ≡ settings_in old
+-- sending a document leaves that
+pub set_sent : (old new : LineEncoder) → KeepsSettings old.sender new.sender
+    → new.mode ≡ old.mode → settings_in new ≡ settings_in old
 unfolding settings_in
-set_still old new kept = same_set _ _ _ _ _ _ _ _ kept.limits kept.kind kept.mode kept.statics
+set_sent old new kept mode =
+    same_set _ _ _ _ _ _ _ _ kept.limits kept.kind mode kept.statics
+
+-- and so does a line that completes none
+pub set_moved : (e : LineEncoder) (lines : Standing)
+    → settings_in (record e { lines = lines }) ≡ settings_in e
+unfolding settings_in
+set_moved e lines = refl
+
+-- and what changes nothing but the room of the next envelope
+pub set_still : (old new : LineEncoder) → KeepsAll old new → settings_in new ≡ settings_in old
+unfolding settings_in
+set_still old new kept = same_set _ _ _ _ _ _ _ _ (ap limits_in kept.sender)
+    (ap kind_in kept.sender) kept.mode (ap (λ (s : Sender). (names_in s).statics) kept.sender)
 
 -- what changes nothing but the room of the next envelope leaves it as it is
 pub at_still : (x : Settings) (z : Situation) (old new : LineEncoder) → KeepsAll old new
@@ -209,18 +224,26 @@ at_still x z old new kept at = record {
   full = at.full;
 }
 
-pub set_of_all : (old new : LineEncoder) → KeepsAll old new → KeepsSet old new
-set_of_all old new kept = record {
-  limits = ap limits_in kept.sender;
-  kind = ap kind_in kept.sender;
-  mode = kept.mode;
-  statics = ap (λ (s : Sender). (names_in s).statics) kept.sender;
-}
+-- a line is answered by an encoder that is set as it was
+pub line_in : (old new : LineEncoder) → settings_in new ≡ settings_in old → (z : Situation)
+    (line : List ℕ) (result : Result (Option (List ℕ)) (FeedFault InputFault))
+    → LineAnswers (document_rules (settings_in old)) (λ behind. IsAt (settings_in old) behind new) z
+    line result
+    → LineAnswers (document_rules (settings_in old)) (IsIn new) z line result
+line_in old new same z line result answers =
+    subst (λ (x : Settings). LineAnswers (document_rules (settings_in old))
+    (λ behind. IsAt x behind new) z line result) (sym same) answers
+
+pub still_in : (old new : LineEncoder) → KeepsAll old new → (z : Situation) → IsIn old z
+    → IsIn new z
+still_in old new kept z at =
+    subst (λ (x : Settings). IsAt x z new) (sym (set_still old new kept))
+    (at_still (settings_in old) z old new kept at)
 
 -- ---- how many lines and documents there were
 
 -- of two counts each is one more at most
-pub one_more : (a a' b b' : ℕ) → a' ≤ a + 1 → b' ≤ b + 1 → max a' b' ≤ max a b + 1
+one_more : (a a' b b' : ℕ) → a' ≤ a + 1 → b' ≤ b + 1 → max a' b' ≤ max a b + 1
 one_more a a' b b' less few =
     let l = le-max_left a b in
     let r = le-max_right a b in
@@ -228,3 +251,21 @@ one_more a a' b b' less few =
   where
     max_below : (m n most : ℕ) → m ≤ most → n ≤ most → max m n ≤ most
     max_below m n most p q = grind (arith, p, q)
+
+-- a line is one line more at most, and completes a document at most
+pub counted : (old new : LineEncoder) (line : List ℕ) → new.lines ≡ after old.lines line
+    → new.documents ≤ old.documents + 1
+    → max (next_line new.lines - 1) new.documents ≤ max (next_line old.lines - 1) old.documents + 1
+counted old new line leads few =
+    let less = next_after old.lines line in
+    let same = ap next_line leads in
+    one_more (next_line old.lines - 1) (next_line new.lines - 1) old.documents new.documents
+    (omega (arith, less, same)) few
+
+pub counted_failed : (old new : LineEncoder) (fault : LineFault) → new.lines ≡ failed fault
+    → new.documents ≡ old.documents
+    → max (next_line new.lines - 1) new.documents ≤ max (next_line old.lines - 1) old.documents + 1
+counted_failed old new fault leads same =
+    let none = ap next_line leads in
+    one_more (next_line old.lines - 1) (next_line new.lines - 1) old.documents new.documents
+    (omega (arith, none)) (omega (arith, same))

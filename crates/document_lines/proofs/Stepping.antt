@@ -1,36 +1,39 @@
 -- What all lines bring one by one: their documents, and why they are refused.
-use Rattle.std.proofs.Common.{◌≡◌, ℕ, ◌+◌, ◌-◌, ◌^◌, ◌<◌, ◌≤◌, Bool, true, false, not, List, [], ◌∷◌, ◌++◌, length, take}
-use Rattle.std.proofs.Common.{drop, if◌then◌else◌, nat_le, nat_lt, Some, None, Ok, Err, Option, Result}
-use Rattle.std.proofs.Common.{sym, refl, ap, ◌∙◌, subst, append-nil, arith, le-ltb, lt-ltb}
-use Rattle.std.proofs.Common.{length-append, length-take-le, take-append-drop}
+use Rattle.std.proofs.Common.{◌≡◌, ℕ, ◌+◌, ◌-◌, ◌^◌, ◌<◌, ◌≤◌, Bool, true, false, not, List, []}
+use Rattle.std.proofs.Common.{◌∷◌, ◌++◌, length, take, drop, if◌then◌else◌, nat_le, nat_lt, Some}
+use Rattle.std.proofs.Common.{None, Ok, Err, Option, Result, sym, refl, ap, ◌∙◌, subst, append-nil}
+use Rattle.std.proofs.Common.{arith, le-ltb, lt-ltb, length-append, length-take-le}
+use Rattle.std.proofs.Common.{take-append-drop}
 use Rattle.std.proofs.Math.Seq.{take-add}
 use Rattle.nbfx_values.specs.declared.content.Item.{Item}
 use Rattle.unit_streams.specs.{Front.begun, Front.whole, Going.IsPending, Grammar.Grammar}
 use Rattle.unit_streams.specs.Judging.{History, history, history_from, only, refusal_at}
 use Rattle.unit_streams.specs.Units.{Counted, events_along, size_of, UnitsLead}
-use Rattle.line_notation.specs.declared.reader.LineFault.{LineFault, TheVariants.Bad, TheVariants.Memory}
-use Rattle.line_notation.specs.declared.reader.LineStep.{LineStep, TheVariants.Done, TheVariants.More}
+use Rattle.line_notation.specs.declared.reader.LineFault.{LineFault, TheVariants.Bad}
+use Rattle.line_notation.specs.declared.reader.LineFault.{TheVariants.Memory}
+use Rattle.line_notation.specs.declared.reader.LineStep.{LineStep, TheVariants.Done}
+use Rattle.line_notation.specs.declared.reader.LineStep.{TheVariants.More}
 use Rattle.line_notation.specs.declared.reader.{LineKind.LineKind, LineKind.TheVariants.Cut}
 use Rattle.line_notation.specs.{Between.IsUnrefused, Between.is_between, Between.next_line}
 use Rattle.line_notation.specs.{Lines.cut, Lines.has_no_feed}
 use Rattle.line_notation.specs.LineReaderState.{after, answer, answer_of, at_start, document_of}
 use Rattle.line_notation.specs.LineReaderState.{documents_from, documents_of, ends, failed, going}
-use Rattle.line_notation.specs.LineReaderState.{on, outcome, Placed, Standing, standing}
-use Rattle.line_notation.specs.LineReaderState.{HasReadFew, standing_from}
+use Rattle.line_notation.specs.LineReaderState.{on, outcome, Placed, Standing, standing, HasReadFew}
+use Rattle.line_notation.specs.LineReaderState.{standing_from}
 use Rattle.stream_loop.specs.declared.reading_end.FeedFault.{FeedFault, TheVariants.Refused}
 use Rattle.line_streams.specs.LineStreamState.{LineAnswers}
-use Rattle.line_streams.specs.LineRules.{end_refused, IsSilent, line_at, LineRules, lines_by}
-use Rattle.line_streams.specs.LineRules.{refusal_in as refusal_of}
-use Rattle.line_streams.proofs.Cutting.{behind_lines, cut_append, free_cut}
-use Rattle.line_streams.proofs.LineFacts.{answered_by, begun_no_feed, bounded, each_silent}
-use Rattle.line_streams.proofs.LineFacts.{refused_by}
-use Rattle.line_streams.proofs.Walking.{all_lines, at_most, at_refusal, at_the_end, brought as walked}
-use Rattle.line_streams.proofs.Walking.{cuts, fills, goes_out, history_so, led_cut, line_alone}
-use Rattle.line_streams.proofs.Walking.{lines_of, refused_at, refuses, some_of, Stop, total, Walk}
+use Rattle.line_streams.specs.LineRules.{each_silent, end_refused, IsSilent, line_at, LineRules}
+use Rattle.line_streams.specs.LineRules.{lines_by, refusal_in as refusal_of}
+use Rattle.line_streams.proofs.Cutting.{behind_lines, cut_append}
+use Rattle.line_streams.proofs.LineFacts.{answered_by, bounded, refused_by}
+use Rattle.line_streams.proofs.Walking.{all_cut as every_cut, all_lines, at_most, at_refusal}
+use Rattle.line_streams.proofs.Walking.{at_the_end, brought as walked, fills, goes_out, history_so}
+use Rattle.line_streams.proofs.Walking.{led_cut, line_alone, lines_of, refused_at, refuses}
+use Rattle.line_streams.proofs.Walking.{rest_cut, some_of, Stop, total, Walk}
 use Rattle.document_lines.specs.declared.InputFault.{InputFault}
 use Rattle.document_lines.specs.declared.InputFault.TheVariants.{Line, TooLong}
-use Rattle.document_lines.specs.Documents.{documents_in, documents_within, refusal_at_end, refusal_in}
-use Rattle.document_lines.specs.Documents.{unless}
+use Rattle.document_lines.specs.Documents.{documents_in, documents_within, refusal_at_end}
+use Rattle.document_lines.specs.Documents.{refusal_in, unless}
 use Rattle.document_lines.specs.Steps.{brought, documents_of_steps, IsIn, step_rules}
 use Rattle.document_lines.proofs.Leading.{from_append, IsWhy, refused_leads, short_within, too_long}
 use Rattle.document_lines.proofs.Leading.{unrefused_none, why_within}
@@ -246,9 +249,8 @@ module _ (quota : ℕ) where
       where
         pub whole_cut : cut bytes ≡ (lines, w.rest)
         whole_cut =
-            cuts rules w.units at_start 0 bytes z w.rest w.lead
-            ∙ ap (λ (c : List (List ℕ) × List ℕ). (lines ++ c.0, c.1))
-            (free_cut w.rest (begun_no_feed w.rest is))
+            every_cut rules bytes
+            ∙ ap (λ (c : List (List ℕ) × List ℕ). (lines ++ c.0, c.1)) (rest_cut rules bytes is)
             ∙ ap (λ (ls : List (List ℕ)). (ls, w.rest)) (append-nil lines)
 
         pub stands_at_end : standing (cut bytes).0 ≡ z

@@ -1,7 +1,7 @@
 -- What was taken of a source, by how the reading of its lines ended.
-use Rattle.std.proofs.Common.{◌≡◌, ℕ, ◌<◌, Bool, true, false, ◌⊎◌, List, [], ◌∷◌, ◌++◌, length, nat_le}
-use Rattle.std.proofs.Common.{map, IfOk, Some, None, Ok, Err, Option, Result, sym, refl, ap, ◌∙◌, subst}
-use Rattle.std.proofs.Common.{inl, inr, append_assoc, append-nil, arith, map-id}
+use Rattle.std.proofs.Common.{◌≡◌, ℕ, ◌<◌, Bool, true, false, ◌⊎◌, List, [], ◌∷◌, ◌++◌, length}
+use Rattle.std.proofs.Common.{nat_le, map, IfOk, Some, None, Ok, Err, Option, Result, sym, refl, ap}
+use Rattle.std.proofs.Common.{◌∙◌, subst, inl, inr, append_assoc, append-nil, arith, map-id}
 use Rattle.io_edges.specs.{Faults.CountsFaults, Flow.Told}
 use Rattle.nbfx_values.specs.declared.content.Item.{Item}
 use Rattle.stream_loop.proofs.Writing.{told_as, told_some}
@@ -19,8 +19,8 @@ use Rattle.line_streams.proofs.Cutting.{begun_behind}
 use Rattle.document_lines.specs.declared.{InputFault.InputFault, reading.ListFault.ListFault}
 use Rattle.document_lines.specs.declared.InputFault.TheVariants.{Line, TooLong}
 use Rattle.document_lines.specs.declared.reading.ListFault.TheVariants.{Memory, ReadFault, Refused}
-use Rattle.document_lines.specs.Documents.{documents_in, documents_within, refusal_at_end, refusal_in}
-use Rattle.document_lines.specs.Documents.{unless}
+use Rattle.document_lines.specs.Documents.{documents_in, documents_within, refusal_at_end}
+use Rattle.document_lines.specs.Documents.{refusal_in, unless}
 use Rattle.document_lines.specs.Steps.{documents_of_steps, step_rules}
 use Rattle.document_lines.specs.Taking.{IsReadAs, of_kept, Says, TakesDocuments}
 use Rattle.document_lines.proofs.Stepping.{g, history_said, pending_unrefused, Said}

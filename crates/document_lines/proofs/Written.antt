@@ -2,8 +2,7 @@
 use Rattle.std.proofs.Common.{◌≡◌, ℕ, ◌+◌, ◌≤◌, Bool, true, false, not, ◌&&◌, ◌||◌, ◌⊎◌, List, []}
 use Rattle.std.proofs.Common.{◌∷◌, ◌++◌, length, take, drop, if◌then◌else◌, nat_lt, ◌==◌, Some}
 use Rattle.std.proofs.Common.{None, Ok, Err, Option, Result, sym, refl, ap, ◌∙◌, subst, inl, inr}
-use Rattle.std.proofs.Common.{append-nil, arith, length-append, ltb-false, ltb-true, eqb-true}
-use Rattle.std.proofs.lemmas.List.{nil_from_length}
+use Rattle.std.proofs.Common.{arith, length-append, eqb-true}
 use Rattle.std.proofs.lemmas.Bool.{and_parts, cases_Bool, eqb-false, not-true, or_cases}
 use Rattle.unit_streams.proofs.Pieces.{told_flat}
 use Rattle.unit_streams.specs.{Front.begun, Front.whole, Grammar.Grammar}
@@ -26,7 +25,7 @@ use Rattle.line_notation.specs.LineReaderState.{documents_from, documents_of, en
 use Rattle.line_notation.specs.LineReaderState.{ends as ends_document, failed, going}
 use Rattle.line_notation.specs.LineReaderState.{on as leads_on, outcome, Placed as PlacedLine}
 use Rattle.line_notation.specs.LineReaderState.{Standing as LineStanding, standing, standing_from}
-use Rattle.line_notation.specs.Lines.{AreLinesOf, cut, has_no_feed}
+use Rattle.line_notation.specs.Lines.{AreLinesOf, cut}
 use Rattle.document_lines.{specs.declared.InputFault.InputFault, proofs.Standings.no_lone}
 use Rattle.document_lines.specs.declared.InputFault.TheVariants.{Line, TooLong, Unfit as DoesNotFit}
 use Rattle.document_lines.specs.Input.{behind_line, ending_fault, envelopes_and_end, fault_of}
@@ -35,12 +34,12 @@ use Rattle.document_lines.specs.Input.{refused_line, Settings, Situation, start_
 use Rattle.document_lines.specs.Laws.{Explains, InputIsWritten, IsWritten, RefusesNoMemory}
 use Rattle.document_lines.specs.Refused.{HasNoDocument, IsBadLine, RefusesLine}
 use Rattle.document_lines.proofs.Built.{joined, walk as envelopes_of}
-use Rattle.document_lines.specs.Input.{silent}
-use Rattle.line_streams.{specs.LineRules.line_at, proofs.Cutting.free_cut}
-use Rattle.line_streams.proofs.LineFacts.{begun_no_feed, cut_line}
-use Rattle.line_streams.proofs.Walking.{all_lines, at_most, at_refusal, at_the_end, brought, cuts}
-use Rattle.line_streams.proofs.Walking.{fills, goes_out, history_so, led_cut, lines_of, refuses}
-use Rattle.line_streams.proofs.Walking.{Stop, total, Walk}
+use Rattle.document_lines.specs.Silence.{silent}
+use Rattle.line_streams.{specs.LineRules.line_at, proofs.LineFacts.cut_line}
+use Rattle.line_streams.proofs.Walking.{all_cut, all_lines, at_most, at_refusal, at_the_end}
+use Rattle.line_streams.proofs.Walking.{brought, fills, goes_out, history_so, led_cut, lines_of}
+use Rattle.line_streams.proofs.Walking.{no_line_left, nothing_left, refuses, some_left, Stop, total}
+use Rattle.line_streams.proofs.Walking.{Walk}
 use Rattle.nbfx_encoder.specs.declared.faults.EncodeFault.TheVariants as encode
 
 -- lines may end between documents
@@ -80,7 +79,8 @@ module _ (x : Settings) where
 
   pub led_documents : (units : List (Counted (List ℕ))) (z : Situation) (from : ℕ) (bytes : List ℕ)
       (z' : Situation) (rest : List ℕ) → UnitsLead g z from units bytes z' rest
-      → z'.documents ≡ z.documents + length (documents_from z.lines (lines_of (document_rules x) units))
+      → z'.documents
+      ≡ z.documents + length (documents_from z.lines (lines_of (document_rules x) units))
   unfolding UnitsLead
   led_documents [] z from bytes z' rest l =
       ap (λ (y : Situation). y.documents) (sym l.0) ∙ omega arith
@@ -89,10 +89,10 @@ module _ (x : Settings) where
       let a : Result LineStep LineFault = answer z.lines one.unit in
       let later = led_documents units (g.after z from one.unit) (from + one.size)
       (drop one.size bytes) z' rest l.2 in
-      let same = ap (λ (s : LineStanding). length (documents_from s (lines_of (document_rules x) units)))
-      (behind_lines z b a) in
+      let lines : List (List ℕ) = lines_of (document_rules x) units in
+      let same = ap (λ (s : LineStanding). length (documents_from s lines)) (behind_lines z b a) in
       let first = behind_documents z b a in
-      let both = length-append (document_of a) (documents_from b (lines_of (document_rules x) units)) in
+      let both = length-append (document_of a) (documents_from b lines) in
       omega (arith, later, same, first, both)
 
   -- a line that isn't refused is one line more
@@ -200,9 +200,6 @@ module _ (x : Settings) where
     abbrev z : Situation
     z = w.situation
 
-    all_cut : cut bytes ≡ (written_lines ++ (cut w.rest).0, (cut w.rest).1)
-    all_cut = cuts (document_rules x) w.units (start_of x) 0 bytes z w.rest w.lead
-
     next : IsUnrefused z.lines × (next_line z.lines ≡ 0 + 1 + length written_lines)
     next = led_next w.units (start_of x) 0 bytes z w.rest w.lead tt
 
@@ -239,7 +236,8 @@ module _ (x : Settings) where
     -- a line that is refused
     module _ (line : List ℕ) (n : ℕ) (is : line_at {R = InputFault} w.rest ≡ whole line n) where
       next_is : more_lines ≡ line ∷ (cut (drop n w.rest)).0
-      next_is = ap (λ (c : List (List ℕ) × List ℕ). c.0) (cut_line {R = InputFault} w.rest line n is)
+      next_is = ap (λ (c : List (List ℕ) × List ℕ). c.0)
+          (cut_line {R = InputFault} w.rest line n is)
 
       unfit_by : (doc : List Item) → answer z.lines line ≡ Ok (Done doc)
           → (v : Result (Placed (List ℕ)) Unfit) → encoded x.limits x.kind z.table doc ≡ v
@@ -346,22 +344,6 @@ module _ (x : Settings) where
       abbrev within_line : Bool
       within_line = nat_lt from (from + length w.rest)
 
-      rest_cut : cut w.rest ≡ ([], w.rest)
-      rest_cut = free_cut w.rest (begun_no_feed w.rest is)
-
-      no_line_left : more_lines ≡ []
-      no_line_left = ap (λ (c : List (List ℕ) × List ℕ). c.0) rest_cut
-
-      bytes_left : (cut bytes).1 ≡ w.rest
-      bytes_left =
-          ap (λ (c : List (List ℕ) × List ℕ). c.1) all_cut
-          ∙ ap (λ (c : List (List ℕ) × List ℕ). c.1) rest_cut
-
-      nothing_left : within_line ≡ false → w.rest ≡ []
-      nothing_left e =
-          let le = ltb-false from (from + length w.rest) e in
-          nil_from_length w.rest (omega (arith, le))
-
       why_ended : Why (ending_fault x within_line z)
       why_ended = by_cut (within_line || not (is_between z.lines)) refl
           (is_singleton x.mode && (z.documents == 0)) refl
@@ -381,21 +363,18 @@ module _ (x : Settings) where
               (ap ending (sym leads_to)
               ∙ between_ends z.lines (or_not within_line (is_between z.lines) e))
 
-          no_bytes : (within_line || not (is_between z.lines)) ≡ false → (cut bytes).1 ≡ []
-          no_bytes e =
-              bytes_left ∙ nothing_left (or_left within_line (not (is_between z.lines)) e)
+          no_line : more_lines ≡ []
+          no_line = no_line_left (document_rules x) bytes is
 
-          some_bytes : within_line ≡ true → (cut bytes).1 ≡ [] → ⊥
-          some_bytes e none =
-              let less = ltb-true from (from + length w.rest) e in
-              let nothing : length w.rest ≡ 0 = ap length (sym bytes_left ∙ none) in
-              omega (arith, less, nothing)
+          no_bytes : (within_line || not (is_between z.lines)) ≡ false → (cut bytes).1 ≡ []
+          no_bytes e = nothing_left (document_rules x) bytes is from
+              (or_left within_line (not (is_between z.lines)) e)
 
           ends_within : (within_line || not (is_between z.lines)) ≡ true
               → (is_between (standing written_lines) ≡ false) ⊎ ((cut bytes).1 ≡ [] → ⊥)
           ends_within e =
               elim (or_cases within_line (not (is_between z.lines)) e) [
-                | inl t ↦ inr (some_bytes t)
+                | inl t ↦ inr (some_left (document_rules x) bytes is from t)
                 | inr f ↦ inl (stands_between (not-true (is_between z.lines) f))
               ]
 
@@ -405,7 +384,7 @@ module _ (x : Settings) where
           without e none =
               let parts = and_parts (is_singleton x.mode) (z.documents == 0) none in
               let zero = eqb-true z.documents 0 parts.1 in record {
-                none_left = no_line_left;
+                none_left = no_line;
                 no_bytes = no_bytes e;
                 alone = parts.0;
                 none = sym documents ∙ zero;
@@ -426,10 +405,10 @@ module _ (x : Settings) where
               → Why (if a then Some (Line (next_line z.lines) Cut)
               else if b then Some (Line (next_line z.lines) WrongCount) else None)
           by_cut true at_cut b at_count =
-              (count, record { none_left = no_line_left; within = ends_within at_cut })
+              (count, record { none_left = no_line; within = ends_within at_cut })
           by_cut false at_cut true at_count = (count, inr (without at_cut at_count))
           by_cut false at_cut false at_count =
-              (no_line_left, no_bytes at_cut, ends_between at_cut, one at_count)
+              (no_line, no_bytes at_cut, ends_between at_cut, one at_count)
 
     -- what comes of the rest, and why
     record Rest : Type 0 where
@@ -470,7 +449,7 @@ module _ (x : Settings) where
         let o = ap (λ (v : History (List ℕ) InputFault). v.offence) h in record {
           lines = written_lines;
           more = (cut w.rest).0;
-          lines_are = ap (λ (c : List (List ℕ) × List ℕ). c.0) all_cut;
+          lines_are = ap (λ (c : List (List ℕ) × List ℕ). c.0) (all_cut (document_rules x) bytes);
           envelopes = (joined x es, z.table);
           all_fit = envelopes_of x w.units 0 bytes z w.rest at_start
               (record { statics = x.statics; strings = [] }) 0 tt w.lead;

@@ -1,7 +1,6 @@
 -- Lines of documents as a stream: its units are lines, its events the envelopes of documents.
-use Rattle.std.proofs.{Common.refl, lemmas.Option.none-some}
-use Rattle.std.specs.Prelude.{◌≡◌, ℕ, ◌+◌, Bool, true, false, not, ◌&&◌, ◌||◌, List, [], ◌∷◌, Result}
-use Rattle.std.specs.Prelude.{if◌then◌else◌, ◌==◌, Some, None, Ok, Err, Option}
+use Rattle.std.specs.Prelude.{ℕ, ◌+◌, Bool, true, false, not, ◌&&◌, ◌||◌, List, [], ◌∷◌}
+use Rattle.std.specs.Prelude.{Result, if◌then◌else◌, ◌==◌, Some, None, Ok, Err, Option}
 use Rattle.unit_streams.specs.{Grammar.Grammar, Tellers.Teller}
 use Rattle.string_tables.specs.{StaticStrings.Entry, StringTable.StringTable}
 use Rattle.nbfx_values.specs.{declared.content.Item.Item, Limits.Limits}
@@ -14,7 +13,7 @@ use Rattle.line_notation.specs.declared.reader.LineKind.TheVariants.{Cut, WrongC
 use Rattle.line_notation.specs.declared.reader.LineStep.TheVariants.{Done, More}
 use Rattle.line_notation.specs.Between.{is_between, next_line}
 use Rattle.line_notation.specs.LineReaderState.{after, answer, at_start, Standing}
-use Rattle.line_streams.specs.LineRules.{IsSilent, LineRules, lines_by}
+use Rattle.line_streams.specs.LineRules.{LineRules, lines_by}
 use Rattle.document_lines.specs.declared.InputFault.{InputFault}
 use Rattle.document_lines.specs.declared.InputFault.TheVariants.{Line, TooLong, Unfit as DoesNotFit}
 
@@ -114,23 +113,6 @@ module _ (x : Settings) where
 
   abbrev pub lines_of_documents : Grammar Situation (List ℕ) (List ℕ) InputFault
   lines_of_documents = lines_by document_rules
-
--- a line that is refused completes no document
-module _ (x : Settings) (z : Situation) where
-  unwritten : (v : Result (Placed (List ℕ)) Unfit) (fault : InputFault)
-      → fault_of x z.documents v ≡ Some fault → envelope_of x v ≡ None
-  unwritten (Ok payload) fault e = absurd (none-some fault e)
-  unwritten (Err why) fault e = refl
-
-  incomplete : (behind : Standing) (a : Result LineStep LineFault) (fault : InputFault)
-      → refused_line x z behind a ≡ Some fault → completed_line x z a ≡ None
-  incomplete behind (Ok (Done doc)) fault e = unwritten (payload_at x z doc) fault e
-  incomplete behind (Ok More) fault e = refl
-  incomplete behind (Err (Bad n kind)) fault e = refl
-  incomplete behind (Err Memory) fault e = refl
-
-pub silent : (x : Settings) → IsSilent (document_rules x)
-silent x z line fault e = incomplete x z (after z.lines line) (answer z.lines line) fault e
 
 -- what is written of them: each envelope, and at last, where nothing is refused, an End record
 abbrev pub envelopes_and_end : Teller (Unit {0}) (List ℕ) InputFault

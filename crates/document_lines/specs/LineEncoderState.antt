@@ -31,13 +31,6 @@ pub record IsAt (x : Settings) (z : Situation) (e : LineEncoder) : Type 0 where
   pub unrefused : IsUnrefused z.lines
   pub full : is_full x z ≡ true → is_between z.lines ≡ true
 
--- what each call leaves of what an encoder is set to
-pub record KeepsSet (old new : LineEncoder) : Type 0 where
-  pub limits : limits_in new.sender ≡ limits_in old.sender
-  pub kind : kind_in new.sender ≡ kind_in old.sender
-  pub mode : new.mode ≡ old.mode
-  pub statics : (names_in new.sender).statics ≡ (names_in old.sender).statics
-
 -- what a call that changes nothing but the room of the next envelope leaves
 pub record KeepsAll (old new : LineEncoder) : Type 0 where
   pub lines : new.lines ≡ old.lines

@@ -1,5 +1,6 @@
 -- What lines of documents bring, one by one, where the documents themselves are wanted.
-use Rattle.std.specs.Prelude.{◌≡◌, ℕ, not, ◌||◌, List, flat_map, if◌then◌else◌, Some, None, Ok, Err, Result}
+use Rattle.std.specs.Prelude.{◌≡◌, ℕ, not, ◌||◌, List, flat_map, if◌then◌else◌, Some, None, Ok, Err}
+use Rattle.std.specs.Prelude.{Result}
 use Rattle.nbfx_values.specs.declared.content.Item.{Item}
 use Rattle.line_notation.specs.declared.reader.{LineFault.LineFault, LineKind.TheVariants.Cut}
 use Rattle.line_notation.specs.declared.reader.LineFault.TheVariants.{Bad, Memory}

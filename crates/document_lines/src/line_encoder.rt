@@ -2,11 +2,10 @@
 
 ghost use Rattle.std.specs.Prelude.{◌≡◌, ◌+◌, ◌-◌, ◌<◌, ◌≤◌, ◌^◌, ◌==◌, ◌&&◌, max, not, [], Err};
 ghost use Rattle.line_notation.specs.Between.{next_line};
-ghost use Rattle.line_notation.specs.LineReaderState.{HasReadFew};
 ghost use Rattle.nbfx_values.specs.QuotasOf.{limits_of};
 ghost use Rattle.nbfx_encoder.specs.Sending.{KeepsSettings, kind_in, limits_in, mode_in, names_in, state_in};
 ghost use Rattle.nbfx_encoder.specs.Spelling.{encoded};
-ghost use Rattle.document_lines.specs.Input.{Settings, Situation, document_rules, ending_fault, is_singleton, start_of};
+ghost use Rattle.document_lines.specs.Input.{Settings, is_singleton, start_of};
 
 use crate::InputFault;
 use crate::envelope::Envelope;
@@ -56,8 +55,7 @@ pub struct LineEncoder<'s> {
 }
 
 impl<'s> LineEncoder<'s> {
-    ghost use Rattle.line_streams.specs.LineStreamState.{LineAnswers};
-    ghost use Rattle.document_lines.specs.LineEncoderState.{IsAt, KeepsAll, KeepsSet, SendAnswers};
+    ghost use Rattle.document_lines.specs.LineEncoderState.{IsAt, KeepsAll, SendAnswers};
 
     /// Before the first line.
     pub fn new(
@@ -91,31 +89,6 @@ impl<'s> LineEncoder<'s> {
         match self.mode {
             Mode::Singleton => self.documents != 0,
             Mode::Duplex | Mode::Simplex => false,
-        }
-    }
-
-    /// Reads a line, which is given without its line feed, and answers the envelope of the document
-    /// that it completes, if any. It fails where the line is refused or the document doesn't fit,
-    /// or without memory.
-    #[inline(always)]
-    pub fn line(&mut self, line: &[u8]) -> Result<Option<Envelope>, FeedFault<InputFault>>
-        requires lines { HasReadFew self.old.lines }
-        requires documents { self.old.documents < 2 ^ 63 }
-        ensures answers { (x : Settings) (z : Situation) → IsAt x z self.old
-            → LineAnswers (document_rules x) (λ behind. IsAt x behind self.new) z line.now result }
-        ensures lines { next_line self.new.lines ≤ next_line self.old.lines + 1 }
-        ensures documents { self.new.documents ≤ self.old.documents + 1 }
-        ensures set { KeepsSet self.old self.new }
-    {
-        let number = self.lines.next_line();
-        match self.lines.line(line) {
-            Ok(LineStep::Done(doc)) => self.send(number, doc),
-            Ok(LineStep::More) if self.is_full() && !self.lines.is_between() => {
-                refused(wrong_count(number))
-            }
-            Ok(LineStep::More) => Ok(None),
-            Err(LineFault::Bad { line, kind }) => refused(InputFault::Line { line, kind }),
-            Err(LineFault::Memory) => Err(FeedFault::Memory),
         }
     }
 
@@ -154,38 +127,13 @@ impl<'s> LineEncoder<'s> {
         bytes.clear();
         bytes
     }
-
-    /// Takes back an envelope that is no longer needed; the next one reuses its memory.
-    pub fn reuse(&mut self, envelope: Envelope)
-        ensures { KeepsAll self.old self.new }
-    {
-        self.room = envelope.into_bytes();
-    }
-
-    /// Why the input may not end here: it ends within a line, or within a document, or in singleton
-    /// mode without one.
-    pub fn fault_at_end(&self, within_line: bool) -> Option<InputFault>
-        ensures { (x : Settings) (z : Situation) → IsAt x z self.now
-            → result ≡ ending_fault x within_line z }
-    {
-        let line = self.lines.next_line();
-        if within_line || !self.lines.is_between() {
-            return Some(InputFault::Line {
-                line,
-                kind: LineKind::Cut,
-            });
-        }
-        if self.mode == Mode::Singleton && self.documents == 0 {
-            return Some(wrong_count(line));
-        }
-        None
-    }
 }
 
 impl<'s> LineEnd for LineEncoder<'s> {
     ghost use Rattle.std.specs.Prelude.{Bool};
     ghost use Rattle.document_lines.specs.LineEncoderState.{IsIn, settings_in};
-    ghost use Rattle.document_lines.specs.Input.{Settings as InputSettings, Situation as InputSituation, silent};
+    ghost use Rattle.document_lines.specs.Silence.{silent};
+    ghost use Rattle.document_lines.specs.Input.{Settings as InputSettings, Situation as InputSituation, document_rules};
 
     type Event = Envelope;
 
@@ -207,12 +155,34 @@ impl<'s> LineEnd for LineEncoder<'s> {
 
     ghost most_lines = { 2 ^ 63 };
 
+    // A line brings the envelope of the document that it completes, if any.
+    #[inline(always)]
     fn line(&mut self, line: &[u8]) -> Result<Option<Envelope>, FeedFault<InputFault>> {
-        LineEncoder::line(self, line)
+        let number = self.lines.next_line();
+        match self.lines.line(line) {
+            Ok(LineStep::Done(doc)) => self.send(number, doc),
+            Ok(LineStep::More) if self.is_full() && !self.lines.is_between() => {
+                refused(wrong_count(number))
+            }
+            Ok(LineStep::More) => Ok(None),
+            Err(LineFault::Bad { line, kind }) => refused(InputFault::Line { line, kind }),
+            Err(LineFault::Memory) => Err(FeedFault::Memory),
+        }
     }
 
+    // The input may not end within a line, or within a document, or in singleton mode without one.
     fn fault_at_end(&self, within_line: bool) -> Option<InputFault> {
-        LineEncoder::fault_at_end(self, within_line)
+        let line = self.lines.next_line();
+        if within_line || !self.lines.is_between() {
+            return Some(InputFault::Line {
+                line,
+                kind: LineKind::Cut,
+            });
+        }
+        if self.mode == Mode::Singleton && self.documents == 0 {
+            return Some(wrong_count(line));
+        }
+        None
     }
 
     fn too_long(&self) -> InputFault {
@@ -220,6 +190,6 @@ impl<'s> LineEnd for LineEncoder<'s> {
     }
 
     fn reuse(&mut self, envelope: Envelope) {
-        LineEncoder::reuse(self, envelope);
+        self.room = envelope.into_bytes();
     }
 }

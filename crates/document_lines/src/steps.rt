@@ -52,7 +52,7 @@ impl DocumentSteps {
 impl LineEnd for DocumentSteps {
     ghost use Rattle.std.specs.Prelude.{Bool};
     ghost use Rattle.line_notation.specs.LineReaderState.{Standing, after, answer};
-    ghost use Rattle.line_streams.proofs.LineFacts.{each_silent};
+    ghost use Rattle.line_streams.specs.LineRules.{each_silent};
     ghost use Rattle.document_lines.specs.Steps.{IsIn, brought, step_rules};
 
     type Event = LineStep;
@@ -77,6 +77,7 @@ impl LineEnd for DocumentSteps {
 
     // A document that isn't given back was as long as the next one may be: a list that grew item by
     // item would be moved, and have memory for twice as many.
+    #[inline(always)]
     fn line(&mut self, line: &[u8]) -> Result<Option<LineStep>, FeedFault<InputFault>> {
         let Ok(()) = self.make_room() else {
             return Err(FeedFault::Memory);

@@ -1,7 +1,7 @@
 -- A reader takes a piece, line by line.
-use Rattle.std.proofs.Common.{◌≡◌, ℕ, ◌+◌, ◌-◌, ◌<◌, ◌≤◌, true, false, List, ◌++◌, length, take, drop}
-use Rattle.std.proofs.Common.{is_some, Some, None, Ok, Err, Option, Result, sym, refl, ap, ◌∙◌}
-use Rattle.std.proofs.Common.{subst, inl, inr, append_assoc, append-nil, arith, length-drop}
+use Rattle.std.proofs.Common.{◌≡◌, ℕ, ◌+◌, ◌-◌, ◌<◌, ◌≤◌, true, false, List, ◌++◌, length, take}
+use Rattle.std.proofs.Common.{drop, is_some, Some, None, Ok, Err, Option, Result, sym, refl, ap}
+use Rattle.std.proofs.Common.{◌∙◌, subst, inl, inr, append_assoc, append-nil, arith, length-drop}
 use Rattle.std.proofs.Common.{take-append-drop, length-take-le}
 use Rattle.std.proofs.{Math.Seq.take-add, Math.Seq.take-length, lemmas.List.take-append-le}
 use Rattle.std.proofs.lemmas.Bool.{cases_lt}
@@ -14,8 +14,31 @@ use Rattle.unit_streams.specs.Judging.{answer, completes, event_at, goes_on, off
 use Rattle.stream_loop.specs.{declared.reading_end.FeedFault.FeedFault, Answers.said, Answers.Says}
 use Rattle.stream_loop.specs.declared.reading_end.FeedFault.TheVariants.{Memory, Refused}
 use Rattle.line_streams.specs.LineRules.{LineRules, lines_by}
-use Rattle.line_streams.specs.LineStreamState.{PieceAnswers, Reached, UnitAnswers}
-use Rattle.line_streams.proofs.LineFacts.{long_enough, short_enough}
+use Rattle.line_streams.specs.LineStreamState.{PieceAnswers, Reached}
+use Rattle.line_streams.proofs.{LineFacts.long_enough, LineFacts.short_enough}
+use Rattle.line_streams.proofs.{StreamFacts.UnitAnswers}
+
+-- the bytes that may be read on, and those behind them
+module _ (piece : List ℕ) (used room : ℕ) where
+  abbrev pub unread : List ℕ
+  unread = take (room - used) (drop used piece)
+
+  abbrev pub behind : List ℕ
+  behind = drop (room - used) (drop used piece)
+
+  pub split_unread : drop used piece ≡ unread ++ behind
+  split_unread = sym (take-append-drop (room - used) (drop used piece))
+
+  pub unread_length : used ≤ room → room ≤ length piece → length unread ≡ room - used
+  unread_length le within = length-take-le (room - used) (drop used piece)
+      (let n = length-drop used piece in omega (arith, le, within, n))
+
+  -- the first of those that may be read on
+  pub unread_front : (n : ℕ) → n ≤ length unread
+      → take (used + n - used) (drop used piece) ≡ take n unread
+  unread_front n within =
+      ap (λ m. take m (drop used piece)) (let same : used + n - used ≡ n = omega arith in same)
+      ∙ ap (take n) split_unread ∙ take-append-le n unread behind within
 
 -- it has come k bytes of y behind p, which decided nothing
 pub record Along {Z E R : Type 0} (x : LineRules Z E R) (Here : List ℕ → Type 0) (p y : List ℕ)
@@ -69,8 +92,17 @@ module _ {Z E R : Type 0} (x : LineRules Z E R) (p y : List ℕ) where
           ap (refusal_at g) (sym whole) ∙ unrefused,
         )))
 
-    -- some bytes of what is left
-    module _ (c more : List ℕ) (split : drop k y ≡ c ++ more) (Now : List ℕ → Type 0) where
+    -- n bytes more, of those up to `room`
+    module _ (room : ℕ) (Now : List ℕ → Type 0) where
+      abbrev c : List ℕ
+      c = unread y k room
+
+      abbrev more : List ℕ
+      more = behind y k room
+
+      split : drop k y ≡ c ++ more
+      split = split_unread y k room
+
       taken_so : (n : ℕ) → n ≤ length c → here ++ take n c ≡ p ++ take (k + n) y
       taken_so n le =
           append_assoc p (take k y) (take n c)
@@ -87,24 +119,24 @@ module _ {Z E R : Type 0} (x : LineRules Z E R) (p y : List ℕ) where
           (quiet_before_behind g here c more n q))
 
       pub along_more : (n : ℕ) (v : Option E) → is_some v ≡ false
-          → UnitAnswers x here c Now (Ok (n, v)) → Along x Now p y (k + n)
+          → UnitAnswers x here c n Now (Ok v) → Along x Now p y (k + n)
       along_more n None none u = record {
         reached = subst Now (taken_so n u.0.within) u.1;
         quiet = quiet_so n u.0;
       }
       along_more n (Some event) none u = cc
 
-      pub along_refused : (fault : FeedFault R) → UnitAnswers x here c Now (Err fault)
+      pub along_refused : (n : ℕ) (fault : FeedFault R) → UnitAnswers x here c n Now (Err fault)
           → Answers (Err fault)
-      along_refused (Refused fault) u =
-          let refused = ap (refusal_at g) (sym (taken_so u.0 u.1.within)) ∙ u.2 in
+      along_refused n (Refused fault) u =
+          let refused = ap (refusal_at g) (sym (taken_so n u.0.within)) ∙ u.1 in
           sym (ap (said (λ (e : E). e) (length y)) ((answers_are_first g p y
-          (offends (k + u.0) fault)).1 (quiet_so u.0 u.1, refused)))
-      along_refused Memory u = tt
+          (offends (k + n) fault)).1 (quiet_so n u.0, refused)))
+      along_refused n Memory u = tt
 
       -- an event
       pub along_event : (n : ℕ) (v : Option E) → is_some v ≡ true
-          → UnitAnswers x here c Now (Ok (n, v)) → PieceAnswers x p y Now (Ok (k + n, v))
+          → UnitAnswers x here c n Now (Ok v) → PieceAnswers x p y Now (Ok (k + n, v))
       along_event n None some u = cc
       along_event n (Some event) is u =
           let some = u.0 in
@@ -113,21 +145,6 @@ module _ {Z E R : Type 0} (x : LineRules Z E R) (p y : List ℕ) where
                 (completes (k + n) event)).1 (quiet_before_so n u.1, omega (arith, some), at))),
             subst Now (taken_so n u.1.within) u.3,
           )
-
--- the bytes that a unit is read from, and those behind them
-module _ (piece : List ℕ) (used room : ℕ) where
-  abbrev pub unread : List ℕ
-  unread = take (room - used) (drop used piece)
-
-  abbrev pub behind : List ℕ
-  behind = drop (room - used) (drop used piece)
-
-  pub split_unread : drop used piece ≡ unread ++ behind
-  split_unread = sym (take-append-drop (room - used) (drop used piece))
-
-  pub unread_length : used ≤ room → room ≤ length piece → length unread ≡ room - used
-  unread_length le within = length-take-le (room - used) (drop used piece)
-      (let n = length-drop used piece in omega (arith, le, within, n))
 
 -- a piece that fits is used whole
 pub all_used : (room len most taken : ℕ) → room ≤ len → (room < len → taken + room ≡ most)

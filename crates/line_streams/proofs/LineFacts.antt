@@ -1,7 +1,8 @@
 -- A line is known by its own bytes, and input of so many bytes has an end.
-use Rattle.std.proofs.Common.{◌≡◌, ℕ, zero, suc, ◌+◌, ◌<◌, ◌≤◌, Bool, true, false, ◌⊎◌, List, [], ◌∷◌}
-use Rattle.std.proofs.Common.{◌++◌, length, drop, take, if◌then◌else◌, nat_le, ◌==◌, Some, None, Option}
-use Rattle.std.proofs.Common.{Ok, Err, Result, sym, refl, ap, ◌∙◌, subst, inl, inr, arith, le-leb, leb-false}
+use Rattle.std.proofs.Common.{◌≡◌, ℕ, zero, suc, ◌+◌, ◌<◌, ◌≤◌, Bool, true, false, ◌⊎◌, List, []}
+use Rattle.std.proofs.Common.{◌∷◌, ◌++◌, length, drop, take, if◌then◌else◌, nat_le, ◌==◌, Some}
+use Rattle.std.proofs.Common.{None, Option, Ok, Err, Result, sym, refl, ap, ◌∙◌, subst, inl, inr}
+use Rattle.std.proofs.Common.{arith, le-leb, leb-false}
 use Rattle.std.proofs.lemmas.Bool.{lt-leb}
 use Rattle.unit_streams.proofs.Passing.{going_at, going_refusal, refusal_from}
 use Rattle.unit_streams.proofs.Peeling.{extent, peels_front}
@@ -231,11 +232,6 @@ module _ {Z E R : Type 0} where
   pub refused_by : (v : Result (Z × E) R) (r : R) → refusal_in v ≡ Some r → v ≡ Err r
   refused_by (Ok brought) r e = cc
   refused_by (Err other) r e = ap Err cc
-
-  -- so one that is refused brings nothing
-  pub each_silent : (brings : Z → List ℕ → Result (Z × E) R) (z : Z) (line : List ℕ) (r : R)
-      → refusal_in (brings z line) ≡ Some r → event_in (brings z line) ≡ None
-  each_silent brings z line r e = ap event_in (refused_by (brings z line) r e)
 
   -- how it is answered
   pub answered_by : (IsIn : Z → Type 0) (z z' : Z) (event : E) (v : Result (Z × E) R)

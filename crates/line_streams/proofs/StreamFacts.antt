@@ -1,27 +1,33 @@
 -- What bytes of a line are answered with, and what holds before the first byte and behind the last.
-use Rattle.std.proofs.Common.{◌≡◌, ℕ, suc, ◌+◌, ◌≤◌, Bool, true, not, List, [], ◌∷◌, ◌++◌, length}
-use Rattle.std.proofs.Common.{take, drop, OnOk, nat_lt, ◌==◌, Some, None, Ok, Err, Option, Result}
-use Rattle.std.proofs.Common.{sym, refl, ap, ◌∙◌, subst, arith, length-append, length-take-le, eqb-true}
-use Rattle.std.proofs.Common.{le-ltb, lt-ltb, ne_eqb}
+use Rattle.std.proofs.Common.{◌≡◌, ℕ, suc, ◌+◌, ◌<◌, ◌≤◌, Bool, true, not, List, [], ◌∷◌, ◌++◌}
+use Rattle.std.proofs.Common.{length, take, drop, OnOk, nat_lt, ◌==◌, Some, None, Ok, Err, Option}
+use Rattle.std.proofs.Common.{Result, sym, refl, ap, ◌∙◌, subst, arith, length-append}
+use Rattle.std.proofs.Common.{length-take-le, eqb-true, le-ltb, lt-ltb, ne_eqb}
 use Rattle.std.proofs.{Math.Seq.take-length, lemmas.List.nil_from_length}
 use Rattle.unit_streams.proofs.Standing.{standing_length, standing_nothing}
-use Rattle.unit_streams.specs.{Going.IsGoing, Grammar.Grammar, Grammar.Standing, Grammar.standing}
-use Rattle.unit_streams.specs.Judging.{ending_at}
+use Rattle.unit_streams.specs.Going.{IsGoing, IsQuiet, IsQuietBefore}
+use Rattle.unit_streams.specs.Grammar.{Grammar, Standing, standing}
+use Rattle.unit_streams.specs.Judging.{ending_at, event_at, refusal_at}
 use Rattle.line_notation.specs.Lines.{has_no_feed}
 use Rattle.stream_loop.specs.declared.reading_end.FeedFault.{FeedFault}
 use Rattle.stream_loop.specs.declared.reading_end.FeedFault.TheVariants.{Memory, Refused}
 use Rattle.line_streams.specs.LineRules.{IsSilent, LineRules, lines_by}
-use Rattle.line_streams.specs.LineStreamState.{LineAnswers, Reached, UnitAnswers}
+use Rattle.line_streams.specs.LineStreamState.{LineAnswers, Reached}
 use Rattle.line_streams.proofs.{Finding.IsLineEnd, LineFacts.readable}
 use Rattle.line_streams.proofs.LineSteps.{begins_going, begins_quiet, begins_standing, ends_event}
-use Rattle.line_streams.proofs.LineSteps.{ends_quiet, ends_quiet_before, ends_refused, ends_standing}
-use Rattle.line_streams.proofs.LineSteps.{ends_within}
+use Rattle.line_streams.proofs.LineSteps.{ends_quiet, ends_quiet_before, ends_refused}
+use Rattle.line_streams.proofs.LineSteps.{ends_standing, ends_within}
 
--- what a whole line is answered with, and with how many bytes
-abbrev pub with_count : {E R : Type 0} → ℕ → Result (Option E) (FeedFault R)
-    → Result (ℕ × Option E) (FeedFault R)
-with_count n (Ok event) = Ok (n, event)
-with_count n (Err fault) = Err fault
+-- what n bytes at the front of c are answered with, behind p, and what was read then
+module _ {Z E R : Type 0} (x : LineRules Z E R) where
+  abbrev pub UnitAnswers : (p c : List ℕ) → (n : ℕ) → (Now : List ℕ → Type 0)
+      → Result (Option E) (FeedFault R) → Type 0
+  UnitAnswers p c n Now (Ok None) = IsQuiet (lines_by x) p c n × Now (p ++ take n c)
+  UnitAnswers p c n Now (Ok (Some event)) = (0 < n) × IsQuietBefore (lines_by x) p c n
+      × (event_at (lines_by x) (p ++ take n c) ≡ Some event) × Now (p ++ take n c)
+  UnitAnswers p c n Now (Err (Refused fault)) = IsQuiet (lines_by x) p c n
+      × (refusal_at (lines_by x) (p ++ take n c) ≡ Some fault)
+  UnitAnswers p c n Now (Err Memory) = Unit {0}
 
 -- of a reader that has read p, and what it has read then
 module _ {Z E R : Type 0} (x : LineRules Z E R) (silent : IsSilent x) (IsIn IsIn' : Z → Type 0)
@@ -64,7 +70,7 @@ module _ {Z E R : Type 0} (x : LineRules Z E R) (silent : IsSilent x) (IsIn IsIn
 
         pub line_answered : (result : Result (Option E) (FeedFault R))
             → LineAnswers x IsIn' here.situation line result → OnOk result (begun' ≡ [])
-            → UnitAnswers x p c Now (with_count (suc (length a)) result)
+            → UnitAnswers x p c (suc (length a)) Now result
         line_answered (Ok None) l none =
             (ends_quiet x p h.going c a more split free room l.1, line_reached none l.0 l.2)
         line_answered (Ok (Some event)) l none = (
@@ -74,7 +80,6 @@ module _ {Z E R : Type 0} (x : LineRules Z E R) (silent : IsSilent x) (IsIn IsIn
           line_reached none l.0 l.2,
         )
         line_answered (Err (Refused fault)) l none = (
-          suc (length a),
           ends_quiet x p h.going c a more split free room (silent here.situation line fault l),
           ends_refused x p h.going c a more split free room fault l,
         )
@@ -85,7 +90,7 @@ module _ {Z E R : Type 0} (x : LineRules Z E R) (silent : IsSilent x) (IsIn IsIn
         (more_taken : taken' ≡ taken + length c)
       where
         pub begin_answered : ((z : Z) → IsIn z → IsIn' z) → begun' ≡ begun ++ c
-            → UnitAnswers x p c Now (Ok (length c, None))
+            → UnitAnswers x p c (length c) Now (Ok None)
         begin_answered same more_begun =
             let used = h.taken_is in
             let space : length p + length c ≤ x.most = omega (arith, fits, used) in
@@ -107,13 +112,14 @@ module _ {Z E R : Type 0} (x : LineRules Z E R) (silent : IsSilent x) (IsIn IsIn
 
   module _ (c : List ℕ) (fits : taken + length c ≤ x.most) where
     -- wherever it has read so far
-    abbrev pub Answered : Result (ℕ × Option E) (FeedFault R) → Type 0
-    Answered result = (p : List ℕ) → Reached x IsIn begun taken p → UnitAnswers x p c Now result
+    abbrev pub Answered : (n : ℕ) → Result (Option E) (FeedFault R) → Type 0
+    Answered n result = (p : List ℕ) → Reached x IsIn begun taken p
+        → UnitAnswers x p c n Now result
 
     pub unit_line : (k : ℕ) → IsLineEnd c k → k ≤ length c → taken' ≡ taken + (k + 1)
         → (result : Result (Option E) (FeedFault R)) → OnOk result (begun' ≡ [])
         → ((z : Z) → IsIn z → LineAnswers x IsIn' z (begun ++ take k c) result)
-        → Answered (with_count (k + 1) result)
+        → Answered (k + 1) result
     unit_line k found within more_taken result none answers p h =
         let a : List ℕ = take k c in
         let cut : length a ≡ k = length-take-le k c within in
@@ -122,13 +128,13 @@ module _ {Z E R : Type 0} (x : LineRules Z E R) (silent : IsSilent x) (IsIn IsIn
         let situation : Z = (standing (lines_by x) p).situation in
         let told = subst (λ (b : List ℕ). LineAnswers x IsIn' situation (b ++ a) result)
         h.begun_is (answers situation h.at) in
-        subst (λ (n : ℕ). UnitAnswers x p c Now (with_count n result)) count
+        subst (λ (n : ℕ). UnitAnswers x p c n Now result) count
         (line_answered p c h a (drop (suc k) c) found.split found.free
         (omega (arith, fits, whole)) (omega (arith, more_taken, cut)) result told none)
 
     pub unit_begin : has_no_feed c ≡ true → taken' ≡ taken + length c
         → ((z : Z) → IsIn z → IsIn' z) → begun' ≡ begun ++ c
-        → Answered (Ok (length c, None))
+        → Answered (length c) (Ok None)
     unit_begin free more_taken same more_begun p h =
         begin_answered p c h free fits more_taken same more_begun
 

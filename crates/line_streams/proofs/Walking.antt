@@ -1,16 +1,16 @@
 -- How far the lines of any input lead that aren't refused, and what the input brings from there on.
-use Rattle.std.proofs.Common.{◌≡◌, ℕ, zero, suc, ◌+◌, ◌-◌, ◌<◌, ◌≤◌, true, List, [], ◌∷◌, ◌++◌, map, length}
-use Rattle.std.proofs.Common.{take, drop, Some, None, Option, sym, refl, ap, ◌∙◌}
-use Rattle.std.proofs.Common.{subst, inl, inr, append-nil, arith, length-append, length-drop}
-use Rattle.std.proofs.Common.{take-append-drop, length-take-le}
-use Rattle.std.proofs.{Math.Seq.take-add, lemmas.List.drop-take}
+use Rattle.std.proofs.Common.{◌≡◌, ℕ, zero, suc, ◌+◌, ◌-◌, ◌<◌, ◌≤◌, true, List, [], ◌∷◌, ◌++◌, map}
+use Rattle.std.proofs.Common.{length, take, drop, Some, None, Option, sym, refl, ap, ◌∙◌, subst}
+use Rattle.std.proofs.Common.{inl, inr, append-nil, arith, length-append, length-drop}
+use Rattle.std.proofs.Common.{take-append-drop, length-take-le, nat_lt, ltb-false, ltb-true, false}
+use Rattle.std.proofs.{Math.Seq.take-add, lemmas.List.drop-take, lemmas.List.nil_from_length}
 use Rattle.std.{proofs.lemmas.Bool.cases_lt, specs.Option.option_or}
 use Rattle.unit_streams.proofs.{Accepted.leads_length, Fronts.whole_some, Units.unit_quiet}
 use Rattle.unit_streams.proofs.Histories.{events_in_none, history_along, history_behind}
 use Rattle.unit_streams.proofs.Histories.{history_ends, history_refused, quiet_events}
 use Rattle.unit_streams.proofs.Passing.{going_refusal, refusal_from, whole_refusal}
-use Rattle.unit_streams.proofs.Units.{between_first, between_going, between_place, Brings, IsBetween}
-use Rattle.unit_streams.proofs.Units.{short_below, unit_decides, units_bring}
+use Rattle.unit_streams.proofs.Units.{between_first, between_going, between_place, Brings}
+use Rattle.unit_streams.proofs.Units.{IsBetween, short_below, unit_decides, units_bring}
 use Rattle.unit_streams.specs.Front.{begun, Front, whole, wrong}
 use Rattle.unit_streams.specs.{Going.IsGoing, Going.IsQuiet, Judging.history}
 use Rattle.unit_streams.specs.Grammar.{Grammar, Standing, standing, with_more}
@@ -20,8 +20,8 @@ use Rattle.line_notation.specs.Lines.{cut, has_no_feed}
 use Rattle.line_streams.specs.LineRules.{end_refused, IsSilent, length_refused, line_at, LineRules}
 use Rattle.line_streams.specs.LineRules.{lines_by}
 use Rattle.line_streams.proofs.Cutting.{behind_lines as behind_all, cut_append, free_cut}
-use Rattle.line_streams.proofs.LineFacts.{begun_no_feed, cut_line, free_take, long_enough, never_wrong}
-use Rattle.line_streams.proofs.LineFacts.{readable, short_enough}
+use Rattle.line_streams.proofs.LineFacts.{begun_no_feed, cut_line, free_take, long_enough}
+use Rattle.line_streams.proofs.LineFacts.{never_wrong, readable, short_enough}
 use Rattle.line_streams.proofs.LineSteps.{begins_going, begins_quiet, begins_standing}
 
 module _ {Z E R : Type 0} (x : LineRules Z E R) where
@@ -304,3 +304,36 @@ module _ {Z E R : Type 0} (x : LineRules Z E R) where
         brought.history ∙ ap (led_by (events_along g x.start 0 all_lines.units)) is
         ∙ ap (λ (es : List E). record { events = es; offence = fault })
         (append-nil (events_along g x.start 0 all_lines.units))
+
+    -- the lines of all of it are those, and those of the rest
+    pub all_cut : cut bytes
+        ≡ (lines_of all_lines.units ++ (cut all_lines.rest).0, (cut all_lines.rest).1)
+    all_cut = cuts all_lines.units x.start 0 bytes all_lines.situation all_lines.rest
+        all_lines.lead
+
+    -- where the rest has no line, it is what is left of all of it
+    module _ (is : line_at {R = R} all_lines.rest ≡ begun) where
+      pub rest_cut : cut all_lines.rest ≡ ([], all_lines.rest)
+      rest_cut = free_cut all_lines.rest (begun_no_feed all_lines.rest is)
+
+      pub no_line_left : (cut all_lines.rest).0 ≡ []
+      no_line_left = ap (λ (c : List (List ℕ) × List ℕ). c.0) rest_cut
+
+      pub bytes_left : (cut bytes).1 ≡ all_lines.rest
+      bytes_left =
+          ap (λ (c : List (List ℕ) × List ℕ). c.1) all_cut
+          ∙ ap (λ (c : List (List ℕ) × List ℕ). c.1) rest_cut
+
+      -- it has bytes, or none
+      module _ (from : ℕ) where
+        pub some_left : nat_lt from (from + length all_lines.rest) ≡ true → (cut bytes).1 ≡ []
+            → ⊥
+        some_left e none =
+            let less = ltb-true from (from + length all_lines.rest) e in
+            let nothing : length all_lines.rest ≡ 0 = ap length (sym bytes_left ∙ none) in
+            omega (arith, less, nothing)
+
+        pub nothing_left : nat_lt from (from + length all_lines.rest) ≡ false → (cut bytes).1 ≡ []
+        nothing_left e =
+            let le = ltb-false from (from + length all_lines.rest) e in
+            bytes_left ∙ nil_from_length all_lines.rest (omega (arith, le))

@@ -1,4 +1,4 @@
--- Public contracts cite these: the grammar of input whose lines each bring an event (LineRules), and
+-- Public contracts cite these: the grammar of input whose lines may bring events (LineRules), and
 -- where a reader of it stands (LineStreamState).
 pub mod LineRules
 pub mod LineStreamState

@@ -1,6 +1,7 @@
 -- Input whose units are lines, each of which may bring an event, as a stream.
-use Rattle.std.specs.Prelude.{◌≡◌, ℕ, ◌+◌, Bool, false, List, [], ◌∷◌, if◌then◌else◌, nat_lt, nat_le}
-use Rattle.std.specs.Prelude.{◌==◌, Some, None, Ok, Err, Option, Result}
+use Rattle.std.proofs.lemmas.Option.{none-some}
+use Rattle.std.specs.Prelude.{◌≡◌, ℕ, ◌+◌, Bool, false, List, [], ◌∷◌, if◌then◌else◌, nat_lt}
+use Rattle.std.specs.Prelude.{nat_le, ◌==◌, Some, None, Ok, Err, Option, Result, refl}
 use Rattle.unit_streams.specs.Front.{begun, Front, whole, wrong}
 use Rattle.unit_streams.specs.Grammar.{Grammar}
 
@@ -55,6 +56,15 @@ module _ {Z E R : Type 0} where
     most = most;
     too_long = too_long;
   }
+
+  -- so one that is refused brings nothing
+  silent_by : (v : Result (Z × E) R) (r : R) → refusal_in v ≡ Some r → event_in v ≡ None
+  silent_by (Ok brought) r e = absurd (none-some r e)
+  silent_by (Err other) r e = refl
+
+  pub each_silent : (brings : Z → List ℕ → Result (Z × E) R) (z : Z) (line : List ℕ) (r : R)
+      → refusal_in (brings z line) ≡ Some r → event_in (brings z line) ≡ None
+  each_silent brings z line r e = silent_by (brings z line) r e
 
   module _ (x : LineRules Z E R) where
     -- a line that is refused brings nothing

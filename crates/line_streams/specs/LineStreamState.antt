@@ -1,8 +1,7 @@
 -- Where a reader of lines stands, and what its parts answer.
-use Rattle.std.specs.Prelude.{◌≡◌, ℕ, ◌<◌, List, ◌++◌, length, take, IfOk, Some, None, Ok, Err, Option}
+use Rattle.std.specs.Prelude.{◌≡◌, ℕ, List, ◌++◌, length, take, IfOk, Some, None, Ok, Err, Option}
 use Rattle.std.specs.Prelude.{Result, ⊤}
-use Rattle.unit_streams.specs.Going.{IsGoing, IsQuiet, IsQuietBefore}
-use Rattle.unit_streams.specs.{Grammar.standing, Judging.answer, Judging.event_at, Judging.refusal_at}
+use Rattle.unit_streams.specs.{Going.IsGoing, Grammar.standing, Judging.answer}
 use Rattle.stream_loop.specs.Answers.{Says}
 use Rattle.stream_loop.specs.declared.reading_end.FeedFault.{FeedFault}
 use Rattle.stream_loop.specs.declared.reading_end.FeedFault.TheVariants.{Memory, Refused}
@@ -25,16 +24,6 @@ module _ {Z E R : Type 0} (x : LineRules Z E R) where
     pub begun_is : begun ≡ (standing (lines_by x) p).begun
     pub taken_is : taken ≡ length p
     pub going : IsGoing (lines_by x) (standing (lines_by x) p)
-
-  -- what bytes c of a line behind p are answered with, and what was read then
-  abbrev pub UnitAnswers : (p c : List ℕ) → (Now : List ℕ → Type 0)
-      → Result (ℕ × Option E) (FeedFault R) → Type 0
-  UnitAnswers p c Now (Ok (n, None)) = IsQuiet (lines_by x) p c n × Now (p ++ take n c)
-  UnitAnswers p c Now (Ok (n, Some event)) = (0 < n) × IsQuietBefore (lines_by x) p c n
-      × (event_at (lines_by x) (p ++ take n c) ≡ Some event) × Now (p ++ take n c)
-  UnitAnswers p c Now (Err (Refused fault)) = (n : ℕ) × IsQuiet (lines_by x) p c n
-      × (refusal_at (lines_by x) (p ++ take n c) ≡ Some fault)
-  UnitAnswers p c Now (Err Memory) = ⊤
 
   -- what a piece behind p is answered with, and what was read then
   abbrev pub PieceAnswers : (p piece : List ℕ) → (Now : List ℕ → Type 0)

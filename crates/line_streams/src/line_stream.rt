@@ -3,7 +3,7 @@
 ghost use Rattle.std.specs.Prelude.{◌≡◌, ℕ, ◌+◌, ◌<◌, ◌≤◌, List, [], ◌++◌, length, IfErr, IfOk, OnOk};
 ghost use Rattle.unit_streams.specs.Judging.{ending_at};
 ghost use Rattle.line_streams.specs.LineRules.{lines_by};
-ghost use Rattle.line_streams.specs.LineStreamState.{LineAnswers, PieceAnswers, Reached, UnitAnswers};
+ghost use Rattle.line_streams.specs.LineStreamState.{LineAnswers, PieceAnswers, Reached};
 
 use crate::line_end::LineEnd;
 use memchr::memchr;
@@ -12,8 +12,8 @@ use stream_loop::{FeedFault, ReadingEnd};
 
 const LINE_FEED: u8 = b'\n';
 
-/// Reads lines, in whatever pieces their bytes come, and answers what each brings. It holds the bytes
-/// of the unfinished line.
+/// Reads lines, in whatever pieces their bytes come, and answers what each brings. It holds the
+/// bytes of the unfinished line.
 #[derive(Drop)]
 pub struct LineStream<L: LineEnd> {
     /// What the lines mean.
@@ -74,6 +74,7 @@ impl<L: LineEnd> LineStream<L> {
     }
 
     // Answers the line that ends with these bytes, after which its line feed comes.
+    #[inline(always)]
     fn end_line(&mut self, bytes: &[u8]) -> Result<Option<L::Event>, FeedFault<L::Refusal>>
         requires { self.old.taken + length bytes.now + 1 ≤ self.old.most }
         ensures answers { (z : L.Situation) → L.is_in self.old.lines z
@@ -105,61 +106,33 @@ impl<L: LineEnd> LineStream<L> {
         self.lines.fault_at_end(!self.begun.is_empty())
     }
 
-    // Reads bytes of one line: up to its line feed, or all of them where it isn't there.
-    fn unit(&mut self, bytes: &[u8]) -> Result<(usize, Option<L::Event>), FeedFault<L::Refusal>>
-        requires some { 0 < length bytes.now }
-        requires fits { self.old.taken + length bytes.now ≤ self.old.most }
-        ensures answers { (L.rules (L.settings self.old.lines)).most ≡ self.old.most → (p : List ℕ)
-            → Reached (L.rules (L.settings self.old.lines)) (L.is_in self.old.lines) self.old.begun.items
-            self.old.taken p
-            → UnitAnswers (L.rules (L.settings self.old.lines)) p bytes.now
-            (Reached (L.rules (L.settings self.old.lines)) (L.is_in self.new.lines) self.new.begun.items
-            self.new.taken) result }
-        ensures some { IfOk result (λ answer. 0 < answer.0) }
-        ensures within { IfOk result (λ answer. answer.0 ≤ length bytes.now) }
-        ensures taken { IfOk result (λ answer. self.new.taken ≡ self.old.taken + answer.0) }
-        ensures settings { L.settings self.new.lines ≡ L.settings self.old.lines }
-        ensures most { self.new.most ≡ self.old.most }
-    {
-        let Some(end) = memchr(LINE_FEED, bytes) else {
-            self.begin(bytes)?;
-            return Ok((bytes.len(), None));
-        };
-        match self.end_line(&bytes[..end]) {
-            Ok(event) => Ok((end + 1, event)),
-            Err(fault) => Err(fault),
-        }
-    }
-
-    /// Reads a piece, as [`feed`](ReadingEnd::feed) does: up to the first line that brings an event,
-    /// or as far as may be.
+    /// Reads a piece, as [`feed`](ReadingEnd::feed) does: up to the first line that brings an
+    /// event, or as far as may be.
     pub fn read(&mut self, piece: &[u8]) -> Result<(usize, Option<L::Event>), FeedFault<L::Refusal>>
         ensures answers { (L.rules (L.settings self.old.lines)).most ≡ self.old.most → (p : List ℕ)
-            → Reached (L.rules (L.settings self.old.lines)) (L.is_in self.old.lines) self.old.begun.items
-            self.old.taken p
+            → Reached (L.rules (L.settings self.old.lines)) (L.is_in self.old.lines)
+            self.old.begun.items self.old.taken p
             → PieceAnswers (L.rules (L.settings self.old.lines)) p piece.now
-            (Reached (L.rules (L.settings self.old.lines)) (L.is_in self.new.lines) self.new.begun.items
-            self.new.taken) result }
+            (Reached (L.rules (L.settings self.old.lines)) (L.is_in self.new.lines)
+            self.new.begun.items self.new.taken) result }
         ensures within { IfOk result (λ answer. answer.0 ≤ length piece.now) }
         ensures settings { L.settings self.new.lines ≡ L.settings self.old.lines }
         ensures most { self.new.most ≡ self.old.most }
     {
         let room = self.room(piece.len());
         let mut used = 0;
-        while used < room {
-            let (n, event) = match self.unit(&piece[used..room]) {
-                Ok(answer) => answer,
-                Err(fault) => return Err(fault),
-            };
-            used += n;
+        while let Some(end) = memchr(LINE_FEED, &piece[used..room]) {
+            let event = self.end_line(&piece[used..used + end])?;
+            used += end + 1;
             if event.is_some() {
                 return Ok((used, event));
             }
         }
+        self.begin(&piece[used..room])?;
         if self.taken >= self.most {
             return Err(FeedFault::Refused(self.lines.too_long()));
         }
-        Ok((used, None))
+        Ok((room, None))
     }
 }
 

@@ -10,14 +10,17 @@ use Rattle.reliable_sequence.specs.declared.events.Event.TheVariants.{Submit}
 use Rattle.reliable_sequence.specs.Rehearsal.{counts_of, delivered_by, IsBody, Kept, kept_after}
 use Rattle.reliable_sequence.specs.Rehearsal.{MayHappen}
 use Rattle.reliable_sequence.specs.Sent.{submitted_count}
-use Rattle.rehearsal.specs.declared.fault.HistoryFault.{TheVariants.Line}
+use Rattle.stream_loop.specs.declared.reading_end.FeedFault.{FeedFault}
+use Rattle.stream_loop.specs.declared.reading_end.FeedFault.TheVariants.{Memory, Refused}
+use Rattle.rehearsal.specs.declared.fault.HistoryFault.{HistoryFault, TheVariants.Line}
 use Rattle.rehearsal.specs.declared.{played.Played.Played, player.Player.Player}
 use Rattle.rehearsal.specs.Forms.{acknowledges, arrives, body_of, delivers, event_of, event_said}
 use Rattle.rehearsal.specs.Forms.{Form, form_of, is_heard, sends, submission, submits}
 use Rattle.rehearsal.specs.History.{brought, history_rules, played, Settings, Situation}
 use Rattle.rehearsal.specs.History.{situation_after, submitted_in}
-use Rattle.rehearsal.specs.PlayerState.{Plays}
-use Rattle.line_streams.{specs.LineStreamState.LineAnswers, proofs.LineFacts.answered_by}
+use Rattle.rehearsal.specs.PlayerState.{Plays, PlaysLine}
+use Rattle.line_streams.specs.{LineRules.refusal_in, LineStreamState.LineAnswers}
+use Rattle.line_streams.proofs.LineFacts.{answered_by}
 
 -- one text may stand in Body
 is-body : (text : List ℕ) → is_utf8 text ≡ true → IsBody (body_of text)
@@ -86,9 +89,8 @@ module _ (z : Situation) (old : Player) (line : List ℕ) (plays : Plays z old) 
         (body : Option (List Item)) (counts : Counts) → next ≡ kept_after world event
         → body ≡ delivered_by world event → counts ≡ counts_of next → new.world ≡ Some next
         → new.lines ≡ old.lines + 1
-        → (x : Settings) → LineAnswers (history_rules x) (λ behind. Plays behind new) z line
-        (Ok (Some (record { body = body; counts = counts })))
-    played-so e new next body counts next_is body_is counts_are there lines x =
+        → PlaysLine z line new (Ok (record { body = body; counts = counts }))
+    played-so e new next body counts next_is body_is counts_are there lines =
         let same = same-world in
         let next_so : next ≡ kept_after z.kept event
         = next_is ∙ ap (λ (k : Kept). kept_after k event) same in
@@ -96,10 +98,25 @@ module _ (z : Situation) (old : Player) (line : List ℕ) (plays : Plays z old) 
         = body_is ∙ ap (λ (k : Kept). delivered_by k event) same in
         let counts_so : counts ≡ counts_of (kept_after z.kept event)
         = counts_are ∙ ap counts_of next_so in
-        let brings : played z.kept event ≡ record { body = body; counts = counts } = cc in
-        answered_by (λ behind. Plays behind new) z (situation_after z event) _
-        (brought z (event_of line))
-        (ap (brought z) e ∙ ap (λ (p : Played). Ok (situation_after z event, p)) brings) (record {
-          kept = there ∙ ap Some next_so;
-          lines = lines ∙ ap (λ n. n + 1) plays.lines;
-        })
+        let brings : played z.kept event ≡ record { body = body; counts = counts } = cc in (
+          situation_after z event,
+          ap (brought z) e ∙ ap (λ (p : Played). Ok (situation_after z event, p)) brings,
+          record {
+            kept = there ∙ ap Some next_so;
+            lines = lines ∙ ap (λ n. n + 1) plays.lines;
+          },
+        )
+
+-- what is played is what the rules of lines say
+module _ (x : Settings) (z : Situation) (line : List ℕ) (new : Player) where
+  abbrev Answered : Result (Option Played) (FeedFault HistoryFault) → Type 0
+  Answered = LineAnswers (history_rules x) (λ behind. Plays behind new) z line
+
+  pub line-played : (one : Played) → PlaysLine z line new (Ok one) → Answered (Ok (Some one))
+  line-played one (behind, is, there) =
+      answered_by (λ (y : Situation). Plays y new) z behind one (brought z (event_of line)) is there
+
+  pub line-refused : (fault : FeedFault HistoryFault) → PlaysLine z line new (Err fault)
+      → Answered (Err fault)
+  line-refused (Refused fault) is = ap refusal_in is
+  line-refused Memory is = tt

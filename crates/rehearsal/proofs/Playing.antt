@@ -1,16 +1,16 @@
 -- What is written of any history, and why it is refused.
-use Rattle.std.proofs.Common.{◌≡◌, ℕ, ◌+◌, ◌-◌, ◌^◌, ◌<◌, Bool, true, false, List, [], ◌∷◌, ◌++◌, map, length}
-use Rattle.std.proofs.{Common.append_assoc, lemmas.List.length-map}
-use Rattle.std.proofs.Common.{take, drop, if◌then◌else◌, nat_lt, Some, None, Ok, Err, Option, Result, sym}
-use Rattle.std.proofs.Common.{refl, ap, ◌∙◌, subst, inl, inr, append-nil, arith}
-use Rattle.std.proofs.Common.{flat_map, ltb-false, ltb-true}
-use Rattle.std.proofs.lemmas.Grind.{flat_map-append}
-use Rattle.std.{proofs.lemmas.List.nil_from_length, specs.Option.option_to_list}
+use Rattle.std.proofs.Common.{◌≡◌, ℕ, ◌+◌, ◌-◌, ◌^◌, ◌<◌, Bool, true, false, List, [], ◌∷◌, ◌++◌}
+use Rattle.std.proofs.Common.{map, length, take, drop, if◌then◌else◌, nat_lt, Some, None, Ok, Err}
+use Rattle.std.proofs.Common.{Option, Result, sym, refl, ap, ◌∙◌, subst, inl, inr, append_assoc}
+use Rattle.std.proofs.Common.{append-nil, arith, flat_map}
+use Rattle.std.proofs.lemmas.{Grind.flat_map-append, List.length-map}
+use Rattle.std.specs.Option.{option_to_list}
 use Rattle.unit_streams.proofs.{Pending.pending_history, Pieces.told_flat}
-use Rattle.unit_streams.specs.{Front.begun, Front.whole, Grammar.Grammar}
-use Rattle.unit_streams.specs.{Going.IsPending, Judging.events_of}
+use Rattle.unit_streams.specs.{Front.begun, Front.whole, Grammar.Grammar, Going.IsPending}
+use Rattle.unit_streams.specs.{Judging.events_of}
 use Rattle.unit_streams.specs.Judging.{History, history_from, offence, only}
-use Rattle.unit_streams.specs.Tellers.{report, state_behind, told_along, told_of_history, told_so_far}
+use Rattle.unit_streams.specs.Tellers.{report, state_behind, told_along, told_of_history}
+use Rattle.unit_streams.specs.Tellers.{told_so_far}
 use Rattle.unit_streams.specs.Units.{Counted, events_along, size_of, UnitsLead}
 use Rattle.nbfx_values.specs.declared.content.Item.{Item}
 use Rattle.line_notation.specs.declared.reader.LineKind.{LineKind, TheVariants.NotALine}
@@ -23,20 +23,20 @@ use Rattle.reliable_sequence.proofs.{EventFacts.one-more-at-most, RehearsalLaws.
 use Rattle.rehearsal.specs.declared.fault.HistoryFault.{HistoryFault, TheVariants.Line}
 use Rattle.rehearsal.specs.declared.fault.HistoryFault.TheVariants.{TooLong}
 use Rattle.rehearsal.specs.declared.{played.Played.Played, TheConstants.MOST_BYTES}
-use Rattle.line_streams.specs.LineRules.{end_refused, line_at, LineRules}
+use Rattle.line_streams.specs.LineRules.{each_silent, end_refused, line_at, LineRules}
 use Rattle.rehearsal.specs.{Forms.event_of}
 use Rattle.rehearsal.specs.History.{brought as brought_by, delivered_if, delivered_line}
 use Rattle.rehearsal.specs.History.{delivered_lines, Explains, first_situation, history}
-use Rattle.rehearsal.specs.History.{AcceptedIsInForm, history_rules, InputIsPlayed, IsInForm, IsPlayed, last_line}
-use Rattle.rehearsal.specs.History.{no_counts, played, run_over, Settings, Situation, situation_after}
-use Rattle.rehearsal.specs.History.{told}
+use Rattle.rehearsal.specs.History.{AcceptedIsInForm, history_rules, InputIsPlayed, IsInForm}
+use Rattle.rehearsal.specs.History.{IsPlayed, last_line, no_counts, played, run_over, Settings}
+use Rattle.rehearsal.specs.History.{Situation, situation_after, told}
 use Rattle.rehearsal.specs.Laws.{PendingIsPlayed}
-use Rattle.line_streams.proofs.Cutting.{free_cut}
-use Rattle.line_streams.proofs.LineFacts.{begun_no_feed, cut_line, each_silent, refused_by}
+use Rattle.line_streams.proofs.LineFacts.{cut_line, refused_by}
 use Rattle.rehearsal.proofs.{Happening.may-happen}
-use Rattle.line_streams.proofs.Walking.{all_lines, at_most, at_refusal, at_the_end, brought, cuts}
-use Rattle.line_streams.proofs.Walking.{fills, goes_out, history_so, led_cut, lines_of, refuses, Stop}
-use Rattle.line_streams.proofs.Walking.{total, Walk}
+use Rattle.line_streams.proofs.Walking.{all_cut, all_lines, at_most, at_refusal, at_the_end}
+use Rattle.line_streams.proofs.Walking.{brought, fills, goes_out, history_so, led_cut, lines_of}
+use Rattle.line_streams.proofs.Walking.{no_line_left, nothing_left, refuses, some_left, Stop, total}
+use Rattle.line_streams.proofs.Walking.{Walk}
 
 -- ---- the run over events
 
@@ -152,9 +152,6 @@ module _ (x : Settings) where
     abbrev more_lines : List (List ℕ)
     more_lines = (cut w.rest).0
 
-    all_cut : cut bytes ≡ (played_lines ++ more_lines, (cut w.rest).1)
-    all_cut = cuts rules w.units (first_situation x) 0 bytes z w.rest w.lead
-
     count : z.lines + 1 ≡ length played_lines + 1
     count = let n = r.lines in omega (arith, n)
 
@@ -188,36 +185,15 @@ module _ (x : Settings) where
       abbrev from : ℕ
       from = 0 + size_of w.units
 
-      rest_cut : cut w.rest ≡ ([], w.rest)
-      rest_cut = free_cut w.rest (begun_no_feed w.rest is)
-
-      no_line_left : more_lines ≡ []
-      no_line_left = ap (λ (c : List (List ℕ) × List ℕ). c.0) rest_cut
-
-      bytes_left : (cut bytes).1 ≡ w.rest
-      bytes_left =
-          ap (λ (c : List (List ℕ) × List ℕ). c.1) all_cut
-          ∙ ap (λ (c : List (List ℕ) × List ℕ). c.1) rest_cut
-
-      some_bytes : nat_lt from (from + length w.rest) ≡ true → (cut bytes).1 ≡ [] → ⊥
-      some_bytes e none =
-          let less = ltb-true from (from + length w.rest) e in
-          let nothing : length w.rest ≡ 0 = ap length (sym bytes_left ∙ none) in
-          omega (arith, less, nothing)
-
-      no_bytes : nat_lt from (from + length w.rest) ≡ false → (cut bytes).1 ≡ []
-      no_bytes e =
-          let le = ltb-false from (from + length w.rest) e in
-          bytes_left ∙ nil_from_length w.rest (omega (arith, le))
-
       why_ended : Why (end_refused rules from (from + length w.rest) z)
       why_ended = by_rest (nat_lt from (from + length w.rest)) refl where
         by_rest : (v : Bool) → nat_lt from (from + length w.rest) ≡ v
             → Why (if v then Some (Line (z.lines + 1) NotALine) else None)
-        by_rest true e = (count, inr (no_line_left, some_bytes e, refl))
+        by_rest true e =
+            (count, inr (no_line_left rules bytes is, some_left rules bytes is from e, refl))
         by_rest false e = (
-          no_line_left,
-          no_bytes e,
+          no_line_left rules bytes is,
+          nothing_left rules bytes is from e,
           let n = total rules bytes in omega (arith, n, less),
         )
 
@@ -300,7 +276,7 @@ module _ (x : Settings) where
         record {
           lines = played_lines;
           more = more_lines;
-          lines_are = ap (λ (c : List (List ℕ) × List ℕ). c.0) all_cut;
+          lines_are = ap (λ (c : List (List ℕ) × List ℕ). c.0) (all_cut rules bytes);
           events = r.events;
           events_are = r.events_are;
           written =

@@ -1,6 +1,7 @@
 -- Where a search for a space cuts a line, and what a text in quotes is read as.
-use Rattle.std.proofs.Common.{◌≡◌, ℕ, zero, suc, Bool, true, false, List, [], ◌∷◌, length, take, drop}
-use Rattle.std.proofs.Common.{◌==◌, if◌then◌else◌, Some, None, Ok, Err, Option, Result, refl, ap, ◌∙◌}
+use Rattle.std.proofs.Common.{◌≡◌, ℕ, zero, suc, Bool, true, false, List, [], ◌∷◌, length, take}
+use Rattle.std.proofs.Common.{drop, ◌==◌, if◌then◌else◌, Some, None, Ok, Err, Option, Result, refl}
+use Rattle.std.proofs.Common.{ap, ◌∙◌}
 use Rattle.std.proofs.{Common.◌-◌, Common.arith, Math.Seq.take-length}
 use Rattle.std.specs.Str.{is_utf8}
 use Rattle.memchr.specs.Find.{is_byte, NoneBefore, Nowhere, Passes}

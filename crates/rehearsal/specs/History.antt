@@ -1,6 +1,7 @@
 -- A history as a stream of lines, what is told of it, and what is said of it at all its bytes.
-use Rattle.std.specs.Prelude.{◌≡◌, ℕ, ◌+◌, ◌<◌, ◌≤◌, ◌↔◌, ◌⊎◌, List, [], ◌∷◌, ◌++◌, length, map, take, codes}
-use Rattle.std.specs.Prelude.{decimal, flat_map, if◌then◌else◌, Some, None, Ok, Err, Option, Result}
+use Rattle.std.specs.Prelude.{◌≡◌, ℕ, ◌+◌, ◌<◌, ◌≤◌, ◌↔◌, ◌⊎◌, List, [], ◌∷◌, ◌++◌, length, map}
+use Rattle.std.specs.Prelude.{take, codes, decimal, flat_map, if◌then◌else◌, Some, None, Ok, Err}
+use Rattle.std.specs.Prelude.{Option, Result}
 use Rattle.unit_streams.specs.{Grammar.Grammar, Judging.offence, Tellers.report, Tellers.Teller}
 use Rattle.nbfx_values.specs.declared.content.Item.{Item, TheVariants.Text as TextItem}
 use Rattle.nbfx_values.specs.declared.scalars.{Scalar.TheVariants.Text, Value.TheVariants.One}
@@ -8,8 +9,8 @@ use Rattle.line_notation.specs.declared.reader.LineKind.{LineKind, TheVariants.N
 use Rattle.line_notation.specs.{Lines.cut, Lines.with_line_feed, Quoted.quoted, Words.spaced}
 use Rattle.reliable_sequence.specs.declared.events.{Counts.Counts, Event.Event}
 use Rattle.reliable_sequence.specs.{Laws.DeliversInOrder, Sent.submitted_count}
-use Rattle.reliable_sequence.specs.Rehearsal.{counts_of, delivered_by, Kept, kept_after, new_rehearsal}
-use Rattle.reliable_sequence.specs.Rehearsal.{nothing_kept, Rehearsal, rehearsal}
+use Rattle.reliable_sequence.specs.Rehearsal.{counts_of, delivered_by, Kept, kept_after}
+use Rattle.reliable_sequence.specs.Rehearsal.{new_rehearsal, nothing_kept, Rehearsal, rehearsal}
 use Rattle.rehearsal.specs.declared.fault.HistoryFault.{HistoryFault, TheVariants.Line}
 use Rattle.rehearsal.specs.declared.fault.HistoryFault.TheVariants.{TooLong}
 use Rattle.rehearsal.specs.declared.{played.Played.Played, TheConstants.MOST_BYTES}
@@ -114,8 +115,8 @@ module _ (x : Settings) where
       (MOST_BYTES ≤ length bytes) × ((cut (take MOST_BYTES bytes)).0 ≡ lines)
 
   -- What is written of any input: a line for each body that is delivered in the run over the events
-  -- of its first lines, and where nothing is refused the counts behind all of them. These bodies are
-  -- the first of those that the lines submit, in their order.
+  -- of its first lines, and where nothing is refused the counts behind all of them. These bodies
+  -- are the first of those that the lines submit, in their order.
   pub record IsPlayed (bytes : List ℕ) : Type 0 where
     pub lines : List (List ℕ)
     pub more : List (List ℕ)

@@ -2,7 +2,8 @@
 use Rattle.std.specs.Prelude.{◌≡◌, ℕ, List, length}
 use Rattle.line_streams.specs.LineStreamState.{Reached}
 use Rattle.rehearsal.specs.declared.{reader.HistoryReader.HistoryReader, TheConstants.MOST_BYTES}
-use Rattle.rehearsal.specs.{History.history_rules, History.Settings, PlayerState.Plays, PlayerState.set_to}
+use Rattle.rehearsal.specs.{History.history_rules, History.Settings, PlayerState.Plays}
+use Rattle.rehearsal.specs.{PlayerState.set_to}
 
 -- the sequence whose history it reads
 unfoldable pub settings_of : HistoryReader → Settings

@@ -1,5 +1,6 @@
 -- What reading a line answers, for private calls.
-use Rattle.std.specs.Prelude.{◌≡◌, ℕ, Bool, List, if◌then◌else◌, Some, None, Ok, Err, Option, Result, ⊤}
+use Rattle.std.specs.Prelude.{◌≡◌, ℕ, Bool, List, if◌then◌else◌, Some, None, Ok, Err, Option}
+use Rattle.std.specs.Prelude.{Result, ⊤}
 use Rattle.{std.specs.Str.is_utf8}
 use Rattle.line_notation.specs.declared.reader.LineKind.{LineKind, TheVariants.BadText}
 use Rattle.line_notation.specs.declared.reader.LineKind.TheVariants.{NotALine}

@@ -27,10 +27,10 @@ pub fn history_is_bounded()
 /// What is written of any input is a line for each body that is delivered in the run over the
 /// events of its first lines, and the counts behind all of them if nothing is refused. These bodies
 /// are the first of those that the lines submit, in their order. Of input that may go on, the lines
-/// of these bodies are written so far. A refused line is the next one, by its number from 1, and its
-/// kind says why: it has no form, as what stands behind the last line feed, or its text isn't UTF-8.
-/// Input is too long if it has as many bytes as may be read. Exactly input of fewer bytes, each line
-/// of which says an event and ends with a line feed, isn't refused.
+/// of these bodies are written so far. A refused line is the next one, by its number from 1, and
+/// its kind says why: it has no form, as what stands behind the last line feed, or its text isn't
+/// UTF-8. Input is too long if it has as many bytes as may be read. Exactly input of fewer bytes,
+/// each line of which says an event and ends with a line feed, isn't refused.
 pub fn input_is_played()
     ensures played { InputIsPlayed }
     ensures pending { PendingIsPlayed }

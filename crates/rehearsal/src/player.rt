@@ -24,9 +24,8 @@ pub struct Player {
 }
 
 impl Player {
-    ghost use Rattle.line_streams.specs.LineStreamState.{LineAnswers};
-    ghost use Rattle.rehearsal.specs.History.{Settings, Situation, history_rules};
-    ghost use Rattle.rehearsal.specs.PlayerState.{Plays};
+    ghost use Rattle.rehearsal.specs.History.{Situation};
+    ghost use Rattle.rehearsal.specs.PlayerState.{Plays, PlaysLine};
 
     /// The player of a new world. It fails without memory for it.
     pub fn new(alloc: Global, identifier: &str, window: u32) -> Result<Player, Memory>
@@ -46,12 +45,12 @@ impl Player {
         })
     }
 
-    /// Plays a line, which is given without its line feed, and answers what each brings. It fails
+    /// Plays a line, which is given without its line feed, and answers what it brings. It fails
     /// where the line is refused, or without memory.
-    pub fn play(&mut self, line: &[u8]) -> Result<Option<Played>, FeedFault<HistoryFault>>
+    pub fn play(&mut self, line: &[u8]) -> Result<Played, FeedFault<HistoryFault>>
         requires { self.old.lines < 2 ^ 62 }
-        ensures answers { (x : Settings) (z : Situation) → Plays z self.old
-            → LineAnswers (history_rules x) (λ behind. Plays behind self.new) z line.now result }
+        ensures answers { (z : Situation) → Plays z self.old
+            → PlaysLine z line.now self.new result }
         ensures few { self.new.lines ≤ self.old.lines + 1 }
     {
         let event = match event_in(self.alloc, line) {
@@ -71,6 +70,6 @@ impl Player {
         let counts = world.counts();
         self.lines += 1;
         self.world = Some(world);
-        Ok(Some(Played { body, counts }))
+        Ok(Played { body, counts })
     }
 }

@@ -27,7 +27,7 @@ pub struct HistoryLines<'s> {
 }
 
 impl<'s> LineEnd for HistoryLines<'s> {
-    ghost use Rattle.line_streams.proofs.LineFacts.{each_silent};
+    ghost use Rattle.line_streams.specs.LineRules.{each_silent};
     ghost use Rattle.rehearsal.specs.Forms.{event_of};
     ghost use Rattle.rehearsal.specs.History.{Settings as Sequence, Situation as Stand, brought, history_rules};
     ghost use Rattle.rehearsal.specs.PlayerState.{Plays, set_to};
@@ -53,7 +53,8 @@ impl<'s> LineEnd for HistoryLines<'s> {
     ghost most_lines = { 2 ^ 62 };
 
     fn line(&mut self, line: &[u8]) -> Result<Option<Played>, FeedFault<HistoryFault>> {
-        self.player.play(line)
+        let played = self.player.play(line)?;
+        Ok(Some(played))
     }
 
     fn fault_at_end(&self, within_line: bool) -> Option<HistoryFault> {

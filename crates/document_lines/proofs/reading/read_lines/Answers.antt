@@ -1,4 +1,5 @@
-use Rattle.std.proofs.Common.{◌≡◌, ◌^◌, ◌<◌, List, ◌++◌, length, IfOk, Some, Result, ap, arith, subst}
+use Rattle.std.proofs.Common.{◌≡◌, ◌^◌, ◌<◌, List, ◌++◌, length, IfOk, Some, Result, ap, arith}
+use Rattle.std.proofs.Common.{subst}
 use Rattle.nbfx_values.specs.declared.content.Item.{Item}
 use Rattle.io_edges.specs.InMemory.{Tape}
 use Rattle.document_lines.specs.{declared.InputFault.InputFault, Documents.documents_in}

@@ -17,7 +17,8 @@ returns-in-Ok-clause-stands c = λ p h.
     record {
       most = ap (λ (x : Settings). x.limits.session) e.settings ∙ h.most ∙ sym e.most;
       reached = subst (λ (x : Settings). Reached (document_rules x) (IsIn s.lines) s.begun.items
-          s.taken (p ++ take c.in-Ok.answer.0 c.args.piece.now)) (sym e.settings) (e.answers h.most p h.reached).1;
+          s.taken (p ++ take c.in-Ok.answer.0 c.args.piece.now)) (sym e.settings)
+          (e.answers h.most p h.reached).1;
       unfailed = h.unfailed;
     }
 

@@ -10,8 +10,8 @@ step-requires c =
     c.args.line.now c.in-Ok.event c.in-Ok.ensures
 
 pub returns-clause-answers : goal.returns-clause-answers
-returns-clause-answers c = λ x z plays.
+returns-clause-answers c = λ z plays.
     played-so z c.args.self.now c.args.line.now plays c.in-Ok.event c.in-Some.world
     (sym c.in-Some.ensures.value) c.in-Ok.ensures _ c.in-Ok-step.world c.in-Ok-step.body
     c.counts-counts.result c.in-Ok-step.ensures.kept c.in-Ok-step.ensures.body
-    c.counts-counts.ensures.counted refl refl x
+    c.counts-counts.ensures.counted refl refl
