@@ -12,10 +12,12 @@ use Rattle.stream_reader.proofs.Coming.{unit_of_chunk, unit_of_payload, unit_of_
 use Rattle.stream_reader.proofs.{Grammar.readable}
 use Rattle.stream_reader.proofs.Outcomes.{goes_on, is_refused, is_whole, outcome, wants_chunk}
 use Rattle.stream_reader.specs.Stream.{accepted, after, after_bare, beginning, behind_payload}
-use Rattle.stream_reader.specs.Stream.{chunk_due, chunked, completed, completed_bare, completed_payload}
+use Rattle.stream_reader.specs.Stream.{chunk_due, chunked, completed, completed_bare}
+use Rattle.stream_reader.specs.Stream.{completed_payload}
 use Rattle.stream_reader.specs.Stream.{direction_of, due_behind, due_in, ended, ends, Form}
 use Rattle.stream_reader.specs.Stream.{last_chunk, led, message, on_open, on_payload, opened}
-use Rattle.stream_reader.specs.Stream.{OpenPayload, payload_by, payload_open, peer_fault, record_due}
+use Rattle.stream_reader.specs.Stream.{OpenPayload, payload_by, payload_open, peer_fault}
+use Rattle.stream_reader.specs.Stream.{record_due}
 use Rattle.stream_reader.specs.Stream.{Settings, Situation, sized, Stage, stream, StreamEvent}
 use Rattle.stream_reader.specs.Stream.{StreamUnit, unit_in, with_byte}
 use Rattle.duplex_server.specs.declared.requests.Request.{Request, TheVariants.Ended}

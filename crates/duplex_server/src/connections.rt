@@ -45,9 +45,9 @@ fn serve_each<R: Threads + Wait + Sync, W: Wire, O: Sink, V: Service>(
 }
 
 /// Serves at most so many connections that peers make to that place, one after the other, each on
-/// two threads, and writes the line of each to the output when it is over. It ends early where no other connection
-/// will come, which a wire over sockets never says. Answers with the output whether it failed
-/// before, and why.
+/// two threads, and writes the line of each to the output when it is over. It ends early where no
+/// other connection will come, which a wire over sockets never says. Answers with the output whether
+/// it failed before, and why.
 ///
 /// Each connection that was accepted is closed, whatever became of it. Neither a peer nor lack of
 /// memory to answer it stops the server: only an accept that fails does, a line that can't be

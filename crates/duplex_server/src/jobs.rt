@@ -45,7 +45,7 @@ impl Job {
     }
 }
 
-/// What a job leaves of an answer's, for the thread that asked for its memory.
+/// What is left of an answer whose job was done, for the thread that asked for its memory.
 #[derive(Debug, Drop)]
 pub struct Spent {
     /// The answer, if it was made.

@@ -26,7 +26,7 @@ pub struct ReplyThread<'s, 'r, 'd, R, K> {
     pub(crate) sink: K,
     // Whether a job was taken. Before, nothing is due.
     pub(crate) begun: bool,
-    // Where goes what was written.
+    // Where what was written goes.
     spent: &'d SpentJobs<'r, R>,
 }
 

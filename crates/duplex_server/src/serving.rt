@@ -97,38 +97,6 @@ fn leave_unread<S: Source, K: Sink, V: Service>(
     }
 }
 
-// Serves a connection of which nothing was taken yet.
-fn serve_connection<S: Source, K: Sink, V: Service>(
-    alloc: Global,
-    source: &mut S,
-    sink: &mut K,
-    statics: &StaticTable,
-    quotas: &Two,
-    endpoint: &Endpoint,
-    service: &V,
-) -> Outcome
-    ensures serves { Serves (answering (V.served service.now) statics.now quotas.now)
-        (endpoint_of endpoint.now)
-        (input_at S.left S.taken S.faults S.empty_takes source.old)
-        (input_at S.left S.taken S.faults S.empty_takes source.new) (K.view sink.old)
-        (K.view sink.new) result }
-    ensures same_end { result.outbound ≡ Outbound.Done → K.ended sink.new ≡ K.ended sink.old }
-{
-    match InputBuffer::new(alloc) {
-        Ok(mut buffer) => serve_carried(
-            alloc,
-            &mut buffer,
-            source,
-            sink,
-            statics,
-            quotas,
-            endpoint,
-            service,
-        ),
-        Err(Memory) => leave_unread(alloc, source, sink, statics, quotas, endpoint, service),
-    }
-}
-
 /// Serves the connection whose bytes the source gives and the sink takes: reads the initiator's
 /// stream (MC-NMF), to this endpoint and within the forward quotas, and writes what is owed for it.
 /// Answers are gathered, up to 64 KiB and one answer, and put before more is read. An answer that
@@ -157,5 +125,17 @@ pub fn serve_one<S: Source, K: Sink, V: Service>(
     // The direction is ended only where the writing has stopped.
     ensures same_end { result.outbound ≡ Outbound.Done → K.ended sink.new ≡ K.ended sink.old }
 {
-    serve_connection(alloc, source, sink, statics, quotas, endpoint, service)
+    match InputBuffer::new(alloc) {
+        Ok(mut buffer) => serve_carried(
+            alloc,
+            &mut buffer,
+            source,
+            sink,
+            statics,
+            quotas,
+            endpoint,
+            service,
+        ),
+        Err(Memory) => leave_unread(alloc, source, sink, statics, quotas, endpoint, service),
+    }
 }

@@ -124,7 +124,8 @@ module _ {T : Type 0} where
       (at_set views port other both u at') in
       let theirs = (h.5 other u was).1 b in
       let Now : ℕ → Log T → Type 0 = λ j y. j ≢ other → Fits h.0 port h.2 h.3 j y in
-      let now : All Now vs = all_set Now views port both (λ _. ((λ _. mine.0 a), λ _. (refl, theirs.1)))
+      let now : All Now vs = all_set Now views port both
+      (λ _. ((λ _. mine.0 a), λ _. (refl, theirs.1)))
       (λ j y _ e apart. (
         (h.5 j y e).0,
         λ p. absurd (apart (((h.5 j y e).1 p).0 ∙ sym theirs.0)),

@@ -1,5 +1,6 @@
 -- What one job more leaves of what a pass knows, and of jobs that end.
-use Rattle.std.proofs.Common.{◌≡◌, Bool, true, false, true≢false, List, [], ◌∷◌, ◌++◌, refl, sym, ap, ◌∙◌, subst, append-nil}
+use Rattle.std.proofs.Common.{◌≡◌, Bool, true, false, true≢false, List, [], ◌∷◌, ◌++◌, refl, sym}
+use Rattle.std.proofs.Common.{ap, ◌∙◌, subst, append-nil}
 use Rattle.worker_thread.specs.declared.rule.Log.{Log}
 use Rattle.worker_thread.specs.Crossing.{log}
 use Rattle.worker_thread.specs.Jobs.{AreFirst, IsEnded}
@@ -39,7 +40,8 @@ module _ {T : Type 0} where
       → (w ≡ log false true [] w.taken) × AreFirst is_last w.taken × Did w.taken
   one-more is_last Did v w job i first goes_on e did = (
     takes-more v w job i e,
-    subst (AreFirst is_last) (sym (ap (λ u. u.taken) e)) (first-more is_last v.taken job first goes_on),
+    subst (AreFirst is_last) (sym (ap (λ u. u.taken) e))
+        (first-more is_last v.taken job first goes_on),
     subst Did (sym (ap (λ u. u.taken) e)) did,
   )
 
