@@ -56,6 +56,11 @@ begun_at bytes outbounds.Done first mid now wrote at same = rw same wrote
 begun_at bytes outbounds.WriteFault first mid now wrote at same = cc
 begun_at bytes outbounds.Memory first mid now wrote at same = cc
 
+pub opened_done : (opened : Outbound) → stage_after opened ≡ Opened → opened ≡ outbounds.Done
+opened_done outbounds.Done at = refl
+opened_done outbounds.WriteFault at = cc
+opened_done outbounds.Memory at = cc
+
 -- ---- a call in all
 
 module _ (x : Sending) (via : List ℕ) (sink sink' output output1 output' : SinkView)

@@ -49,6 +49,7 @@ fn inbound_by(ending: FollowEnding<Offence>, reached: Outcome) -> ClientIn
 fn stage_after<K: Sink>(opened: Outbound, sink: &mut K) -> Stage
     ensures stage { result ≡ stage_after opened }
     ensures ended { (opened ≡ Outbound.Done → ⊥) → K.ended sink.new ≡ true }
+    ensures same_end { opened ≡ Outbound.Done → K.ended sink.new ≡ K.ended sink.old }
     ensures unput { K.view sink.new ≡ K.view sink.old }
 {
     if opened.is_going() {
@@ -107,6 +108,7 @@ pub(crate) fn begin_call<'s, S: Source, K: Sink, O: Sink>(
         (K.view sink.old) (K.view sink.new) (O.view output.old) (O.view output.new)) }
     ensures ended { IfErr result (λ called. (called.outbound ≡ ClientOut.Done → ⊥)
         → K.ended sink.new ≡ true) }
+    ensures same_end { IfOk result (λ reader. K.ended sink.new ≡ K.ended sink.old) }
 {
     let opened = send_opening(alloc, settings.mode, settings.encoding, via, sink);
     let stage = stage_after(opened, sink);

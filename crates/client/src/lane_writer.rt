@@ -72,6 +72,7 @@ impl<'s> LaneWriter<'s> {
             → IsWriting first all self.old (K.view sink.old)
             → IsWriting first (all ++ more) self.new (K.view sink.new) }
         ensures set { IsSetAs self.old self.new }
+        ensures same_end { K.ended sink.new ≡ K.ended sink.old }
     {
         self.parts.run_out(sink);
     }
@@ -87,6 +88,7 @@ impl<'s> LaneWriter<'s> {
             → IsWriting first all self.old (K.view sink.old)
             → IsWriting first (all ++ (lane, document) ∷ []) self.new (K.view sink.new) }
         ensures set { IsSetAs self.old self.new }
+        ensures same_end { K.ended sink.new ≡ K.ended sink.old }
     {
         match fault {
             EncodeFault::Memory => self.run_out(sink),
@@ -100,6 +102,7 @@ impl<'s> LaneWriter<'s> {
             → IsWriting first all self.old (K.view sink.old)
             → IsWriting first (all ++ (lane, doc.now) ∷ []) self.new (K.view sink.new) }
         ensures set { IsSetAs self.old self.new }
+        ensures same_end { K.ended sink.new ≡ K.ended sink.old }
     {
         if !self.parts.outbound.is_going() || self.unfit.is_some() {
             return;
@@ -128,6 +131,8 @@ impl<'s> LaneWriter<'s> {
         ensures set { IsSetAs self.old self.new }
         ensures may_wait { MayWait self.new.parts.outbound self.new.parts.gathered.items
             (K.view sink.new) (K.ended sink.new) }
+        ensures same_end { self.new.parts.outbound ≡ Outbound.Done
+            → K.ended sink.new ≡ K.ended sink.old }
     {
         self.parts.pause(sink);
     }

@@ -1,6 +1,6 @@
 //! How the opening of a call is written.
 
-ghost use Rattle.std.specs.Prelude.{◌≤◌, length};
+ghost use Rattle.std.specs.Prelude.{◌≡◌, ◌≤◌, length};
 ghost use Rattle.initiator_machine.specs.Opening.{opening_bytes};
 ghost use Rattle.client.specs.Writing.{WritesOut};
 
@@ -13,7 +13,8 @@ use unit_streams::Memory;
 
 // Puts bytes, and writes what the sink holds.
 fn write_bytes<K: Sink>(bytes: &[u8], sink: &mut K) -> Outbound
-    ensures { WritesOut result bytes.now (K.view sink.old) (K.view sink.new) }
+    ensures written { WritesOut result bytes.now (K.view sink.old) (K.view sink.new) }
+    ensures same_end { K.ended sink.new ≡ K.ended sink.old }
 {
     let put = put_bytes(bytes, sink);
     if !put.is_going() {
@@ -31,8 +32,9 @@ pub fn send_opening<K: Sink>(
     sink: &mut K,
 ) -> Outbound
     requires { length via.now ≤ 2048 }
-    ensures { WritesOut result (opening_bytes mode encoding via.now) (K.view sink.old)
+    ensures written { WritesOut result (opening_bytes mode encoding via.now) (K.view sink.old)
         (K.view sink.new) }
+    ensures same_end { K.ended sink.new ≡ K.ended sink.old }
 {
     let mut bytes = Vec::new(alloc);
     match opening(mode, encoding, via, &mut bytes) {

@@ -238,6 +238,16 @@ fn take_in_back(to: &Giver, pass: Ticket, theirs: Ticket)
     take_in(to, pass, theirs)
 }
 
+// Runs what is to be done meanwhile where nothing is done beside it. This worker has finished before, so
+// that nobody waits for what it was to do.
+fn run_behind<W: LaneWorker, M: Meanwhile>(_worker: &W, beside: M) -> M::Done
+    requires finished { (first : W) × (jobs : List Job) × W.finished first jobs _worker.now }
+    requires may_run { M.may_run beside }
+    ensures ran { M.ran beside result }
+{
+    beside.run()
+}
+
 // Has the jobs of both lanes done by a worker on a thread of its own.
 fn run_across<R: Threads + Wait + Sync, W: LaneWorker + Send + Drop, M: Meanwhile + Drop>(
     rt: &R,
@@ -296,7 +306,8 @@ fn run_across<R: Threads + Wait + Sync, W: LaneWorker + Send + Drop, M: Meanwhil
                     let (theirs, mut worker) = (refused.value)();
                     take_in_back(to, pass, theirs);
                     work_alone(&mut worker, a, b);
-                    (worker, beside.run())
+                    let done = run_behind(&worker, beside);
+                    (worker, done)
                 }
             }
         },
@@ -327,7 +338,8 @@ pub fn run_lanes<R: Threads + Wait + Sync, W: LaneWorker + Send + Drop, M: Meanw
     ) else {
         let mut worker = worker;
         work_alone(&mut worker, a, b);
-        return (worker, beside.run());
+        let done = run_behind(&worker, beside);
+        return (worker, done);
     };
     run_across(rt, alloc, a, b, worker, beside, &to, from, pass)
 }

@@ -7,7 +7,7 @@ use Rattle.{initiator_machine.specs.Opening.opening_bytes, session_report.proofs
 use Rattle.client.specs.declared.{answers.Stage.Stage}
 use Rattle.client.specs.{Answering.IsFollowed, Answering.reads_by}
 use Rattle.client.specs.{Sent.sending_by, Writing.out_of}
-use Rattle.client.proofs.LaneCalled.{begun_at, knows_unsent, told_unread, unfailed}
+use Rattle.client.proofs.LaneCalled.{begun_at, knows_unsent, opened_done, told_unread, unfailed}
 use Rattle.client.proofs.calling.begin_call.{Given.Over}
 use Rattle.client.proofs.calling.begin_call.Goals as goal
 
@@ -38,7 +38,7 @@ returns-in_default-clause-over g c =
       known = λ documents. knows_unsent (sending_by s documents) a.via.now i i
           (g.K.Sink.view a.sink.now) (g.K.Sink.view t.new.sink) output output
           (g.O.Sink.view d.new.output) d.result Memory h.result.reached h.result.report e.closed
-          e.inbound (unfailed i.faults) o.result (g.K.Sink.view o.new.sink) o.ensures
+          e.inbound (unfailed i.faults) o.result (g.K.Sink.view o.new.sink) o.ensures.written
           t.ensures.unput
           (e.outbound ∙ c.client_out-outbound.ensures) e.sent
           (told_unread y i output o.result h.result.reached h.result.report
@@ -70,7 +70,7 @@ returns-in-Some-clause-over g c =
           (input_of g r.new.source) (g.K.Sink.view a.sink.now) (g.K.Sink.view t.new.sink) output
           (g.O.Sink.view r.new.output) (g.O.Sink.view d.new.output) d.result c.in-Some.ending
           q.handler.reached q.handler.report e.closed e.inbound
-          (rw c.in-Some.is at r.ensures.counted) o.result (g.K.Sink.view o.new.sink) o.ensures
+          (rw c.in-Some.is at r.ensures.counted) o.result (g.K.Sink.view o.new.sink) o.ensures.written
           t.ensures.unput (e.outbound ∙ c.client_out-outbound.ensures) e.sent
           (subst (λ (v : Stage). IsFollowed (reads_by s) i output v q (input_of g r.new.source)
           (g.O.Sink.view r.new.output) c.in-Some.ending) (c.in-Ok.ensures.stage ∙ t.ensures.stage)
@@ -95,7 +95,7 @@ returns-clause-begun g c =
     (c.in-Ok.ensures.comes i (g.O.Sink.view a.output.now))) in
     let at = rw c.in-None.is at r.ensures.stage in
     let wrote = begun_at (opening_bytes s.mode s.encoding a.via.now) o.result
-    (g.K.Sink.view a.sink.now) (g.K.Sink.view o.new.sink) (g.K.Sink.view t.new.sink) o.ensures
+    (g.K.Sink.view a.sink.now) (g.K.Sink.view o.new.sink) (g.K.Sink.view t.new.sink) o.ensures.written
     (sym (c.in-Ok.ensures.stage ∙ t.ensures.stage) ∙ at.0) t.ensures.unput in record {
       acked = at.1;
       puts = wrote.0;
@@ -104,3 +104,12 @@ returns-clause-begun g c =
       come = come.1;
       uncounted = rw c.in-None.is at r.ensures.uncounted;
     }
+
+pub returns-clause-same_end : goal.returns-clause-same_end
+returns-clause-same_end g c =
+    let o = c.send_opening-opened in
+    let t = c.stage_after-stage in
+    let r = c.read-reader in
+    let at = rw c.in-None.is at r.ensures.stage in
+    t.ensures.same_end (opened_done o.result
+    (sym (c.in-Ok.ensures.stage ∙ t.ensures.stage) ∙ at.0)) ∙ o.ensures.same_end

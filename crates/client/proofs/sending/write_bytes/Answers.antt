@@ -1,8 +1,8 @@
 use Rattle.{std.proofs.Common.refl, client.proofs.Opening.flushes_out}
 use Rattle.client.proofs.sending.write_bytes.Goals as goal
 
-pub returns : goal.returns
-returns g c =
+pub returns-clause-written : goal.returns-clause-written
+returns-clause-written g c =
     let f = c.flush.ensures.flushed in
     let done = c.if-not-is_going.ensures.going refl in
     rw f.2 (flushes_out f.0

@@ -9,4 +9,5 @@ returns-in_default g c = record {
       c.requires.going c.requires.fits refl refl refl refl c.args.fault refl c.in_default.not-Memory
       refuses h;
   set = record { settings = refl; set = λ set. set };
+  same_end = refl;
 }
