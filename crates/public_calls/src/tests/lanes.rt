@@ -28,6 +28,38 @@ fn documents(alloc: Global, lines: &[u8]) -> Result<Docs, Fail> {
     }
 }
 
+// What becomes of the call, and of what it sends to.
+fn call_of<R: Threads + Wait + Sync>(
+    rt: &R,
+    alloc: Global,
+    source: MemorySource,
+    sink: MemorySink,
+    statics: &StaticTable,
+    a: &Docs,
+    b: &Docs,
+) -> (LanesOutcome, MemorySink) {
+    let report = MemorySink::new(alloc, Vec::new(alloc), 0);
+    let quotas = Two {
+        forward: Quotas::usual(),
+        back: Quotas::usual(),
+    };
+    let (outcome, _source, sink, _report) = call_lanes(
+        rt,
+        alloc,
+        source,
+        sink,
+        report,
+        statics,
+        &quotas,
+        Mode::Duplex,
+        Encoding::Known(Kind::Session),
+        "net.tcp://h/e",
+        a,
+        b,
+    );
+    (outcome, sink)
+}
+
 // The peer accepts, and ends the session. The puts with these numbers fail.
 fn called<R: Threads + Wait + Sync>(
     rt: &R,
@@ -41,26 +73,7 @@ fn called<R: Threads + Wait + Sync>(
     let b = documents(alloc, b)?;
     let source = MemorySource::new(b"\x0B\x07".to_vec(alloc)?, 1, Vec::new(alloc));
     let sink = MemorySink::new(alloc, failing.to_vec(alloc)?, 0);
-    let report = MemorySink::new(alloc, Vec::new(alloc), 0);
-    let quotas = Two {
-        forward: Quotas::usual(),
-        back: Quotas::usual(),
-    };
-    let (outcome, _source, sink, _report) = call_lanes(
-        rt,
-        alloc,
-        source,
-        sink,
-        report,
-        &statics,
-        &quotas,
-        Mode::Duplex,
-        Encoding::Known(Kind::Session),
-        "net.tcp://h/e",
-        &a,
-        &b,
-    );
-    Ok((outcome, sink))
+    Ok(call_of(rt, alloc, source, sink, &statics, &a, &b))
 }
 
 // The bytes of a session of so many of these documents, in whatever order.
@@ -77,16 +90,21 @@ fn count_of(lane: Lane, tags: &[Lane]) -> usize {
     tags.iter().filter(|tag| **tag == lane).count()
 }
 
+// Both ended well, and three documents of each list were sent.
+fn are_sent(outcome: &LanesOutcome) -> bool {
+    outcome.inbound == ClientIn::Ended
+        && outcome.outbound == ClientOut::Done
+        && outcome.report == Reported::Done
+        && outcome.sent == 6
+        && count_of(Lane::A, &outcome.tags) == 3
+        && count_of(Lane::B, &outcome.tags) == 3
+}
+
 pub fn documents_of_both_lists_are_sent(
     rt: &(impl Abort + AllocGlobal + Threads + Wait + Sync),
 ) -> Result<(), Fail> {
     let (outcome, sink) = called(rt, rt.alloc(), THREE, THREE, &[])?;
-    assert_eq!(rt; outcome.inbound, ClientIn::Ended);
-    assert_eq!(rt; outcome.outbound, ClientOut::Done);
-    assert_eq!(rt; outcome.report, Reported::Done);
-    assert_eq!(rt; outcome.sent, 6);
-    assert_eq!(rt; count_of(Lane::A, &outcome.tags), 3);
-    assert_eq!(rt; count_of(Lane::B, &outcome.tags), 3);
+    assert!(rt; are_sent(&outcome));
     let whole = session(rt.alloc(), 6)?;
     assert!(rt; sink.bytes() == whole.as_slice());
     Ok(())

@@ -27,14 +27,11 @@ const WITHIN: NodePlace = NodePlace::Within {
     deeper: true,
 };
 
-// The node of a record that comes in two pieces.
-fn read_in_two(alloc: Global, front: &[u8], rest: &[u8]) -> Option<Node> {
+// The node of a record.
+fn read(alloc: Global, bytes: &[u8]) -> Option<Node> {
     let mut reader = NodeReader::new(alloc);
     record_fronts();
-    let Ok((_, NodeStep::More)) = reader.feed(front, WITHIN) else {
-        return None;
-    };
-    match reader.feed(rest, WITHIN) {
+    match reader.feed(bytes, WITHIN) {
         Ok((_, NodeStep::Done(node))) => Some(node),
         _ => None,
     }
@@ -42,9 +39,9 @@ fn read_in_two(alloc: Global, front: &[u8], rest: &[u8]) -> Option<Node> {
 
 // An array of two numbers, with a declaration and an attribute: a list of a number and a string.
 pub fn an_array_is_read_and_copied(rt: &(impl Abort + AllocGlobal)) -> Result<(), Fail> {
-    let front = b"\x03\x42\x02\x0B\x01p\x04\x04\x01k\xA4\x82";
-    let rest = b"\xAA\x03\xA6\x01\x8B\x02\xFE\xFF\x00\x01";
-    let Some(Node::Array(array)) = read_in_two(rt.alloc(), front, rest) else {
+    let bytes = b"\x03\x42\x02\x0B\x01p\x04\x04\x01k\xA4\x82\
+\xAA\x03\xA6\x01\x8B\x02\xFE\xFF\x00\x01";
+    let Some(Node::Array(array)) = read(rt.alloc(), bytes) else {
         return Err("no array".into());
     };
     let copied = array.copy()?;

@@ -1,11 +1,20 @@
 // When a sending half may send a message, and when End.
 use super::answers::requests;
 use nbfx_encoder::{SendFault, SendState, Sender, Side};
-use nbfx_values::{Kind, Mode, Quotas};
+use nbfx_values::{Doc, Kind, Mode, Quotas};
 use static_dictionary::StaticTable;
 use std::alloc::Global;
 use std::process::Abort;
 use std::test::Fail;
+
+// What a message is answered, and End: no check here needs what the calls promise.
+fn sent(sender: &mut Sender<'_>, doc: &Doc, out: &mut Vec<u8>) -> Result<(), SendFault> {
+    sender.message(doc, out)
+}
+
+fn ended(sender: &mut Sender<'_>) -> Result<u8, SendState> {
+    sender.end()
+}
 
 // An initiator in singleton mode sends one message, and then End once.
 pub fn one_message_and_its_end(rt: &(impl Abort + AllocGlobal)) -> Result<(), Fail> {
@@ -23,15 +32,15 @@ pub fn one_message_and_its_end(rt: &(impl Abort + AllocGlobal)) -> Result<(), Fa
         side,
     );
     let mut out = Vec::new(alloc);
-    assert_eq!(rt; sender.end(), Err(SendState::Ready));
-    assert_eq!(rt; sender.message(doc, &mut out), Ok(()));
+    assert_eq!(rt; ended(&mut sender), Err(SendState::Ready));
+    assert_eq!(rt; sent(&mut sender, doc, &mut out), Ok(()));
     let state = SendState::Spent;
     assert_eq!(rt;
-        sender.message(doc, &mut out),
+        sent(&mut sender, doc, &mut out),
         Err(SendFault::WrongMoment { state })
     );
-    assert_eq!(rt; sender.end(), Ok(7));
-    assert_eq!(rt; sender.end(), Err(SendState::Closed));
+    assert_eq!(rt; ended(&mut sender), Ok(7));
+    assert_eq!(rt; ended(&mut sender), Err(SendState::Closed));
     Ok(())
 }
 

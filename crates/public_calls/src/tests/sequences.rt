@@ -1,4 +1,6 @@
 // Both ends of a reliable sequence, and each fault that is no want of memory.
+ghost use Rattle.reliable_sequence.specs.Rehearsal.{MayHappen};
+
 use document_lines::read_documents;
 use nbfx_values::{Docs, Items};
 use reliable_sequence::{Counts, Event, Receiving, RmFault, Sending, SubmitFault, Taken, World};
@@ -160,15 +162,23 @@ fn with_body(alloc: Global, world: World) -> Result<World, Fail> {
     Ok(world)
 }
 
+// The world behind an event, and whether that handed a body over.
+fn stepped(alloc: Global, world: World, event: Event) -> Result<(World, bool), Fail>
+    requires { MayHappen world event }
+{
+    let (world, body) = world.step(alloc, event)?;
+    Ok((world, body.is_some()))
+}
+
 pub fn a_body_goes_through_a_world(rt: &(impl Abort + AllocGlobal)) -> Result<(), Fail> {
     let world = World::new(rt.alloc(), "u", 1)?;
     let world = with_body(rt.alloc(), world)?;
-    let (world, _) = world.step(rt.alloc(), Event::Send(1))?;
-    let (world, _) = world.step(rt.alloc(), Event::Data(0))?;
-    let (world, body) = world.step(rt.alloc(), Event::Deliver)?;
-    assert!(rt; body.is_some());
-    let (world, _) = world.step(rt.alloc(), Event::SendAck)?;
-    let (world, _) = world.step(rt.alloc(), Event::Ack(0))?;
+    let (world, _) = stepped(rt.alloc(), world, Event::Send(1))?;
+    let (world, _) = stepped(rt.alloc(), world, Event::Data(0))?;
+    let (world, is_handed_over) = stepped(rt.alloc(), world, Event::Deliver)?;
+    assert!(rt; is_handed_over);
+    let (world, _) = stepped(rt.alloc(), world, Event::SendAck)?;
+    let (world, _) = stepped(rt.alloc(), world, Event::Ack(0))?;
     let all = Counts {
         submitted: 1,
         delivered: 1,

@@ -103,6 +103,35 @@ fn echoed_by_two(
     Ok((outcome, sink))
 }
 
+// Whether two threads that read so many bytes at a time write what one does.
+fn is_alike(
+    rt: &(impl Threads + Wait + Sync),
+    alloc: Global,
+    quotas: &Two,
+    most: usize,
+    outcome: Outcome,
+    alone: &MemorySink,
+) -> Result<bool, Fail>
+    requires { 1 ≤ most }
+{
+    let (beside, sink) = echoed_by_two(rt, alloc, quotas, most, &[])?;
+    Ok(beside == outcome && sink.bytes() == alone.bytes())
+}
+
+// Whether they write first bytes of that where this put fails, and read the session to its end.
+fn is_cut(
+    rt: &(impl Threads + Wait + Sync),
+    alloc: Global,
+    quotas: &Two,
+    failed: u64,
+    alone: &MemorySink,
+) -> Result<bool, Fail> {
+    let (beside, sink) = echoed_by_two(rt, alloc, quotas, 65_536, &[failed])?;
+    let is_read = beside.messages == 1 && beside.inbound == Inbound::Ended;
+    let is_front = alone.bytes().starts_with(sink.bytes()) && sink.bytes().starts_with(b"\x0B");
+    Ok(is_read && beside.outbound == Outbound::WriteFault && is_front)
+}
+
 // Two threads write what one does, also where they read a byte at a time; where a write fails, first
 // bytes of that, and the session is read to its end all the same.
 pub fn two_threads_write_what_one_does(
@@ -112,15 +141,10 @@ pub fn two_threads_write_what_one_does(
     let quotas = with_payload(8_192)?;
     let (outcome, alone) = echoed(alloc, &quotas)?;
     for most in [1, 65_536] {
-        let (beside, sink) = echoed_by_two(rt, alloc, &quotas, most, &[])?;
-        assert_eq!(rt; beside, outcome);
-        assert_eq!(rt; sink.bytes(), alone.bytes());
+        assert!(rt; is_alike(rt, alloc, &quotas, most, outcome, &alone)?);
     }
     for failed in [0, 1] {
-        let (beside, sink) = echoed_by_two(rt, alloc, &quotas, 65_536, &[failed])?;
-        assert_eq!(rt; beside.outbound, Outbound::WriteFault);
-        assert_eq!(rt; (beside.messages, beside.inbound), (1, Inbound::Ended));
-        assert!(rt; alone.bytes().starts_with(sink.bytes()) && sink.bytes().starts_with(b"\x0B"));
+        assert!(rt; is_cut(rt, alloc, &quotas, failed, &alone)?);
     }
     Ok(())
 }
